@@ -1,0 +1,11 @@
+pub mod Root
+pub mod Parts
+pub mod Order
+pub mod Within
+pub mod Table
+pub mod Product
+pub mod Tail
+pub mod Sizes
+pub mod Exponential
+pub mod Entries
+pub mod PowerBound

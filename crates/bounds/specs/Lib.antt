@@ -1,0 +1,5 @@
+pub mod Fraction
+pub mod Series
+pub mod Enclosure
+pub mod Exponential
+pub mod Power

@@ -1,0 +1,4 @@
+// Bounds of the exponential and of the root: the lower crate of document 01.
+pub mod exp;
+pub mod fixed;
+pub mod power;

@@ -1,0 +1,51 @@
+// T^2.5, from the square root of a whole number.
+use crate::fixed::mul_shift;
+ghost use mathlib.Core.Path.{_≡_};
+ghost use Prim.Native.Nat.{_*_, _^_, _<_, _≤_};
+ghost use Rattle.bounds.specs.Enclosure.{WithinAll};
+ghost use Rattle.bounds.specs.Series.{root, power2·5};
+ghost use Rattle.bounds.specs.Power.{degrees, halfPower, power, powerError, degreesLimit};
+
+// 0 °C, as a temperature is held
+const FREEZING: u64 = 300000000000;
+
+// 2^24: the result is in units of 2^-24, and a root is taken of 2^24 times a number
+const SCALE: u64 = 16777216;
+
+// 2^116 / 10^25, cut: from units of 10^-25 to units of 2^-24
+const FACTOR: u64 = 8307674973;
+
+// The largest whole number whose square is at most x, by halving the gap between a number whose square is at most x
+// and one whose square is above.
+pub fn square_root(x: u64) -> u64
+    ensures { λ r. ⌜ (r ≡ root x) × (r < 2 ^ 32) ⌝ }
+{
+    let mut low: u64 = 0;
+    let mut high: u64 = 4294967296;
+    while low + 1 < high {
+        let middle = (low + high) / 2;
+        if middle * middle <= x {
+            low = middle;
+        } else {
+            high = middle;
+        }
+    }
+    low
+}
+
+// n^2.5 / 2^68, for a temperature n from 0 to 65 °C in units of 10^-10 °C
+fn half_power(n: u64) -> u64
+    requires { ⌜ n ≤ 65 * 10 ^ 10 ⌝ }
+    ensures { λ r. ⌜ (r ≡ halfPower n) × (r < 2 ^ 31) ⌝ }
+{
+    mul_shift(mul_shift(n, n), square_root(n * SCALE))
+}
+
+// T^2.5 in units of 2^-24, for a temperature T up to 65 °C that is held as (T + 30 °C) * 10^10; 0 below 0 °C
+pub fn power(held: u64) -> u64
+    requires { ⌜ held ≤ degreesLimit ⌝ }
+    ensures { λ r. ⌜ (r ≡ power held) × (r < 2 ^ 40) × WithinAll (2 ^ 24) r powerError (λ n. power2·5 n (degrees held)) ⌝ }
+{
+    let n = if held < FREEZING { 0 } else { held - FREEZING };
+    half_power(n) * FACTOR / SCALE
+}

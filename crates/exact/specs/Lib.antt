@@ -1,0 +1,7 @@
+pub mod Classes
+pub mod Day
+pub mod Vapour
+pub mod Permeation
+pub mod Canister
+pub mod Factors
+pub mod Masses

@@ -1,0 +1,52 @@
+-- The limits of a sheet, version 1, each named once for the definitions; src/limits.rt names them for the code.
+-- Definitions only.
+use Prim.Native.Nat.{ℕ}
+
+-- "u8 seasons S, 1 to 12; u8 rows R, 1 to 32"
+abbrev pub seasonsLimit : ℕ
+seasonsLimit = 12
+
+abbrev pub rowsLimit : ℕ
+rowsLimit = 32
+
+-- "Each list sums to 1 to 1,000."
+abbrev pub countsLimit : ℕ
+countsLimit = 1000
+
+-- "u16 days, 1 to 366, all seasons together at most 366"
+abbrev pub daysLimit : ℕ
+daysLimit = 366
+
+-- "each −300 to 500", in tenths of °C: how far below and above 0
+abbrev pub coldLimit : ℕ
+coldLimit = 300
+
+abbrev pub warmLimit : ℕ
+warmLimit = 500
+
+-- "vp in tenths of kPa, 300 to 1100"
+abbrev pub vpLeast : ℕ
+vpLeast = 300
+
+abbrev pub vpLimit : ℕ
+vpLimit = 1100
+
+-- "in percent, 0 to 100"
+abbrev pub percentLimit : ℕ
+percentLimit = 100
+
+-- "tank in tenths of a litre, .. at most 1500"
+abbrev pub tankLimit : ℕ
+tankLimit = 1500
+
+-- "vehicles, at most 10,000,000"
+abbrev pub vehiclesLimit : ℕ
+vehiclesLimit = 10000000
+
+-- "trips a day in hundredths, at most 2000"
+abbrev pub tripsLimit : ℕ
+tripsLimit = 2000
+
+-- "minutes per trip, at most 1440"
+abbrev pub minutesLimit : ℕ
+minutesLimit = 1440

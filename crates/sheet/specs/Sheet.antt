@@ -1,0 +1,134 @@
+-- "Where a sheet stops": the table of document 01, numbers 1 to 21. Definitions only.
+use mathlib.Core.Bool.{Bool, true, false, not, _&&_, _||_}
+use mathlib.Core.List.{List, [], _∷_}
+use Prim.Native.Nat.{ℕ, suc, zero, _+_, _*_}
+use lib.Dec.{leb, ltb, eqb}
+use lib.ListN.{length}
+use Rattle.bounds.specs.Fraction.{Fraction, _+ᶠ_, negᶠ, _*ᶠ_, whole, _/10^_, _≤?_}
+use Rattle.exact.specs.declared.Canister.{Canister}
+use Rattle.exact.specs.declared.Canister.the-variants.{None, Small, Medium, Large}
+use Rattle.exact.specs.declared.Equipment.{Equipment}
+use Rattle.exact.specs.declared.Equipment.the-variants.{Absent, Fitted}
+use Rattle.exact.specs.declared.Season.{Season}
+use Rattle.exact.specs.declared.Row.{Row}
+use Rattle.exact.specs.Day.{signedTenths}
+use Rattle.exact.specs.Canister.{a, b}
+use Rattle.exact.specs.Factors.{total}
+use Rattle.sheet.specs.declared.Check.{Check}
+use Rattle.sheet.specs.declared.Check.the-variants.{Pass, Refused}
+use Rattle.sheet.specs.Limits.{seasonsLimit, rowsLimit, countsLimit, daysLimit, coldLimit, warmLimit, vpLeast, vpLimit, percentLimit, tankLimit, vehiclesLimit, tripsLimit, minutesLimit}
+use Rattle.sheet.specs.Bytes.{u8At, u16At, versionOf, seasonsOf, rowsOf, durationCounts, hourCounts, seasonPlace, rowPlace, seasonAt, rowAt, equipmentAt}
+use Rattle.sheet.specs.Check.{refuse, _then_, each}
+
+-- a number outside least to most
+unfoldable pub outside : ℕ → ℕ → ℕ → Bool
+outside least most x = ltb x least || ltb most x
+
+-- "letters EVP (hexadecimal 45 56 50)"
+unfoldable pub lettersMissing : List ℕ → Bool
+lettersMissing s = not (eqb (u8At s 0) 0x45 && eqb (u8At s 1) 0x56 && eqb (u8At s 2) 0x50)
+
+-- Head | 1 under 8 bytes; 2 mark; 3 version; 4 S; 5 R; 6 byte 7 | 0; 0; 3; 5; 6; 7
+unfoldable pub headCheck : List ℕ → Check
+headCheck s =
+    refuse (ltb (length s) 8) 1 0 then
+    refuse (lettersMissing s) 2 0 then
+    refuse (not (eqb (versionOf s) 1)) 3 3 then
+    refuse (outside 1 seasonsLimit (seasonsOf s)) 4 5 then
+    refuse (outside 1 rowsLimit (rowsOf s)) 5 6 then
+    refuse (not (eqb (u8At s 7) 0)) 6 7
+
+-- Length | 7 not 104 + 8S + 24R | 0
+unfoldable pub lengthCheck : List ℕ → Check
+lengthCheck s = refuse (not (eqb (length s) (104 + 8 * seasonsOf s + 24 * rowsOf s))) 7 0
+
+-- Parking | 8 duration sum; 9 hour sum | 8; 56
+unfoldable pub parkingCheck : List ℕ → Check
+parkingCheck s =
+    refuse (outside 1 countsLimit (total (durationCounts s))) 8 8 then
+    refuse (outside 1 countsLimit (total (hourCounts s))) 9 56
+
+-- the days of the first i seasons
+unfoldable pub daysBefore : List ℕ → ℕ → ℕ
+daysBefore s zero = 0
+daysBefore s (suc i) = daysBefore s i + (seasonAt s i) .days
+
+-- "each −300 to 500, lowest not above highest", in tenths of °C
+unfoldable pub temperaturesWrong : Season → Bool
+temperaturesWrong season =
+    let lowest = signedTenths (season .lowest) in
+    let highest = signedTenths (season .highest) in
+    not ((negᶠ (coldLimit /10^ 1) ≤? lowest) && (lowest ≤? highest) && (highest ≤? warmLimit /10^ 1))
+
+-- Each season | 10 days or their running sum; 11 temperatures; 12 vp | record start
+unfoldable pub seasonCheck : List ℕ → ℕ → Check
+seasonCheck s i =
+    let season = seasonAt s i in
+    let place = seasonPlace s i in
+    refuse (outside 1 daysLimit (season .days) || ltb daysLimit (daysBefore s i + season .days)) 10 place then
+    refuse (temperaturesWrong season) 11 place then
+    refuse (outside vpLeast vpLimit (season .vp)) 12 place
+
+-- "class and technology not in the table"
+unfoldable pub isAbsent : Equipment → Bool
+isAbsent Absent = true
+isAbsent (Fitted c tank) = false
+
+-- "canister (0 none, 1 small, 2 medium, 3 large, 255 by class)"
+unfoldable pub codeWrong : ℕ → Bool
+codeWrong code = ltb 3 code && not (eqb code 255)
+
+unfoldable pub percentWrong : Row → Bool
+percentWrong row = ltb percentLimit (row .carburettor) || ltb percentLimit (row .hot) || ltb percentLimit (row .fill)
+
+-- "load above m_sat, or a load or m_sat with no canister"; "Loads equal to m_sat pass."
+unfoldable pub loadWrong : Canister → ℕ → ℕ → Bool
+loadWrong None load saturation = ltb 0 load || ltb 0 saturation
+loadWrong Small load saturation = ltb saturation load
+loadWrong Medium load saturation = ltb saturation load
+loadWrong Large load saturation = ltb saturation load
+
+-- "at its highest temperature, a + b·s·m_sat above 3", for a canister of size s; m_sat in tenths of a gram
+unfoldable pub above3 : Season → Fraction → ℕ → Bool
+above3 season s saturation =
+    let vp = season .vp /10^ 1 in
+    let T = signedTenths (season .highest) in
+    not (a vp T +ᶠ b vp T *ᶠ s *ᶠ saturation /10^ 1 ≤? whole 3)
+
+-- "s = 2, 1, 0.5 for small, medium, large"; "Rule 20 applies to rows with a canister only."
+unfoldable pub saturationWrong : Canister → ℕ → Season → Bool
+saturationWrong None saturation season = false
+saturationWrong Small saturation season = above3 season (whole 2) saturation
+saturationWrong Medium saturation season = above3 season (whole 1) saturation
+saturationWrong Large saturation season = above3 season (5 /10^ 1) saturation
+
+-- "in some season" of the first n
+unfoldable pub someSeason : (Season → Bool) → List ℕ → ℕ → Bool
+someSeason wrong s zero = false
+someSeason wrong s (suc n) = someSeason wrong s n || wrong (seasonAt s n)
+
+-- Each row | 13 class and technology not in the table; 14 canister code; 15 a percent; 16 vehicles; 17 tank; 18 trips or
+-- minutes; 19 load above m_sat, or a load or m_sat with no canister; 20 in some season, at its highest temperature,
+-- a + b·s·m_sat above 3; 21 bytes 20 to 23 | record start
+unfoldable pub rowCheck : List ℕ → ℕ → Check
+rowCheck s i =
+    let row = rowAt s i in
+    let place = rowPlace s i in
+    refuse (isAbsent (equipmentAt s place)) 13 place then
+    refuse (codeWrong (u8At s (place + 2))) 14 place then
+    refuse (percentWrong row) 15 place then
+    refuse (ltb vehiclesLimit (row .vehicles)) 16 place then
+    refuse (ltb tankLimit (u16At s (place + 6))) 17 place then
+    refuse (ltb tripsLimit (row .trips) || ltb minutesLimit (row .minutes)) 18 place then
+    refuse (loadWrong (row .canister) (row .load) (row .saturation)) 19 place then
+    refuse (someSeason (saturationWrong (row .canister) (row .saturation)) s (seasonsOf s)) 20 place then
+    refuse (not (eqb (row .reserved) 0)) 21 place
+
+-- "records one after another", in table and file order
+unfoldable pub sheetCheck : List ℕ → Check
+sheetCheck s =
+    headCheck s then
+    lengthCheck s then
+    parkingCheck s then
+    each (seasonCheck s) (seasonsOf s) then
+    each (rowCheck s) (rowsOf s)

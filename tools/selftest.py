@@ -1,0 +1,562 @@
+#!/usr/bin/env python3
+"""Checks tools/evaporation.py, tools/sheet.py and the samples.
+
+  python3 tools/selftest.py
+
+Prints one line for each thing checked; the first failure ends the run with a
+message and exit status 1.
+"""
+
+import math
+import os
+import random
+import sys
+import time
+from fractions import Fraction
+
+sys.dont_write_bytecode = True
+HERE = os.path.dirname(os.path.abspath(__file__))
+sys.path.insert(0, HERE)
+
+import evaporation as ev  # noqa: E402
+import sheet as writer  # noqa: E402
+
+SAMPLES = os.path.join(os.path.dirname(HERE), "samples")
+NAMES = ("example", "table-3-5", "table-3-5-day", "region")
+MICROGRAM = Fraction(1, 10 ** 6)
+
+
+class Failure(Exception):
+    pass
+
+
+def want(condition, message, *parts):
+    if not condition:
+        raise Failure(message % parts if parts else message)
+
+
+def same(found, expected, what):
+    want(found == expected, "%s: %r found, %r expected", what, found, expected)
+
+
+def sample(name, ending):
+    with open(os.path.join(SAMPLES, name + ending), "rb") as file:
+        return file.read()
+
+
+def sheet_of(text):
+    return ev.read(writer.write(text))
+
+
+# ------------------------------------------------------------------- checks
+
+
+def check_samples():
+    for name in NAMES:
+        text = sample(name, ".txt").decode("utf-8")
+        data = sample(name, ".evp")
+        same(writer.write(text), data, "bytes of sample " + name)
+        same(writer.write(writer.read(data)), data, "sample %s read back" % name)
+        same(ev.check(data), None, "check of sample " + name)
+    return "%d samples: bytes as the writer makes them, read back the same, accepted" % len(NAMES)
+
+
+def check_writer():
+    faults = (
+        ("durations 1\n\nhoors 1", "line 3: "),
+        ("durations 1 2", "line 1: durations: 24 counts wanted, 2 found"),
+        ("hours" + " 1" * 25, "line 1: hours: 24 counts wanted, 25 found"),
+        ("# a\nseason days=1 lowest=20.05 highest=3 vp=60", "line 2: lowest: 20.05"),
+        ("season days=1 lowest=-4000 highest=3 vp=60", "line 1: lowest: -4000 does not fit"),
+        ("season days=1 lowest=1 highest=3", "line 1: season: vp is missing"),
+        ("row class=256 technology=0", "line 1: class: 256 does not fit"),
+        ("row class=1 technology=0 fill=x", "line 1: fill: 'x' is no number"),
+        ("row class=1 technology=0 fill=1 fill=2", "line 1: fill is given twice"),
+        ("row class=1 technology=0 fuel=1", "line 1: 'fuel': no such field"),
+        ("row technology=0", "line 1: row: class is missing"),
+        ("letters 4556", "line 1: letters: 3 bytes wanted"),
+    )
+    for text, expected in faults:
+        try:
+            writer.write(text)
+        except writer.TextError as error:
+            want(str(error).startswith(expected), "writer: %r found, %r expected",
+                 str(error), expected)
+        else:
+            raise Failure("writer: %r was taken" % text)
+    return "%d texts that cannot be read: each named with its line" % len(faults)
+
+
+def check_table_3_5():
+    table = (
+        (3.90, 2.35, 1.74, 1.24),
+        (0.10, 0.07, 0.04, 0.04),
+        (8.48, 5.09, 3.75, 2.63),
+        (11.93, 7.16, 5.27, 3.69),
+        (0.13, 0.08, 0.06, 0.04),
+        (1.84, 1.11, 0.81, 0.53),
+        (10.05, 6.03, 4.44, 3.11),
+    )
+    sheet = ev.read(sample("table-3-5", ".evp"))
+    farthest = 0
+    for season in range(4):
+        found = ev.factors(sheet, season, 0)
+        for k in range(1, 8):
+            distance = abs(float(found[k - 1]) - table[k - 1][season])
+            farthest = max(farthest, distance)
+            want(distance <= 0.05, "Table 3-5: season %d factor %d is %.4f, the table has %.2f",
+                 season, k, float(found[k - 1]), table[k - 1][season])
+    # The one-day sample: each mass in milligrams is a factor in micrograms.
+    day = ev.read(sample("table-3-5-day", ".evp"))
+    f = ev.factors(sheet, 0, 0)
+    for row, ks in enumerate(((1, 2, 5), (1, 3, 6), (1, 4, 7))):
+        same(tuple(1000 * m for m in ev.masses(day, row)),
+             tuple(f[k - 1] / MICROGRAM for k in ks), "masses of table-3-5-day row %d" % row)
+    return "Table 3-5, 50 l without canister, 28 values: farthest off %.3f g" % farthest
+
+
+def spread():
+    """Rows and seasons drawn over the whole width of an accepted sheet."""
+    draw = random.Random(35)
+    found = []
+    while len(found) < 24:
+        low, high = sorted(draw.randint(-300, 500) for _ in range(2))
+        vp = draw.randint(300, 1100)
+        vehicle_class, _, _, canisters = draw.choice(ev.CLASS_TABLE)
+        canister = draw.choice((0, 1, 2, 3, 255))
+        technology = draw.randrange(len(canisters))
+        code = canisters[technology] if canister == 255 else canister
+        saturation = load = 0
+        if code:
+            a, b = ev.canister_a_b(ev.Season(1, low, high, vp), Fraction(high, 10))
+            limit = math.floor(10 * (3 - a) / (b * ev.CANISTER_S[code]))
+            saturation = draw.randint(limit // 2, limit)
+            load = draw.choice((0, saturation, draw.randint(0, saturation)))
+        durations = [draw.choice((0, draw.randint(0, 40))) for _ in range(23)] + [1]
+        hours = [draw.choice((0, draw.randint(0, 40))) for _ in range(23)] + [1]
+        text = "durations %s\nhours %s\nseason days=1 lowest=%s highest=%s vp=%s\n" % (
+            " ".join(map(str, durations)), " ".join(map(str, hours)),
+            low / 10, high / 10, vp / 10)
+        text += ("row class=%d technology=%d canister=%d carburettor=50 hot=50 fill=%d tank=%s "
+                 "vehicles=1 trips=1 minutes=%d load=%s saturation=%s\n" % (
+                     vehicle_class, technology, canister, draw.randint(0, 100),
+                     draw.choice(("class", draw.randint(1, 1500) / 10)),
+                     draw.randint(0, 1440), load / 10, saturation / 10))
+        found.append(sheet_of(text))
+    return found
+
+
+def lowest_exponent(sheet, season, row):
+    """The lowest exponent a canister of this row meets, or None."""
+    record = sheet.rows[row]
+    code = ev.canister_of(record)
+    if code == ev.NONE:
+        return None
+    place = sheet.seasons[season]
+    a, b = ev.canister_a_b(place, min(ev.temperature(place, i) for i in range(48)))
+    return a + b * ev.CANISTER_S[code] * Fraction(record.load, 10)
+
+
+def check_n():
+    """n = 40 against n = 60."""
+    farthest = Fraction(0)
+    farthest_cold = Fraction(0)
+    count = cold = 0
+    sheets = [ev.read(sample(name, ".evp")) for name in NAMES] + spread()
+    for sheet in sheets:
+        for season in range(len(sheet.seasons)):
+            # All rows of the samples would only repeat themselves.
+            for row in range(0, len(sheet.rows), 3 if len(sheet.rows) > 3 else 1):
+                lowest = lowest_exponent(sheet, season, row)
+                for k in range(1, 8):
+                    apart = abs(ev.factor(sheet, season, row, k, 40)
+                                - ev.factor(sheet, season, row, k, 60)) / MICROGRAM
+                    want(apart <= Fraction(1, 10 ** 6),
+                         "n = 40 and n = 60 are %.3g micrograms apart in factor %d", float(apart), k)
+                    if lowest is not None and lowest < -13:
+                        cold += 1
+                        farthest_cold = max(farthest_cold, apart)
+                    else:
+                        count += 1
+                        farthest = max(farthest, apart)
+    return "n = 40 and 60, %d factors: at most %.1e micrograms apart; %d more with a canister " \
+        "exponent below -13: at most %.1e" % (count, float(farthest), cold, float(farthest_cold))
+
+
+COLD = """
+durations 0 0 0 0 0 0 0 1 0 0 0 0 0 0 0 0 0 0 0 0 0 0 0 0
+hours 0 0 0 0 0 0 0 0 0 0 0 1 0 0 0 0 0 0 0 0 0 0 0 0
+season days=1 lowest=%s highest=%s vp=%s
+row class=%d technology=%d canister=%s fill=%d tank=%s load=%s saturation=%s minutes=60
+"""
+
+
+def check_cold():
+    """Where the exponents are lowest the tail of the series is largest."""
+    rows = (
+        ("-30.0", "-30.0", "110.0", 1, 1, "small", 0, "150.0", "0.0", "60.0"),
+        ("-30.0", "-20.0", "110.0", 1, 1, "small", 0, "150.0", "0.0", "60.0"),
+        ("-30.0", "-10.0", "110.0", 3, 4, "large", 0, "150.0", "1.0", "250.0"),
+        ("-25.0", "-15.0", "100.0", 9, 1, "small", 35, "20.0", "0.5", "50.0"),
+        ("-20.0", "0.0", "90.0", 1, 3, "medium", 35, "50.0", "0.0", "120.0"),
+    )
+    parts = []
+    for row in rows:
+        sheet = sheet_of(COLD % row)
+        lowest = lowest_exponent(sheet, 0, 0)
+        apart = max(abs(x - y) for x, y in zip(ev.factors(sheet, 0, 0, 40), ev.factors(sheet, 0, 0, 60)))
+        want(apart < MICROGRAM / 10 ** 6, "n = 40 and 60 are %.3g g apart in the cold", float(apart))
+        parts.append("%.2f: %.1e" % (float(lowest), float(apart / MICROGRAM)))
+    y = Fraction(-146, 10)
+    apart = ev.E(y, 40) - ev.E(y, 60)
+    want(0 < apart < MICROGRAM, "E(-14.6) at n = 40 and 60")
+    return "n = 40 and 60, cold rows with a canister, lowest exponent: micrograms apart: %s; " \
+        "E(-14.6) itself: %.1e" % (", ".join(parts), float(apart / MICROGRAM))
+
+
+SMALL_CASES = (
+    # no canister, a warm day
+    "season days=3 lowest=20.0 highest=35.0 vp=60.0\n"
+    "row class=1 technology=0 carburettor=40 hot=30 fill=35 vehicles=7 trips=2.50 minutes=20",
+    # small canister, load below m_sat, frost
+    "season days=2 lowest=-5.0 highest=10.0 vp=90.0\n"
+    "row class=2 technology=1 carburettor=40 hot=30 fill=40 vehicles=7 trips=2.50 minutes=20 "
+    "load=20.0 saturation=60.0",
+    # vapour runs over m_sat
+    "season days=2 lowest=20.0 highest=35.0 vp=60.0\n"
+    "row class=3 technology=0 canister=small carburettor=40 hot=30 vehicles=7 trips=2.50 "
+    "minutes=20 load=52.0 saturation=53.0",
+    # saturated at the start
+    "season days=2 lowest=10.0 highest=25.0 vp=70.0\n"
+    "row class=4 technology=3 carburettor=40 hot=30 fill=10 vehicles=7 trips=2.50 minutes=20 "
+    "load=100.0 saturation=100.0",
+    # two-wheelers without and with canister, two seasons
+    "season days=2 lowest=-10.0 highest=-2.0 vp=100.0\nseason days=1 lowest=12.3 highest=12.3 vp=45.6\n"
+    "row class=7 technology=3 carburettor=40 hot=30 fill=50 vehicles=7 trips=2.50 minutes=20\n"
+    "row class=9 technology=0 carburettor=40 hot=30 fill=50 vehicles=7 trips=2.50 minutes=20 "
+    "load=30.0 saturation=61.0",
+)
+
+FEW_CELLS = (
+    "durations 1 0 0 0 0 2 0 0 0 0 0 0 0 0 0 0 0 0 0 0 0 0 0 1\n"
+    "hours 3 0 0 0 0 0 0 0 0 0 0 0 0 2 0 0 0 0 0 0 0 0 0 1\n"
+)
+
+
+def check_exact():
+    near = Fraction(1, 10 ** 80)
+    count = 0
+    farthest = Fraction(0)
+    for case in SMALL_CASES:
+        sheet = sheet_of(FEW_CELLS + case)
+        for n in (2, 3, 4, 5):
+            for row in range(len(sheet.rows)):
+                for season in range(len(sheet.seasons)):
+                    pairs = zip(ev.factors(sheet, season, row, n, "decimal"),
+                                ev.factors(sheet, season, row, n, "exact"))
+                    for x, y in pairs:
+                        farthest = max(farthest, abs(x - y))
+                        count += 1
+                for x, y in zip(ev.masses(sheet, row, n, "decimal"), ev.masses(sheet, row, n, "exact")):
+                    farthest = max(farthest, abs(x - y))
+                    count += 1
+                want(farthest < near, "decimal and exact are %.3g apart at n = %d", float(farthest), n)
+    # One cell at n = 40: still small enough for fractions, canister and all.
+    one = ("durations 1" + " 0" * 23 + "\nhours 0 0 0 0 0 0 0 1" + " 0" * 16 + "\n")
+    for case in SMALL_CASES[:3]:
+        sheet = sheet_of(one + case)
+        for x, y in zip(ev.factors(sheet, 0, 0, 40, "decimal"), ev.factors(sheet, 0, 0, 40, "exact")):
+            farthest = max(farthest, abs(x - y))
+            count += 1
+    want(farthest < near, "decimal and exact are %.3g apart at n = 40", float(farthest))
+    return "decimal and exact, n = 2 to 5 and one cell at n = 40, %d values: at most %.0e g apart" % (
+        count, float(farthest))
+
+
+def plain_factors(sheet, season, row):
+    """The seven factors in floating point, cell by cell, straight from the
+    formulas; nothing of ev but the sheet and the table is used."""
+    place, r = sheet.seasons[season], sheet.rows[row]
+    table = ev.table_entry(r.vehicle_class, r.technology)
+    tank = r.tank / 10 or table[0]
+    s = {0: None, 1: 2.0, 2: 1.0, 3: 0.5}[table[1] if r.canister == 255 else r.canister]
+    vp, low, high = place.vp / 10, place.lowest / 10, place.highest / 10
+    m1, m_sat = r.load / 10, r.saturation / 10
+
+    def at(hour):
+        return low + (high - low) * math.exp(-0.0247 * (hour % 24 - 14) ** 2)
+
+    def vapour(T, U):
+        return (1 - r.fill / 100) * tank * 0.025 * math.exp(0.0205 * vp) * (
+            math.exp(0.0716 * U) - math.exp(0.0716 * T))
+
+    def permeation(T):
+        return math.exp(0.004 * vp) * (6.1656e-6 * max(T, 0) ** 2.5 + 0.0206)
+
+    def escape(v, T):
+        if s is None:
+            return v
+        a = -11 - 0.015 * vp + 0.065 * T
+        b = 0.115 - 0.00015 * vp + 0.0001 * T
+        m2 = m1 + v
+        over = max(0.0, m2 - m_sat)
+        return math.exp(a + b * s * min(m2, m_sat)) + over - math.exp(a + b * s * m1)
+
+    two = r.vehicle_class > 4
+    sums = [0.0] * 7
+    for j in range(24):
+        for q in range(24):
+            weight = sheet.durations[j] * sheet.hours[q]
+            if not weight:
+                continue
+            length, end = (j + 1) / 2, q + 1
+            begin = end - length
+            steps = [begin + x / 2 for x in range(j + 1)]
+            v = sum(vapour(at(x), at(x + 0.5)) for x in steps if at(x + 0.5) > at(x))
+            T1, T2 = at(begin), at(end)
+            cell = [escape(v, T1) + sum(permeation(at(x)) for x in steps) / 2]
+            if two:
+                cell += [escape(vapour(T1, T1 + rise), T1) for rise in (1.5, 3.5, 3.5)]
+                cell += [escape(vapour(T2, T2 + rise), T2) for rise in (1, 2.5, 2.5)]
+            else:
+                soak = permeation(T1 + 11)
+                cell += [soak] + [soak + escape(vapour(T1, T1 + rise), T1) for rise in (4.5, 6)]
+                running = r.minutes / 60 * permeation(T2 + 15)
+                cell += [running] + [
+                    running + (vapour(T2, T2 + rise) if s is None else 0) for rise in (1, 5)]
+            for k in range(7):
+                sums[k] += weight * cell[k]
+    return [x / sum(sheet.durations) / sum(sheet.hours) for x in sums]
+
+
+def check_plain():
+    farthest = 0.0
+    count = 0
+    sheets = [ev.read(sample(name, ".evp")) for name in ("table-3-5-day", "region")] + spread()
+    for sheet in sheets:
+        season = len(sheet.seasons) // 2
+        for row in range(0, len(sheet.rows), 2):
+            plain = plain_factors(sheet, season, row)
+            for k, value in enumerate(ev.factors(sheet, season, row), 1):
+                # Weights rounded to billionths move a temperature by up to
+                # 4.10^-8 degrees, hence not nearer.
+                distance = abs(float(value) - plain[k - 1]) / max(1.0, plain[k - 1])
+                farthest = max(farthest, distance)
+                count += 1
+                want(distance < 1e-6, "plain floating point: factor %d is %r, not %r",
+                     k, float(value), plain[k - 1])
+    return "plain floating point, cell by cell, %d factors: at most %.0e apart" % (count, farthest)
+
+
+def check_masses():
+    """Masses of the region from plain factors, seasons, shares and trips."""
+    sheet = ev.read(sample("region", ".evp"))
+    rows = (0, 2, 5, 12, 17, 20)
+    for row in rows:
+        r = sheet.rows[row]
+        c, p, trips = r.carburettor / 100, r.hot / 100, r.trips / 100
+        plain = [0.0, 0.0, 0.0]
+        for season, place in enumerate(sheet.seasons):
+            f = plain_factors(sheet, season, row)
+            many = place.days * r.vehicles
+            plain[0] += many * f[0]
+            plain[1] += many * trips * (c * p * f[3] + c * (1 - p) * f[2] + (1 - c) * f[1])
+            plain[2] += many * trips * (c * p * f[6] + c * (1 - p) * f[5] + (1 - c) * f[4])
+        for found, expected in zip(ev.masses(sheet, row), plain):
+            want(abs(float(found) - expected) <= 1e-7 * expected,
+                 "mass of region row %d: %r, not %r", row, float(found), expected)
+    last = len(sheet.rows) - 1
+    same(ev.masses(sheet, last), (0, 0, 0), "masses of a row without vehicles")
+    return "masses of %d rows of the region against plain floating point; none without vehicles" % len(rows)
+
+
+BASE = """
+durations 1 0 0 0 0 0 0 0 0 0 0 0 0 0 0 0 0 0 0 0 0 0 0 2
+hours     1 0 0 0 0 0 0 0 0 0 0 0 0 0 0 0 0 0 0 0 0 0 0 2
+season days=200 lowest=-30.0 highest=50.0 vp=30.0
+season days=166 lowest=10.0 highest=10.0 vp=110.0
+row class=1 technology=0 vehicles=10000000 tank=150.0 trips=20.00 minutes=1440 fill=100 hot=100 carburettor=100
+row class=1 technology=1 load=40.0 saturation=40.0
+"""
+SEASON_0, SEASON_1, ROW_0, ROW_1 = 104, 112, 120, 144
+
+
+def patched(data, *changes):
+    data = bytearray(data)
+    for at, value, size in changes:
+        data[at:at + size] = value.to_bytes(size, "little", signed=value < 0)
+    return bytes(data)
+
+
+def check_refusals():
+    base = writer.write(BASE)
+    same(ev.check(base), None, "check of the base sheet")
+
+    def p(*changes):
+        return patched(base, *changes)
+
+    cases = [
+        # (bytes, expected, words, call)
+        (b"", (1, 0)), (base[:7], (1, 0)), (b"XXX", (1, 0)),
+        (p((0, 0x65, 1)), (2, 0)), (p((2, 0, 1)), (2, 0)),
+        (p((3, 2, 2)), (3, 3)), (p((3, 257, 2)), (3, 3)), (p((3, 0, 2)), (3, 3)),
+        (p((5, 0, 1)), (4, 5)), (p((5, 13, 1)), (4, 5)),
+        (p((6, 0, 1)), (5, 6)), (p((6, 33, 1)), (5, 6)),
+        (p((7, 1, 1)), (6, 7)),
+        (base + b"\0", (7, 0)), (base[:-1], (7, 0)), (base[:8], (7, 0)), (p((5, 3, 1)), (7, 0)),
+        (p((8, 0, 2), (54, 0, 2)), (8, 8)), (p((8, 999, 2)), (8, 8)), (p((8, 998, 2)), None),
+        (p((56, 0, 2), (102, 0, 2)), (9, 56)), (p((56, 999, 2)), (9, 56)), (p((102, 65535, 2)), (9, 56)),
+        (p((SEASON_0, 0, 2)), (10, SEASON_0)), (p((SEASON_0, 367, 2)), (10, SEASON_0)),
+        (p((SEASON_1, 0, 2)), (10, SEASON_1)), (p((SEASON_1, 167, 2)), (10, SEASON_1)),
+        (p((SEASON_0, 366, 2)), (10, SEASON_1)),
+        (p((SEASON_0 + 2, -301, 2)), (11, SEASON_0)), (p((SEASON_0 + 4, 501, 2)), (11, SEASON_0)),
+        (p((SEASON_1 + 2, 101, 2)), (11, SEASON_1)), (p((SEASON_1 + 4, 99, 2)), (11, SEASON_1)),
+        (p((SEASON_0 + 6, 299, 2)), (12, SEASON_0)), (p((SEASON_1 + 6, 1101, 2)), (12, SEASON_1)),
+        (p((ROW_0, 0, 1)), (13, ROW_0)), (p((ROW_0, 10, 1)), (13, ROW_0)),
+        (p((ROW_1 + 1, 6, 1)), (13, ROW_1)), (p((ROW_1, 5, 1), (ROW_1 + 1, 4, 1)), (13, ROW_1)),
+        (p((ROW_1, 9, 1), (ROW_1 + 1, 3, 1), (ROW_1 + 2, 1, 1)), (13, ROW_1)),
+        (p((ROW_0 + 2, 4, 1)), (14, ROW_0)), (p((ROW_1 + 2, 254, 1)), (14, ROW_1)),
+        (p((ROW_0 + 3, 101, 1)), (15, ROW_0)), (p((ROW_0 + 4, 101, 1)), (15, ROW_0)),
+        (p((ROW_1 + 5, 255, 1)), (15, ROW_1)),
+        (p((ROW_0 + 8, 10_000_001, 4)), (16, ROW_0)),
+        (p((ROW_0 + 6, 1501, 2)), (17, ROW_0)),
+        (p((ROW_0 + 12, 2001, 2)), (18, ROW_0)), (p((ROW_0 + 14, 1441, 2)), (18, ROW_0)),
+        (p((ROW_1 + 16, 401, 2)), (19, ROW_1)),  # load above m_sat
+        (p((ROW_0 + 18, 1, 2)), (19, ROW_0)),  # m_sat, no canister by class
+        (p((ROW_0 + 16, 1, 2), (ROW_0 + 18, 1, 2)), (19, ROW_0)),
+        (p((ROW_1 + 2, 0, 1)), (19, ROW_1)),  # canister of the class taken out
+        (p((ROW_0 + 2, 3, 1), (ROW_0 + 18, 1, 2)), None),  # canister written in
+        (p((ROW_1 + 18, 600, 2)), (20, ROW_1)),
+        (p((ROW_0 + 20, 1, 1)), (21, ROW_0)), (p((ROW_1 + 23, 128, 1)), (21, ROW_1)),
+        (base, (22, 0), 37), (base, (22, 0), 0), (base, None, 38), (base, None, 1000),
+        (base, (23, 0), None, (2, 0, 1)), (base, (23, 0), None, (0, 2, 1)),
+        (base, (23, 0), None, (0, 0, 0)), (base, (23, 0), None, (0, 0, 8)),
+        (base, None, None, (1, 1, 7)),
+        # The first in table and file order stops the sheet.
+        (p((0, 0, 1), (3, 9, 2), (7, 9, 1)), (2, 0)),
+        (p((5, 0, 1), (6, 0, 1)), (4, 5)), (p((7, 1, 1)) + b"\0", (6, 7)),
+        (p((8, 999, 2), (56, 999, 2)), (8, 8)),
+        (p((SEASON_0 + 6, 0, 2), (SEASON_1, 0, 2)), (12, SEASON_0)),
+        (p((SEASON_0, 0, 2), (SEASON_0 + 2, 600, 2)), (10, SEASON_0)),
+        (p((SEASON_1 + 6, 0, 2), (ROW_0, 0, 1)), (12, SEASON_1)),
+        (p((ROW_0 + 20, 1, 4), (ROW_1, 0, 1)), (21, ROW_0)),
+        (p((ROW_0 + 2, 9, 1), (ROW_0 + 3, 200, 1)), (14, ROW_0)),
+        (p((ROW_0 + 6, 9999, 2), (ROW_0 + 8, 99999999, 4)), (16, ROW_0)),
+        (p((ROW_1 + 16, 900, 2), (ROW_1 + 18, 800, 2), (ROW_1 + 20, 1, 1)), (19, ROW_1)),
+        (p((ROW_1 + 18, 800, 2), (ROW_1 + 20, 1, 1)), (20, ROW_1)),
+        (p((ROW_1 + 20, 1, 1)), (21, ROW_1), 0), (p((ROW_1 + 20, 1, 1)), (21, ROW_1), None, (9, 9, 9)),
+    ]
+    # Rule 20 at the tenth of a gram where it turns, and at a season's highest
+    # temperature alone. At 30.0 C and 100.0 kPa, a = -10.55 and b = 0.103, so
+    # 3 is passed between 131.5 and 131.6 g of a medium canister.
+    rule = ("durations 1" + " 0" * 23 + "\nhours 1" + " 0" * 23 + "\n"
+            "season days=1 lowest=-30.0 highest=0.0 vp=100.0\n"
+            "season days=1 lowest=0.0 highest=30.0 vp=100.0\n"
+            "row class=1 technology=3 saturation=%s")
+    cases += [(writer.write(rule % "131.5"), None), (writer.write(rule % "131.6"), (20, 120))]
+    # Equal to 3 passes: at 0.0 C and 100.0 kPa, a = -12.5 and b = 0.1, so a
+    # medium canister of 155.0 g stands at 3 exactly.
+    equal = rule.replace("highest=30.0", "highest=0.0")
+    cases += [(writer.write(equal % "155.0"), None), (writer.write(equal % "155.1"), (20, 120))]
+
+    seen = set()
+    for index, (data, expected, *rest) in enumerate(cases):
+        words = rest[0] if rest else None
+        call = rest[1] if len(rest) > 1 else None
+        same(ev.check(data, words, call), expected, "refusal case %d, counted from 0" % index)
+        if expected:
+            seen.add(expected[0])
+    same(sorted(seen), list(range(1, 24)), "refusal numbers met")
+    return "%d sheets and calls, each number 1 to 23 with its place, order and edges" % len(cases)
+
+
+def check_class_table():
+    expected = {
+        (1, 0): (50, 0), (1, 1): (50, 1), (1, 2): (50, 1), (1, 3): (50, 2), (1, 5): (50, 2),
+        (2, 0): (60, 0), (2, 2): (60, 1), (2, 4): (60, 2),
+        (3, 0): (75, 0), (3, 1): (75, 2), (3, 2): (75, 2), (3, 3): (75, 3), (3, 5): (75, 3),
+        (4, 0): (60, 0), (4, 1): (60, 1), (4, 5): (60, 2), (4, 6): None,
+        (5, 0): (5, 0), (5, 3): (5, 0), (5, 4): None, (6, 3): (8, 0), (7, 2): (10, 0),
+        (8, 3): (18, 0), (8, 4): None, (9, 0): (20, 1), (9, 2): (20, 1), (9, 3): None,
+        (0, 0): None, (10, 0): None, (1, 6): None, (255, 255): None,
+    }
+    for pair, entry in expected.items():
+        same(ev.table_entry(*pair), entry, "class table at %s" % (pair,))
+    pairs = sum(ev.table_entry(c, t) is not None for c in range(256) for t in range(256))
+    same(pairs, 43, "pairs in the class table")
+    return "class table: %d spot checks, 43 pairs in all" % len(expected)
+
+
+def check_weights():
+    same(len(ev.WEIGHTS), 48, "weights")
+    half = Fraction(1, 2)
+    farthest = Fraction(0)
+    for n in (40, 60):
+        for i, weight in enumerate(ev.WEIGHTS):
+            apart = abs(weight - 10 ** 9 * ev.E(ev.weight_exponent(i), n))
+            farthest = max(farthest, apart)
+            want(apart < half, "weight %d is %.4f off at n = %d", i, float(apart), n)
+    for i in range(9, 48):
+        same(ev.WEIGHTS[i], ev.WEIGHTS[56 - i], "weights %d and %d, alike about 14 h" % (i, 56 - i))
+    return "48 weights within %.4f of 10^9 E_n, n = 40 and 60" % float(farthest)
+
+
+def check_p_examples():
+    F = Fraction
+    same(ev.series(1, 2), F(5, 2), "S_2(1)")
+    same(ev.series(1, 3), F(8, 3), "S_3(1)")
+    same(ev.E(-1, 2), F(2, 5), "E(-1), n = 2")
+    same(ev.E(0, 2), 1, "E(0)")
+    for T, root in ((4, 32), (9, 243), (-5, 0)):
+        same(ev.power_2_5(T, 40), root, "T^2.5 at %d" % T)
+    bracket = F("6.1656e-6") * ev.power_2_5(4, 40) + F("0.0206")
+    same(bracket, F("0.0207972992"), "bracket of eq. 14 at 4")
+    same(ev.canister_a_b(ev.Season(1, 0, 0, 600), 20), (F("-10.6"), F("0.108")), "a and b")
+    same(ev.WEIGHTS[28], 10 ** 9, "w(28)")
+    same(ev.start_mark(1, 24), 26, "start of 12 h that end at hour 1")
+    same(ev.start_mark(24, 1), 47, "start of half an hour that ends at hour 24")
+    sheet = sheet_of(COLD % ("20.0", "35.0", "60.0", 1, 1, "small", 35, "class", "50.0", "50.0"))
+    for mode in ("exact", "decimal"):
+        day = ev.day_of(sheet.seasons[0], 5, mode)
+        v = day.numbers.number(F(7, 4))
+        same(ev.Escape(day, sheet.rows[0], 3).of(v), v, "breakthrough from m_sat, " + mode)
+    # The same with n = 2 in decimal mode, and the cut of the root from both sides.
+    want(abs(ev.E(-1, 2, "decimal") - F(2, 5)) < F(1, 10 ** 100), "E(-1), n = 2, decimal")
+    for T in (F(1, 3), F(7), F(355, 10), F(2, 10 ** 9)):
+        root = ev.power_2_5(T, 40)
+        want(root ** 2 <= T ** 5 < (root + F(1, 2 ** 40)) ** 2, "root at %s", T)
+    same(ev.cut(F(2, 3)), "0." + "6" * 30, "2/3 cut")
+    same(ev.cut(F(-5, 2)), "-2.5" + "0" * 29, "-5/2 cut")
+    return "the examples marked P of document 01, roots enclosed, decimals cut"
+
+
+CHECKS = (
+    check_samples,
+    check_writer,
+    check_p_examples,
+    check_weights,
+    check_class_table,
+    check_refusals,
+    check_table_3_5,
+    check_exact,
+    check_plain,
+    check_masses,
+    check_n,
+    check_cold,
+)
+
+
+def main():
+    begin = time.monotonic()
+    for check in CHECKS:
+        try:
+            print("ok: %s" % check(), flush=True)
+        except Failure as failure:
+            print("FAILED in %s: %s" % (check.__name__, failure), flush=True)
+            return 1
+    print("all %d checks passed in %.0f s" % (len(CHECKS), time.monotonic() - begin))
+    return 0
+
+
+if __name__ == "__main__":
+    sys.exit(main())

@@ -1,0 +1,282 @@
+#!/usr/bin/env python3
+"""Makes a sheet (version 1 of document 01) from a readable text, and back.
+
+  python3 tools/sheet.py write TEXT [SHEET]   SHEET is TEXT's name with .evp
+                                              where none is given
+  python3 tools/sheet.py read SHEET           prints the text
+
+The writer puts down what the text says and refuses no value that its field
+can hold, so that faulty sheets can be made too. Exit status: 0 done, 2 for a
+text or sheet that cannot be read, with the line.
+
+The text, one record to a line, # starts a comment:
+
+  durations C C ...   24 counts for 0.5, 1, .. 12 h (may be spread over lines)
+  hours C C ...       24 counts for end hours 1 to 24 (likewise)
+  season days=92 lowest=20.0 highest=35.0 vp=60.0
+  row class=1 technology=0 canister=class carburettor=40 hot=30 fill=35
+      tank=class vehicles=1000 trips=2.50 minutes=20 load=30.0 saturation=60.0
+                      (all on one line)
+
+canister is none, small, medium, large, class (by class) or a number; tank is
+class or litres. Temperatures are in degrees C, vp in kPa, shares and fill
+level in percent, load and saturation (m_sat) in grams. A row's class and
+technology must be given; canister and tank left out are by class, any other
+field left out is 0.
+
+For faulty sheets only:
+
+  letters 455650      the three letters, in hexadecimal
+  version 2           the version
+  seasons 3           the count of seasons in the head, whatever follows
+  rows 0              the count of rows in the head, whatever follows
+  zero 1              byte 7
+  row ... spare=00000001   bytes 20 to 23 of a row, in hexadecimal
+  tail 0A0B           bytes added at the end, in hexadecimal
+  cut 7               only this many bytes are kept, counted from the start
+"""
+
+import os
+import sys
+from fractions import Fraction
+
+CANISTERS = {"none": 0, "small": 1, "medium": 2, "large": 3, "class": 255}
+
+# name in the text, bytes, signed, parts of one unit
+SEASON_FIELDS = (
+    ("days", 2, False, 1),
+    ("lowest", 2, True, 10),
+    ("highest", 2, True, 10),
+    ("vp", 2, False, 10),
+)
+ROW_FIELDS = (
+    ("class", 1, False, 1),
+    ("technology", 1, False, 1),
+    ("canister", 1, False, 1),
+    ("carburettor", 1, False, 1),
+    ("hot", 1, False, 1),
+    ("fill", 1, False, 1),
+    ("tank", 2, False, 10),
+    ("vehicles", 4, False, 1),
+    ("trips", 2, False, 100),
+    ("minutes", 2, False, 1),
+    ("load", 2, False, 10),
+    ("saturation", 2, False, 10),
+)
+
+
+class TextError(Exception):
+    """A text that cannot be read; the message names the line."""
+
+
+def _number(word, name, size, signed, parts):
+    """A decimal word as the bytes of its field."""
+    try:
+        if not set(word) <= set("+-.0123456789"):
+            raise ValueError
+        value = Fraction(word) * parts
+    except ValueError:
+        raise TextError("%s: %r is no number" % (name, word)) from None
+    if value.denominator != 1:
+        places = len(str(parts)) - 1
+        held = "%d decimal place%s" % (places, "" if places == 1 else "s") if places else "no fraction"
+        raise TextError("%s: %s, but the field holds %s" % (name, word, held))
+    try:
+        return int(value).to_bytes(size, "little", signed=signed)
+    except OverflowError:
+        bits = 8 * size
+        low, high = (-(1 << bits - 1), (1 << bits - 1) - 1) if signed else (0, (1 << bits) - 1)
+        raise TextError("%s: %s does not fit the field (%s to %s)" % (
+            name, word, _decimal(low, parts), _decimal(high, parts))) from None
+
+
+def _hexadecimal(word, name, size=None):
+    try:
+        found = bytes.fromhex(word)
+    except ValueError:
+        raise TextError("%s: %r is not hexadecimal" % (name, word)) from None
+    if size is not None and len(found) != size:
+        raise TextError("%s: %d bytes wanted, %d found" % (name, size, len(found)))
+    return found
+
+
+def _fields(words, wanted):
+    """The name=value words of a line, each name known and given once."""
+    found = {}
+    for word in words:
+        name, equals, value = word.partition("=")
+        if not equals:
+            raise TextError("%r: name=value wanted" % word)
+        if name not in wanted:
+            raise TextError("%r: no such field (%s)" % (name, ", ".join(wanted)))
+        if name in found:
+            raise TextError("%s is given twice" % name)
+        found[name] = value
+    return found
+
+
+def _season(words):
+    given = _fields(words, [field[0] for field in SEASON_FIELDS])
+    record = b""
+    for name, size, signed, parts in SEASON_FIELDS:
+        if name not in given:
+            raise TextError("season: %s is missing" % name)
+        record += _number(given[name], name, size, signed, parts)
+    return record
+
+
+def _row(words):
+    given = _fields(words, [field[0] for field in ROW_FIELDS] + ["spare"])
+    for name in ("class", "technology"):
+        if name not in given:
+            raise TextError("row: %s is missing" % name)
+    record = b""
+    for name, size, signed, parts in ROW_FIELDS:
+        word = given.get(name, "class" if name == "canister" else "0")
+        if name == "canister" and word in CANISTERS:
+            word = str(CANISTERS[word])
+        if name == "tank" and word == "class":
+            word = "0"
+        record += _number(word, name, size, signed, parts)
+    return record + _hexadecimal(given.get("spare", "00000000"), "spare", 4)
+
+
+def write(text):
+    """The bytes of the sheet that a text describes; TextError with the line
+    number where the text cannot be read."""
+    lists = {"durations": [], "hours": []}
+    list_ends = {"durations": 0, "hours": 0}
+    seasons, rows = [], []
+    single = {}  # lines that may stand once
+    number = 0
+    for number, line in enumerate(text.splitlines(), 1):
+        words = line.partition("#")[0].split()
+        if not words:
+            continue
+        name, rest = words[0], words[1:]
+        try:
+            if name in lists:
+                lists[name] += [_number(word, name, 2, False, 1) for word in rest]
+                list_ends[name] = number
+                if len(lists[name]) > 24:
+                    raise TextError("%s: 24 counts wanted, %d found" % (name, len(lists[name])))
+            elif name == "season":
+                seasons.append(_season(rest))
+            elif name == "row":
+                rows.append(_row(rest))
+            elif name in ("letters", "version", "seasons", "rows", "zero", "tail", "cut"):
+                if name in single:
+                    raise TextError("%s is given twice" % name)
+                if len(rest) != 1:
+                    raise TextError("%s: one value wanted" % name)
+                if name == "letters":
+                    single[name] = _hexadecimal(rest[0], name, 3)
+                elif name == "tail":
+                    single[name] = _hexadecimal(rest[0], name)
+                elif name == "cut":
+                    single[name] = int.from_bytes(_number(rest[0], name, 4, False, 1), "little")
+                else:
+                    size = 2 if name == "version" else 1
+                    single[name] = _number(rest[0], name, size, False, 1)
+            else:
+                raise TextError("%r: no such line" % name)
+        except TextError as error:
+            raise TextError("line %d: %s" % (number, error)) from None
+    for name, counts in lists.items():
+        if len(counts) != 24:
+            raise TextError("line %d: %s: 24 counts wanted, %d found" % (
+                list_ends[name] or number, name, len(counts)))
+    for name, records in (("seasons", seasons), ("rows", rows)):
+        if name not in single:
+            if len(records) > 255:
+                raise TextError("line %d: %d %s do not fit the head" % (number, len(records), name))
+            single[name] = bytes([len(records)])
+    data = (
+        single.get("letters", b"EVP")
+        + single.get("version", b"\x01\x00")
+        + single["seasons"] + single["rows"]
+        + single.get("zero", b"\x00")
+        + b"".join(lists["durations"]) + b"".join(lists["hours"])
+        + b"".join(seasons) + b"".join(rows)
+        + single.get("tail", b"")
+    )
+    return data[:single["cut"]] if "cut" in single else data
+
+
+def _decimal(value, parts):
+    if parts == 1:
+        return str(value)
+    places = len(str(parts)) - 1
+    sign, value = ("-", -value) if value < 0 else ("", value)
+    return "%s%d.%0*d" % (sign, value // parts, places, value % parts)
+
+
+def _record(data, at, fields):
+    found = []
+    for name, size, signed, parts in fields:
+        value = int.from_bytes(data[at:at + size], "little", signed=signed)
+        at += size
+        word = _decimal(value, parts)
+        if name == "canister":
+            word = {code: known for known, code in CANISTERS.items()}.get(value, word)
+        if name == "tank" and value == 0:
+            word = "class"
+        found.append("%s=%s" % (name, word))
+    return " ".join(found)
+
+
+def read(data):
+    """The text of a sheet's bytes; write() makes the same bytes of it."""
+    if len(data) < 8 or len(data) < 104 + 8 * data[5] + 24 * data[6]:
+        raise TextError("%d bytes, too few for the records its head tells of" % len(data))
+    lines = []
+    if data[0:3] != b"EVP":
+        lines.append("letters %s" % data[0:3].hex())
+    version = int.from_bytes(data[3:5], "little")
+    if version != 1:
+        lines.append("version %d" % version)
+    if data[7]:
+        lines.append("zero %d" % data[7])
+    for name, at in (("durations", 8), ("hours", 56)):
+        counts = [int.from_bytes(data[at + 2 * i:at + 2 * i + 2], "little") for i in range(24)]
+        lines.append("%s %s" % (name, " ".join(map(str, counts))))
+    at = 104
+    for _ in range(data[5]):
+        lines.append("season " + _record(data, at, SEASON_FIELDS))
+        at += 8
+    for _ in range(data[6]):
+        spare = data[at + 20:at + 24]
+        lines.append("row " + _record(data, at, ROW_FIELDS)
+                     + (" spare=%s" % spare.hex() if any(spare) else ""))
+        at += 24
+    if data[at:]:
+        lines.append("tail %s" % data[at:].hex())
+    return "\n".join(lines) + "\n"
+
+
+def main():
+    words = sys.argv[1:]
+    try:
+        if words[:1] == ["write"] and len(words) in (2, 3):
+            target = words[2] if len(words) == 3 else os.path.splitext(words[1])[0] + ".evp"
+            with open(words[1], encoding="utf-8") as file:
+                data = write(file.read())
+            with open(target, "wb") as file:
+                file.write(data)
+            return 0
+        if words[:1] == ["read"] and len(words) == 2:
+            with open(words[1], "rb") as file:
+                sys.stdout.write(read(file.read()))
+            return 0
+    except (OSError, UnicodeDecodeError) as error:
+        print("sheet: %s" % error, file=sys.stderr)
+        return 2
+    except TextError as error:
+        print("sheet: %s: %s" % (words[1], error), file=sys.stderr)
+        return 2
+    print("sheet: write TEXT [SHEET], or read SHEET", file=sys.stderr)
+    return 2
+
+
+if __name__ == "__main__":
+    sys.exit(main())
