@@ -38,13 +38,3 @@ middle-near m l = entry-near 4096 0 (2 ^ 40) (λ _. 8) middle tt m l (omega arit
 pub high-mono : {h k : ℕ} → h ≤ k → k < 322 → getD high h 0 ≤ getD high k 0
 unfolding high
 high-mono {h} {k} l g = ascending-at 0 high tt h k l g
-
--- and stays below 2⁴⁶
-pub high-size : (h : ℕ) → h < 322 → getD high h 0 < 2 ^ 46
-unfolding high
-high-size h l = let g : getD high h 0 ≤ getD high 321 0 = high-mono {h = h} {k = 321} (omega arith) (omega arith) in omega arith
-
--- middle stays below 2⁴⁰ + 2³⁷
-pub middle-size : (m : ℕ) → m < 256 → getD middle m 0 < 2 ^ 40 + 2 ^ 37
-unfolding middle
-middle-size m l = let g : getD middle m 0 ≤ getD middle 255 0 = ascending-at 0 middle tt m 255 (omega arith) (omega arith) in omega arith

@@ -1,10 +1,10 @@
 -- The laws of the truncated exponential over fractions: growth, products, the tail, one formula for both signs, and the tangent.
 use mathlib.Core.Bool.{Bool, true, false}
-use mathlib.Core.Path.{_≡_, ap, subst}
+use mathlib.Core.Path.{_≡_, refl, ap, subst}
 use Prim.Native.Nat.{ℕ, suc, zero, _+_, _*_, _-_, _^_, _≤_, _<_, max}
 use native.Mathlib.Decide.{decLe}
 use native.Mathlib.Omega.{arith}
-use native.Mathlib.Nat.{pow-zero, mul-pos, mul-le-mul-right, mul-le-mul-left, mul-le-mul, le-of-mul-le-mul-right, le-dest, le-of-lt, lt-of-not-le}
+use native.Mathlib.Nat.{pow-zero, mul-comm, mul-pos, mul-le-mul-right, mul-le-mul-left, mul-le-mul, le-of-mul-le-mul-right, le-dest, le-of-lt, lt-of-not-le}
 use lib.Dec.{T}
 use Rattle.bounds.specs.Fraction.{Fraction, _≤ᶠ_, _≈ᶠ_, _+ᶠ_, negᶠ, _*ᶠ_, whole, _/10^_, ten-pos, _over_, inverse, _times_}
 use Rattle.bounds.specs.Series.{S, E, term, factorial}
@@ -42,20 +42,26 @@ S-grows {x} {m} {n} h l =
 
 -- Two values of 0 or more over one denominator.
 
+-- x over a multiple of its denominator
+multiple-is : (x : Fraction) (k q : ℕ) (p : 0 < q) → q ≡ x .den * k → NonNegative x → x ≈ᶠ ratio ((x .up - x .down) * k) q p
+unfolding ratio
+multiple-is x k q p e h =
+    record { cross = rw e (simp sub-mul (omega (arith, mul-le-mul-right (k * x .den) (h .nonneg)))) }
+
 -- x over the denominators of x and y
 left-is : (x y : Fraction) → NonNegative x → x ≈ᶠ ratio ((x .up - x .down) * y .den) (x .den * y .den) (mul-pos (x .pos) (y .pos))
-unfolding ratio
-left-is x y h = record { cross = simp sub-mul (omega (arith, mul-le-mul-right (y .den * x .den) (h .nonneg))) }
+left-is x y h = multiple-is x (y .den) _ _ refl h
 
 -- y over the denominators of x and y
 right-is : (x y : Fraction) → NonNegative y → y ≈ᶠ ratio ((y .up - y .down) * x .den) (x .den * y .den) (mul-pos (x .pos) (y .pos))
-unfolding ratio
-right-is x y h = record { cross = simp sub-mul (omega (arith, mul-le-mul-right (y .den * x .den) (h .nonneg))) }
+right-is x y h = multiple-is y (x .den) _ _ (mul-comm (x .den) (y .den)) h
 
+-- p/q + r/q = (p + r)/q
 ratio-sum : (p r q : ℕ) (h : 0 < q) → ratio p q h +ᶠ ratio r q h ≈ᶠ ratio (p + r) q h
 unfolding ratio _+ᶠ_
 ratio-sum p r q h = omega arith
 
+-- p/q ≤ r/q gives p ≤ r
 ratio-≤-back : (p r q : ℕ) (h : 0 < q) → ratio p q h ≤ᶠ ratio r q h → p ≤ r
 unfolding ratio
 ratio-≤-back p r q h l = le-of-mul-le-mul-right {k = q} (omega (arith, l .cross)) h
@@ -65,11 +71,14 @@ module _ (x y : Fraction) (hx : NonNegative x) (hy : NonNegative y) where
   sum-is : x +ᶠ y ≈ᶠ ratio ((x .up - x .down) * y .den + (y .up - y .down) * x .den) (x .den * y .den) (mul-pos (x .pos) (y .pos))
   sum-is = ≈-trans (+-cong (left-is x y hx) (right-is x y hy)) (ratio-sum _ _ _ _)
 
+-- u·d ≤ a·b gives u/d ≤ (a/d)·(b/d)
 ratio-product-above : (u a b d : ℕ) (h : 0 < d) → d * u ≤ a * b → ratio u d h ≤ᶠ ratio a d h *ᶠ ratio b d h
 unfolding ratio _*ᶠ_
 ratio-product-above u a b d h l = omega (arith, mul-le-mul-right d l)
 
-ratio-product-below : (u a b c d e : ℕ) (h : 0 < c) (k : 0 < d) (l : 0 < e) → a * b * e ≤ c * d * u → ratio a c h *ᶠ ratio b d k ≤ᶠ ratio u e l
+-- a·b·e ≤ c·d·u gives (a/c)·(b/d) ≤ u/e
+ratio-product-below : (u a b c d e : ℕ) (h : 0 < c) (k : 0 < d) (l : 0 < e) → a * b * e ≤ c * d * u
+    → ratio a c h *ᶠ ratio b d k ≤ᶠ ratio u e l
 unfolding ratio _*ᶠ_
 ratio-product-below u a b c d e h k l le = omega (arith, le)
 
@@ -95,16 +104,20 @@ S-product-below x y n m hx hy =
 
 -- The tail.
 
+-- c·(p/q) ≤ d gives c·p ≤ d·q
 whole-ratio-≤ : (c d p q : ℕ) (h : 0 < q) → whole c *ᶠ ratio p q h ≤ᶠ whole d → c * p ≤ d * q
 unfolding ratio whole _*ᶠ_
 whole-ratio-≤ c d p q h l = omega (arith, l .cross)
 
-ratio-tail : (a b u d v t e : ℕ) (h : 0 < d) (k : 0 < e) → e * (b * u) ≤ d * (b * v + a * t) → whole b *ᶠ ratio u d h ≤ᶠ whole b *ᶠ ratio v e k +ᶠ whole a *ᶠ ratio t e k
+-- the tail law as one of fractions
+ratio-tail : (a b u d v t e : ℕ) (h : 0 < d) (k : 0 < e) → e * (b * u) ≤ d * (b * v + a * t)
+    → whole b *ᶠ ratio u d h ≤ᶠ whole b *ᶠ ratio v e k +ᶠ whole a *ᶠ ratio t e k
 unfolding ratio whole _*ᶠ_ _+ᶠ_
 ratio-tail a b u d v t e h k l = omega (arith, mul-le-mul-right e l)
 
 -- Sₙ(y) ≤ S_N(y) + (a/b)·t_N(y) for n ≥ N, 0 ≤ y and (a + b)·y ≤ a·(N + 1), times b
-pub S-tail : (a b N n : ℕ) (y : Fraction) → NonNegative y → (a + b) times y ≤ᶠ whole (a * suc N) → N ≤ n → b times S n y ≤ᶠ b times S N y +ᶠ a times term y N
+pub S-tail : (a b N n : ℕ) (y : Fraction) → NonNegative y → (a + b) times y ≤ᶠ whole (a * suc N) → N ≤ n
+    → b times S n y ≤ᶠ b times S N y +ᶠ a times term y N
 unfolding top
 S-tail a b N n y h l le =
     let e = nonNegative-is y h in
@@ -167,6 +180,7 @@ E-at n i j q h e = ≈-trans (E-cong n e) (E-is n (record { up = i; down = j; de
 pub E-positive : (n : ℕ) (y : Fraction) → Positive (E n y)
 E-positive n y = positive-cong (≈-sym (E-is n y)) (ratio-positive _ (num-pos (y .den) (y .up - y .down) n (y .pos)))
 
+-- a/a = 1
 ratio-one : (a : ℕ) (h : 0 < a) → ratio a a h ≈ᶠ whole 1
 unfolding ratio whole
 ratio-one a h = omega arith
@@ -189,6 +203,7 @@ E-mono {x} {y} n h =
     ≤-by (E-at n i j q p (omega arith)) (E-at n i' j' q p (omega arith))
     (ratio-≤ _ _ _ _ (mul-le-mul (num-mono q {p = i - j} {r = i' - j'} n (omega arith)) (num-mono q {p = j' - i'} {r = j - i} n (omega arith))))
 
+-- Eₙ(i/q) ≤ a/b from a comparison of natural numbers
 quotient-≤ : (n i q a b : ℕ) (h : 0 < q) (p : 0 < b) → b * num q i n ≤ a * num q 0 n → quotient n i 0 q h ≤ᶠ ratio a b p
 quotient-≤ n i q a b h p l =
     let e : i - 0 ≡ i = omega arith in
@@ -216,9 +231,11 @@ geometric : (c e n : ℕ) → c * num (c + e) e n ≤ (c + e) * den (c + e) n
 unfolding top num acc den
 geometric c e n = omega (arith, rw (pow-zero e) at (tail (c + e) e e c 0 n (omega arith) (omega arith)))
 
+-- the same over any denominator q = c + e
 num-geometric : (q e c n : ℕ) → c + e ≡ q → c * num q e n ≤ q * den q n
 num-geometric q e c n h = rw h at (geometric c e n)
 
+-- four bounds multiplied
 step-product : (q c u v u' v' D s t A B : ℕ) → q * c ≤ A * B → u * D ≤ u' * s → v * D ≤ v' * t → A * s ≤ q * D → B * t ≤ q * D
     → c * (u * v) * (q * (D * D)) ≤ q * (u' * v') * (q * (D * D))
 step-product q c u v u' v' D s t A B l a b g h =
@@ -232,15 +249,19 @@ step q e₁ e₂ c u v u' v' D s t q0 D0 h a b g k =
     le-of-mul-le-mul-right {k = q * (D * D)} (step-product q c u v u' v' D s t (c + e₂) (c + e₁) l a b g k)
     (mul-pos q0 (mul-pos D0 D0))
 
-step-num : (q i i' j j' e₁ e₂ c n : ℕ) → 0 < q → i + e₁ ≡ i' → j' + e₂ ≡ j → c + e₁ + e₂ ≡ q → c * (num q i' n * num q j n) ≤ q * (num q i n * num q j' n)
+-- for Sₙ at i/q, j/q and the two shifted by e₁/q and e₂/q
+step-num : (q i i' j j' e₁ e₂ c n : ℕ) → 0 < q → i + e₁ ≡ i' → j' + e₂ ≡ j → c + e₁ + e₂ ≡ q
+    → c * (num q i' n * num q j n) ≤ q * (num q i n * num q j' n)
 step-num q i i' j j' e₁ e₂ c n q0 a b t =
     step q e₁ e₂ c (num q i' n) (num q j n) (num q i n) (num q j' n) (den q n) (num q e₁ n) (num q e₂ n) q0 (den-pos q n q0) t
     (num-split q i e₁ i' n (omega arith)) (num-split q j' e₂ j n (omega arith))
     (num-geometric q e₁ (c + e₂) n (omega arith)) (num-geometric q e₂ (c + e₁) n (omega arith))
 
+-- c·w ≤ q·z with c = q − e
 close : (c e q w z : ℕ) → e + c ≡ q → c * w ≤ q * z → q * w ≤ q * z + e * w
 close c e q w z f h = omega (arith, ap (λ (k : ℕ). k * w) f)
 
+-- of a step e from i − j, e₁ is taken on the positive side and e₂ on the negative
 parts : (i j e c q e₁ e₂ : ℕ) → i - j + e₁ ≡ i + e - j → j - (i + e) + e₂ ≡ j - i → e + c ≡ q → c + e₁ + e₂ ≡ q
 parts i j e c q e₁ e₂ a b f = omega arith
 
@@ -260,12 +281,15 @@ tangent-num q i j e n q0 =
           (step-num q (i - j) (i + e - j) (j - i) (j - (i + e)) e₁ e₂ c n q0 g k (parts i j e c q e₁ e₂ g k f))
     ]
 
-ratio-tangent : (q e a b c d : ℕ) (q0 : 0 < q) (b0 : 0 < b) (d0 : 0 < d) → q * (a * d) ≤ q * (c * b) + e * (a * d) → ratio a b b0 ≤ᶠ ratio c d d0 +ᶠ ratio e q q0 *ᶠ ratio a b b0
+-- the tangent as a law of fractions
+ratio-tangent : (q e a b c d : ℕ) (q0 : 0 < q) (b0 : 0 < b) (d0 : 0 < d) → q * (a * d) ≤ q * (c * b) + e * (a * d)
+    → ratio a b b0 ≤ᶠ ratio c d d0 +ᶠ ratio e q q0 *ᶠ ratio a b b0
 unfolding ratio _+ᶠ_ _*ᶠ_
 ratio-tangent q e a b c d q0 b0 d0 h = omega (arith, mul-le-mul-right b h)
 
 -- z + d/(z.den·b)
-add-ratio : (z : Fraction) (b d : ℕ) (p : 0 < z .den * b) → z +ᶠ ratio d (z .den * b) p ≈ᶠ record { up = z .up * b + d; down = z .down * b; den = z .den * b; pos = p }
+add-ratio : (z : Fraction) (b d : ℕ) (p : 0 < z .den * b)
+    → z +ᶠ ratio d (z .den * b) p ≈ᶠ record { up = z .up * b + d; down = z .down * b; den = z .den * b; pos = p }
 unfolding _+ᶠ_ ratio
 add-ratio z b d p = omega arith
 

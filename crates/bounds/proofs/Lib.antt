@@ -9,3 +9,6 @@ pub mod Sizes
 pub mod Exponential
 pub mod Entries
 pub mod PowerBound
+pub mod Composition
+pub mod ExponentialBound
+pub mod Lists

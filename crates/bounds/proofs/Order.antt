@@ -336,6 +336,7 @@ pub *-mono-right : {x y y' : Fraction} → NonNegative x → y ≤ᶠ y' → x *
 pub *-mono : {x x' y y' : Fraction} → NonNegative x' → NonNegative y → x ≤ᶠ x' → y ≤ᶠ y' → x *ᶠ y ≤ᶠ x' *ᶠ y'
 *-mono m n h k = ≤-trans (*-mono-left n h) (*-mono-right m k)
 
+-- equal first factors have equal products
 *-cong-left : {x x' : Fraction} (y : Fraction) → x ≈ᶠ x' → x *ᶠ y ≈ᶠ x' *ᶠ y
 unfolding _*ᶠ_
 *-cong-left {x} {x'} y h = record {

@@ -31,6 +31,7 @@ bin f g (suc n) = bin (λ i. f (suc i)) g n + bin f (λ i. g (suc i)) n
 
 -- Leibniz' product.
 
+-- the product depends on the values of its factors alone
 bin-ext : (f g h k : ℕ → ℕ) → ((i : ℕ) → f i ≡ h i) → ((i : ℕ) → g i ≡ k i) → (n : ℕ) → bin f g n ≡ bin h k n
 unfolding bin
 bin-ext f g h k p q zero = rw (p 0, q 0)
@@ -39,6 +40,7 @@ bin-ext f g h k p q (suc n) =
     let b = bin-ext f (λ i. g (suc i)) h (λ i. k (suc i)) p (λ i. q (suc i)) n in
     omega arith
 
+-- and is a sum where its second factor is
 bin-add : (f g h : ℕ → ℕ) (n : ℕ) → bin f (λ i. g i + h i) n ≡ bin f g n + bin f h n
 unfolding bin
 bin-add f g h zero = omega arith
@@ -47,6 +49,7 @@ bin-add f g h (suc n) =
     let b = bin-add f (λ i. g (suc i)) (λ i. h (suc i)) n in
     omega arith
 
+-- a constant of the second factor goes out
 bin-scale : (c : ℕ) (f g : ℕ → ℕ) (n : ℕ) → bin f (λ i. c * g i) n ≡ c * bin f g n
 unfolding bin
 bin-scale c f g zero = omega arith
@@ -55,6 +58,7 @@ bin-scale c f g (suc n) =
     let b = bin-scale c f (λ i. g (suc i)) n in
     omega arith
 
+-- and one of the first
 bin-scale-left : (c : ℕ) (f g : ℕ → ℕ) (n : ℕ) → bin (λ i. c * f i) g n ≡ c * bin f g n
 unfolding bin
 bin-scale-left c f g zero = omega arith
@@ -87,16 +91,19 @@ shift : (ℕ → ℕ) → ℕ → ℕ
 shift g zero = 0
 shift g (suc n) = suc n * g n
 
+-- x·g has the derivative g + x·g′
 shift-tail : (g : ℕ → ℕ) (i : ℕ) → suc i * g i ≡ g i + shift (λ j. g (suc j)) i
 unfolding shift
 shift-tail g zero = omega arith
 shift-tail g (suc i) = omega arith
 
+-- x·(f·g)′ = x·f′·g + x·f·g′
 shift-sum : (f g : ℕ → ℕ) (n : ℕ) → shift (bin (λ i. f (suc i)) g) n + shift (bin f (λ i. g (suc i))) n ≡ n * bin f g n
 unfolding shift bin
 shift-sum f g zero = omega arith
 shift-sum f g (suc n) = omega arith
 
+-- f·(x·g) = x·(f·g)
 shift-bin : (f g : ℕ → ℕ) (n : ℕ) → bin f (shift g) n ≡ shift (bin f g) n
 unfolding bin shift
 shift-bin f g zero = omega arith
@@ -107,16 +114,19 @@ shift-bin f g (suc n) =
     let d = bin-add f g (shift (λ j. g (suc j))) n in
     omega (arith, shift-sum f g n)
 
+-- a sum a of f satisfies a = f + q·x·a
 acc-shift : (q : ℕ) (f : ℕ → ℕ) (n : ℕ) → acc q f n ≡ f n + q * shift (acc q f) n
 unfolding acc shift
 acc-shift q f zero = omega arith
 acc-shift q f (suc n) = omega arith
 
+-- and is the only sequence that does
 acc-unique : (q : ℕ) (f a : ℕ → ℕ) → ((n : ℕ) → a n ≡ f n + q * shift a n) → (n : ℕ) → a n ≡ acc q f n
 unfolding acc shift
 acc-unique q f a h zero = omega (arith, h 0)
 acc-unique q f a h (suc n) = rw (← acc-unique q f a h n) (omega (arith, h (suc n)))
 
+-- summing after multiplying by f, or before
 acc-bin : (q : ℕ) (f g : ℕ → ℕ) (n : ℕ) → bin f (acc q g) n ≡ acc q (bin f g) n
 acc-bin q f g =
     acc-unique q (bin f g) (bin f (acc q g))
@@ -131,6 +141,7 @@ unfolding acc
 acc-first q f g zero h = h 0 (le-refl _)
 acc-first q f g (suc n) h = rw (acc-first q f g n (λ i l. h i (omega arith)), h (suc n) (le-refl _))
 
+-- and so series with the same terms
 acc-ext : (q : ℕ) (f g : ℕ → ℕ) → ((i : ℕ) → f i ≡ g i) → (n : ℕ) → acc q f n ≡ acc q g n
 acc-ext q f g h n = acc-first q f g n (λ i l. h i)
 
@@ -143,11 +154,13 @@ num-add q p r n =
 
 -- Growth with n.
 
+-- a sum of k terms more is no smaller
 acc-grow : (q : ℕ) (f : ℕ → ℕ) (m k : ℕ) → den q (m + k) * acc q f m ≤ den q m * acc q f (m + k)
 unfolding den acc
 acc-grow q f m zero = rw add-zero (le-refl _)
 acc-grow q f m (suc k) = rw add-suc (omega (arith, mul-le-mul-left (q * suc (m + k)) (acc-grow q f m k)))
 
+-- a longer sum is no smaller
 acc-le : (q : ℕ) (f : ℕ → ℕ) {m n : ℕ} → m ≤ n → den q n * acc q f m ≤ den q m * acc q f n
 acc-le q f {m} {n} h = let d = le-dest h in rw (d .1) at (acc-grow q f m (d .0))
 
@@ -163,21 +176,25 @@ unit : ℕ → ℕ
 unit zero = 1
 unit (suc n) = 0
 
+-- its sums are qⁿ·n!
 den-unit : (q n : ℕ) → den q n ≡ acc q unit n
 unfolding den acc unit
 den-unit q zero = refl
 den-unit q (suc n) = rw (den-unit q n) (omega arith)
 
+-- f·0 = 0
 bin-zero : (f : ℕ → ℕ) (n : ℕ) → bin f (λ i. 0) n ≡ 0
 unfolding bin
 bin-zero f zero = omega arith
 bin-zero f (suc n) = omega (arith, bin-zero (λ i. f (suc i)) n, bin-zero f n)
 
+-- f·1 = f
 bin-unit : (f : ℕ → ℕ) (n : ℕ) → bin f unit n ≡ f n
 unfolding bin unit
 bin-unit f zero = omega arith
 bin-unit f (suc n) = omega (arith, bin-unit (λ i. f (suc i)) n, bin-zero f n)
 
+-- summing f is multiplying it by the series of 1, 0, 0, ..
 bin-den : (q : ℕ) (f : ℕ → ℕ) (n : ℕ) → bin f (den q) n ≡ acc q f n
 bin-den q f n =
     bin-ext f (den q) f (acc q unit) (λ i. refl) (den-unit q) n
@@ -205,6 +222,7 @@ cut zero f (suc i) = 0
 cut (suc n) f zero = f 0
 cut (suc n) f (suc i) = cut n (λ j. f (suc j)) i
 
+-- nothing is cut up to n
 cut-small : (n : ℕ) (f : ℕ → ℕ) (i : ℕ) → i ≤ n → cut n f i ≡ f i
 unfolding cut
 cut-small zero f zero h = refl
@@ -212,6 +230,7 @@ cut-small zero f (suc i) h = absurd (not-suc-le-zero h)
 cut-small (suc n) f zero h = refl
 cut-small (suc n) f (suc i) h = cut-small n (λ j. f (suc j)) i (le-of-suc-le-suc h)
 
+-- cutting makes nothing larger
 cut-le : (n : ℕ) (f : ℕ → ℕ) (i : ℕ) → cut n f i ≤ f i
 unfolding cut
 cut-le zero f zero = le-refl _
@@ -219,6 +238,7 @@ cut-le zero f (suc i) = zero-le
 cut-le (suc n) f zero = le-refl _
 cut-le (suc n) f (suc i) = cut-le n (λ j. f (suc j)) i
 
+-- in a term i + j = n + m of a product that is not cut, j is at least m
 cut-mul : (n : ℕ) (f : ℕ → ℕ) (m i j x y : ℕ) → i + j ≡ n + m → (m ≤ j → x ≤ y) → cut n f i * x ≤ cut n f i * y
 unfolding cut
 cut-mul zero f m zero j x y e h = mul-le-mul-left (f 0) (h (omega arith))
@@ -270,6 +290,7 @@ num-zero q (suc n) = rw (num-zero q n, pow-suc 0 n) (omega arith)
 pub num-pos : (q p n : ℕ) → 0 < q → 0 < num q p n
 num-pos q p n h = le-trans (rw (num-zero q n) (den-pos q n h)) (num-mono q {p = 0} n (omega arith))
 
+-- (c·p)ⁿ = cⁿ·pⁿ
 mul-pow : (c p n : ℕ) → (c * p) ^ n ≡ c ^ n * p ^ n
 mul-pow c p zero = simp pow-zero
 mul-pow c p (suc n) = simp pow-suc (rw (mul-pow c p n) (omega arith))
@@ -288,11 +309,13 @@ den-scale c q (suc n) = rw (den-scale c q n, pow-suc c n) (omega arith)
 
 -- The sum of fractions over one denominator.
 
+-- 0 < n!
 factorial-pos : (n : ℕ) → 0 < factorial n
 unfolding factorial
 factorial-pos zero = omega arith
 factorial-pos (suc n) = mul-pos (omega arith) (factorial-pos n)
 
+-- den q n is qⁿ·n!
 den-factorial : (q n : ℕ) → q ^ n * factorial n ≡ den q n
 unfolding den factorial
 den-factorial q zero = simp pow-zero

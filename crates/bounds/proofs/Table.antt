@@ -27,6 +27,7 @@ abbrev pub every : (ℕ → ℕ → Bool) → ℕ → List ℕ → Bool
 every f i [] = true
 every f i (x ∷ xs) = both (f i x) (every f (suc i) xs)
 
+-- the law at a place counted from i
 from : (f : ℕ → ℕ → Bool) (xs : List ℕ) (i : ℕ) → T (every f i xs) → (k : ℕ) → k < length xs → T (f (i + k) (getD xs k 0))
 from f [] i t k h = absurd (not-suc-le-zero h)
 from f (x ∷ xs) i t zero h = subst (λ (m : ℕ). T (f m x)) (sym (add-zero i)) (both-left (f i x) (every f (suc i) xs) t)
@@ -43,6 +44,7 @@ abbrev pub ascending : ℕ → List ℕ → Bool
 ascending a [] = true
 ascending a (x ∷ xs) = both (leb a x) (ascending x xs)
 
+-- every entry is at least a
 ascending-least : (a : ℕ) (xs : List ℕ) → T (ascending a xs) → (k : ℕ) → k < length xs → a ≤ getD xs k 0
 ascending-least a [] t k h = absurd (not-suc-le-zero h)
 ascending-least a (x ∷ xs) t zero h = leb→le a x (both-left (leb a x) (ascending x xs) t)

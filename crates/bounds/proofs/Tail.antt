@@ -11,9 +11,11 @@ use Rattle.bounds.proofs.Table.{both, both-left, both-right}
 unfoldable pub top : ℕ → ℕ → ℕ → ℕ → ℕ → ℕ
 top q p a b n = b * num q p n + a * p ^ n
 
+-- one step of it over bare numbers
 top-step : (d s x w e v a b p : ℕ) → d * (b * s + a * x) ≤ e * v → (a + b) * p ≤ a * w → d * (b * (w * s + x * p) + a * (x * p)) ≤ w * e * v
 top-step d s x w e v a b p h l = omega (arith, mul-le-mul-left w h, mul-le-mul-left (d * x) l)
 
+-- from N on Sₙ + (a/b)·tₙ does not grow
 top-falls : (q p a b N : ℕ) → (a + b) * p ≤ a * (q * suc N) → (k : ℕ) → den q N * top q p a b (N + k) ≤ den q (N + k) * top q p a b N
 unfolding top num den acc
 top-falls q p a b N h zero = rw add-zero (le-refl _)
@@ -34,6 +36,7 @@ tail q p a b N n h le =
 unfoldable pub belowTest : ℕ → ℕ → ℕ → ℕ → ℕ → ℕ → Bool
 belowTest q N x r y p = leb (x * top q r r (q * suc N - r) N) (y * ((q * suc N - r) * num q p N))
 
+-- the comparison at N, carried to n and freed of its common factor
 cancel : (d b x s y u e v w : ℕ) → 0 < d * b → x * v ≤ y * (b * w) → d * (b * s) ≤ e * v → e * w ≤ d * u → x * s ≤ y * u
 cancel d b x s y u e v w z c g l =
     le-of-mul-le-mul-left (omega (arith, mul-le-mul-left x g, mul-le-mul-left e c, mul-le-mul-left (y * b) l)) z

@@ -58,8 +58,9 @@ pub within-cross : {s l w m v : ℕ} {x y : Fraction} → Within s l w x → Wit
 within-cross {s} {l} {w} {m} {v} {x} {y} a b h =
     le-of-mul-le-mul-right {k = x .den * y .den} (omega (arith, mul-le-mul-right (y .den) (a .above), mul-le-mul-right (x .den) (b .below), mul-le-mul-right s (h .cross))) (mul-pos (x .pos) (y .pos))
 
--- an enclosed value is at most a decimal number k that no bound passes
-pub within-≤-decimal : {s l w : ℕ} {x : Fraction} (k places : ℕ) → 0 < s → Within s l w x → (l + w) * 10 ^ places ≤ k * s → x ≤ᶠ k /10^ places
+-- an enclosed value is at most a decimal number that its upper bound does not pass
+pub within-≤-decimal : {s l w : ℕ} {x : Fraction} (k places : ℕ) → 0 < s → Within s l w x → (l + w) * 10 ^ places ≤ k * s
+    → x ≤ᶠ k /10^ places
 unfolding _/10^_
 within-≤-decimal {s} {x = x} k places p a h = record {
   cross =
@@ -100,7 +101,7 @@ ratio-cut s a b p =
 pub decimal-cut : (s k places : ℕ) → Within s (k * s / 10 ^ places) 1 (k /10^ places)
 decimal-cut s k places = within-≈ (≈-sym (decimal-is k places)) (ratio-cut s k (10 ^ places) (ten-pos places))
 
--- a decimal number of which s holds a whole multiple
+-- a decimal number between its bounds
 pub decimal-within : {s l w : ℕ} (k places : ℕ) → l * 10 ^ places ≤ k * s → k * s ≤ (l + w) * 10 ^ places → Within s l w (k /10^ places)
 decimal-within k places h g = within-≈ (≈-sym (decimal-is k places)) (ratio-within k _ (ten-pos places) h g)
 
@@ -177,7 +178,8 @@ mul-below H K {b = b} {d = d} h h' k k' =
     rw (← e, ← f) (omega (arith, mul-le-mul g i))
 
 -- x·y: scales and bounds multiply
-pub *-within : {s t l w m v : ℕ} {x y : Fraction} → Within s l w x → Within t m v y → Within (s * t) (l * m) (l * v + m * w + w * v) (x *ᶠ y)
+pub *-within : {s t l w m v : ℕ} {x y : Fraction} → Within s l w x → Within t m v y
+    → Within (s * t) (l * m) (l * v + m * w + w * v) (x *ᶠ y)
 unfolding _*ᶠ_
 *-within {l = l} {w = w} {m = m} {v = v} {x = x} {y = y} a b = record {
   above = via (mul-above _ _ _ _ (a .above) (b .above)) (omega arith) (omega arith);
@@ -197,16 +199,21 @@ unfolding ratio _*ᶠ_
 ratio-times-within a b p h = omega (arith, mul-le-mul-left (a * b) (h .above), mul-le-mul-left (a * b) (h .below))
 
 -- c·x for a fraction c = a/b
-pub scaled-within : {s l w : ℕ} (a b : ℕ) (p : 0 < b) {c x : Fraction} → c ≈ᶠ ratio a b p → Within s l w x → Within s (a * l / b) (a * w / b + 2) (c *ᶠ x)
+pub scaled-within : {s l w : ℕ} (a b : ℕ) (p : 0 < b) {c x : Fraction} → c ≈ᶠ ratio a b p → Within s l w x
+    → Within s (a * l / b) (a * w / b + 2) (c *ᶠ x)
 scaled-within a b p {x = x} e h =
     within-≈ (*-cong (≈-sym e) (≈-refl x)) (round-within b p (ratio-times-within a b p h))
 
 -- For every n from 40 upward: a law at each n is one at all.
 
-pub all-map : {s l w t m v : ℕ} {x y : ℕ → Fraction} → ((n : ℕ) → Within s l w (x n) → Within t m v (y n)) → WithinAll s l w x → WithinAll t m v y
+-- a law of one value
+pub all-map : {s l w t m v : ℕ} {x y : ℕ → Fraction} → ((n : ℕ) → Within s l w (x n) → Within t m v (y n)) → WithinAll s l w x
+    → WithinAll t m v y
 all-map f a = record { at = λ n h. f n (a .at n h) }
 
-pub all-map₂ : {s l w t m v u k z : ℕ} {x y g : ℕ → Fraction} → ((n : ℕ) → Within s l w (x n) → Within t m v (y n) → Within u k z (g n)) → WithinAll s l w x → WithinAll t m v y → WithinAll u k z g
+-- a law of two values
+pub all-map₂ : {s l w t m v u k z : ℕ} {x y g : ℕ → Fraction} → ((n : ℕ) → Within s l w (x n) → Within t m v (y n) → Within u k z (g n))
+    → WithinAll s l w x → WithinAll t m v y → WithinAll u k z g
 all-map₂ f a b = record { at = λ n h. f n (a .at n h) (b .at n h) }
 
 -- an enclosed value that does not depend on n

@@ -112,6 +112,6 @@ exponential x = getD high (x / 6250000000000) 0 * fine (x % 6250000000000) / 2 ^
 abbrev pub exponentLimit : ℕ
 exponentLimit = 201 * 10 ^ 13
 
--- how far 2⁴⁰·E(z) can be above the result: nine for each unit of E, rounded up, and four
+-- how far 2⁴⁰·E(z) can be above the result: eight for each unit of E, rounded up, and three
 unfoldable pub exponentialError : ℕ → ℕ
-exponentialError x = 9 * (getD high (x / 6250000000000) 0 / 2 ^ 40 + 1) + 4
+exponentialError x = 8 * (getD high (x / 6250000000000) 0 / 2 ^ 40 + 1) + 3

@@ -3,7 +3,9 @@
 use crate::fixed::mul_shift;
 ghost use mathlib.Core.Path.{_≡_};
 ghost use Prim.Native.Nat.{_*_, _^_, _<_};
-ghost use Rattle.bounds.specs.Exponential.{high, middle, rest, quadratic, fine, exponential, exponentLimit};
+ghost use Rattle.bounds.specs.Series.{E};
+ghost use Rattle.bounds.specs.Enclosure.{WithinAll};
+ghost use Rattle.bounds.specs.Exponential.{exponent, high, middle, rest, quadratic, fine, exponential, exponentLimit, exponentialError};
 
 // 1 / 16, the step of the first table, in units of 10^-14
 const COARSE_STEP: u64 = 6250000000000;
@@ -50,7 +52,7 @@ fn fine(middles: &[u64; 256], d: u64) -> u64
 // E(z) for z below 4.1. The tables are those that `high_table` and `middle_table` give.
 pub fn exponential(highs: &[u64; 322], middles: &[u64; 256], x: u64) -> u64
     requires { ⌜ (now highs ≡ high) × (now middles ≡ middle) × (x < exponentLimit) ⌝ }
-    ensures { λ r. ⌜ (r ≡ exponential x) × (r < 2 ^ 46) ⌝ }
+    ensures { λ r. ⌜ (r ≡ exponential x) × (r < 2 ^ 46) × WithinAll (2 ^ 40) r (exponentialError x) (λ n. E n (exponent x)) ⌝ }
 {
     let h = (x / COARSE_STEP) as usize;
     mul_shift(highs[h], fine(middles, x % COARSE_STEP))

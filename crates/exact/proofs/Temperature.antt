@@ -142,14 +142,22 @@ pub degrees-mono : {θ θ' : ℕ} → θ ≤ θ' → degrees θ ≤ᶠ degrees �
 unfolding degrees
 degrees-mono h = omega arith
 
-highest-is : {season : Season} → Temperate season → signedTenths (season .highest) ≈ᶠ degrees (shifted (season .highest) * 10 ^ 9)
+tenths-degrees : (k : ℕ) → tenths k ≈ᶠ degrees (k * 10 ^ 9)
 unfolding degrees tenths
-highest-is {season} t =
-    ≈-trans (tenths-is (season .highest) (t .highest-bits) (t .warm)) (record { cross = omega arith })
+tenths-degrees k = record { cross = omega arith }
+
+-- lowest ≤ T(i)
+pub temperature-above-lowest : {season : Season} (i : ℕ) → Temperate season → signedTenths (season .lowest) ≤ᶠ temperature season i
+temperature-above-lowest {season} i t =
+    ≤-by (≈-trans (tenths-is (season .lowest) (t .lowest-bits) (omega arith)) (tenths-degrees (shifted (season .lowest))))
+    (temperature-is i t) (degrees-mono (omega arith))
 
 -- T(i) ≤ highest
 pub temperature-below-highest : {season : Season} (i : ℕ) → Temperate season → temperature season i ≤ᶠ signedTenths (season .highest)
-temperature-below-highest i t = ≤-by (temperature-is i t) (highest-is t) (degrees-mono (markθ-below-highest i t))
+temperature-below-highest {season} i t =
+    ≤-by (temperature-is i t)
+    (≈-trans (tenths-is (season .highest) (t .highest-bits) (t .warm)) (tenths-degrees (shifted (season .highest))))
+    (degrees-mono (markθ-below-highest i t))
 
 -- temperatures are ordered as their weights
 pub temperature-mono : {season : Season} (i j : ℕ) → Temperate season → w i ≤ w j → temperature season i ≤ᶠ temperature season j

@@ -1,12 +1,11 @@
--- `bounds::exp::fine` meets its contract: its two factors fit, and the cut product is below 12·10¹¹.
+-- `bounds::exp::fine` meets its contract: the entry and the quadratic fit a product.
+use mathlib.Core.Path.{_≡_}
 use Prim.Native.Nat.{_*_, _/_, _^_, _<_}
-use native.Mathlib.Nat.{le-of-lt}
 use native.Mathlib.Omega.{arith}
 use borrow.Author.Needs.{needs}
-use lib.Dec.{lit<}
 use lib.ListN.{getD}
 use Rattle.bounds.specs.Exponential.{fine}
-use Rattle.bounds.proofs.Parts.{cut-below}
+use Rattle.bounds.proofs.ExponentialBound.{fine-size}
 use Rattle.bounds.proofs.Sizes.{middle-below}
 use Rattle.bounds.proofs.exp.fine.Statement.{statement}
 use Rattle.bounds.proofs.exp.fine.Tie as tie
@@ -15,16 +14,20 @@ use Rattle.bounds.proofs.exp.fine.Tie as tie
 entry-below : (c : tie.Start) → getD (c .args .middles .now) (c .args .d / 24414062500) 0 < 118 * 10 ^ 10
 entry-below c = rw (c .pre .0) (middle-below _ (omega arith))
 
-mul-shift-requires : tie.Need-mul-shift-requires
-mul-shift-requires c κs = omega (arith, entry-below (c .before .before))
+-- the result is the computed exponential of the part below a sixteenth
+same : (c : tie.After-mul-shift) → c .mul-shift .result ≡ fine (c .before .before .before .args .d)
+unfolding fine
+same c = cc
 
 returns : tie.Need-returns
-unfolding fine
-returns c =
-    let entry = entry-below (c .before .before .before) in
-    (cc, rw (c .mul-shift .ensures .0) (cut-below (2 ^ 40) (omega arith) (le-of-lt entry) (le-of-lt (c .before .quadratic .ensures .1)) (lit< tt)))
+returns c = (same c, rw (same c) (fine-size _ (c .before .before .before .pre .1)))
 
 pub fine-spec : {M : Type 1} → statement M
 fine-spec =
     tie.close
-    (tie.spec (λ c. search needs) (λ c. search needs) (λ c κs. search needs) mul-shift-requires returns)
+    (tie.spec
+    (λ c. search needs)
+    (λ c. search needs)
+    (λ c κs. search needs)
+    (λ c κs. omega (arith, entry-below (c .before .before)))
+    returns)

@@ -1,19 +1,17 @@
--- `bounds::exp::quadratic` meets its contract: p is below 2²⁸, so its square fits, and half of it adds at most 2¹⁵ units.
-use Prim.Native.Nat.{_*_, _^_, _≤_}
-use native.Mathlib.Nat.{mul-le-mul}
+-- `bounds::exp::quadratic` meets its contract: p is below 2²⁸, so its square fits.
+use mathlib.Core.Path.{_≡_}
+use Prim.Native.Nat.{_+_, _*_, _/_, _^_}
 use native.Mathlib.Omega.{arith}
 use borrow.Author.Needs.{needs}
 use Rattle.bounds.specs.Exponential.{quadratic}
+use Rattle.bounds.proofs.ExponentialBound.{rest-square, quadratic-size}
 use Rattle.bounds.proofs.exp.quadratic.Statement.{statement}
 use Rattle.bounds.proofs.exp.quadratic.Tie as tie
 
--- p² ≤ 2⁵⁶
-square : (c : tie.After-rest) → c .rest .result * c .rest .result ≤ 2 ^ 56
-square c = let h : c .rest .result ≤ 2 ^ 28 = omega arith in mul-le-mul h h
-
-returns : tie.Need-returns
+-- the result is the computed quadratic
+same : (c : tie.After-rest) → 2 ^ 40 + c .rest .result + c .rest .result * c .rest .result / 2 ^ 41 ≡ quadratic (c .before .args .r)
 unfolding quadratic
-returns c = (cc, omega (arith, square c))
+same c = cc
 
 pub quadratic-spec : {M : Type 1} → statement M
 quadratic-spec =
@@ -21,6 +19,6 @@ quadratic-spec =
     (tie.spec
     (λ c κs. search needs)
     (λ c. search needs)
-    (λ c. omega (arith, square c))
-    (λ c. omega (arith, square c))
-    returns)
+    (λ c. omega (arith, rest-square _ (c .rest .ensures .1)))
+    (λ c. omega (arith, rest-square _ (c .rest .ensures .1)))
+    (λ c. (same c, rw (same c) (quadratic-size _ (c .before .pre)))))
