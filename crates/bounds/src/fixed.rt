@@ -9,8 +9,8 @@ const BILLION: u64 = 1000000000;
 
 // The product of two numbers with 40 binary places, cut to 40 places.
 pub fn mul_shift(a: u64, b: u64) -> u64
-    requires { ⌜ (a < 2 ^ 46) × (b < 2 ^ 46) ⌝ }
-    ensures { λ r. ⌜ (r ≡ a * b / 2 ^ 40) × (r < 2 ^ 52) ⌝ }
+    requires { ⌜ (a < 2 ^ 50) × (b < 2 ^ 50) ⌝ }
+    ensures { λ r. ⌜ (r ≡ a * b / 2 ^ 40) × (r < 2 ^ 60) ⌝ }
 {
     let a1 = a / HALF;
     let a0 = a % HALF;

@@ -1,0 +1,316 @@
+-- A canister or a tank that is written, and one left to the class that stands for the same, count alike: the sheet is accepted
+-- or refused alike, and gives the same values to all that follows.
+-- Assumes nothing.
+use mathlib.Core.Bool.{Bool, not}
+use mathlib.Core.List.{List}
+use mathlib.Core.Logic.{_⊎_, inl, inr, ⊎-elim}
+use mathlib.Core.Path.{_≡_, refl, sym, ap, subst, _∙_}
+use Prim.Native.Nat.{ℕ, suc, zero, _+_, _*_, _/_, _%_, _≤_, _<_}
+use native.Mathlib.Decide.{decLe, ℕ-discrete}
+use native.Mathlib.Omega.{arith}
+use borrow.Author.Tests.{le-ltb}
+use lib.Dec.{T, ltb, eqb, ltb→lt}
+use lib.ListN.{length, set, length-set}
+use lib.Seq.{getD-set-same, getD-set-other}
+use Rattle.bounds.proofs.Table.{both, both-left}
+use Rattle.exact.specs.declared.Canister.{Canister}
+use Rattle.exact.specs.declared.Canister.the-variants.{None, Small, Medium, Large}
+use Rattle.exact.specs.declared.Equipment.the-variants.{Fitted}
+use Rattle.exact.specs.declared.Season.{Season}
+use Rattle.sheet.specs.declared.Check.{Check}
+use Rattle.sheet.specs.Limits.{tankLimit}
+use Rattle.sheet.specs.Bytes.{u8At, u16At, u32At, seasonsOf, rowsOf, countsAt, durationCounts, hourCounts, cellsOf, seasonPlace, rowPlace, seasonFrom, seasonAt, seasonsFrom, seasonList, rowFrom, rowAt, equipmentAt, fittedCanister, fittedTank, writtenCanister, canisterOf, tankOf}
+use Rattle.sheet.specs.Check.{each}
+use Rattle.sheet.specs.Sheet.{lettersMissing, headCheck, lengthCheck, parkingCheck, daysBefore, seasonCheck, codeWrong, someSeason, rowCheck, sheetCheck}
+use Rattle.sheet.proofs.Equipment.{equipment-tank}
+
+-- "canister (0 none, 1 small, 2 medium, 3 large, 255 by class)"
+abbrev pub codeOf : Canister → ℕ
+codeOf None = 0
+codeOf Small = 1
+codeOf Medium = 2
+codeOf Large = 3
+
+-- s' is s, except that in the row at p, whose class stands for canister c and tank t, these may be written where s leaves them
+-- to the class
+pub record Written (s s' : List ℕ) (p : ℕ) (c : Canister) (t : ℕ) : Type 0 where
+  pub same-length : length s' ≡ length s
+  pub elsewhere : (k : ℕ) → ¬ (k ≡ p + 2) → ¬ (k ≡ p + 6) → ¬ (k ≡ p + 7) → u8At s' k ≡ u8At s k
+  pub canister : (u8At s' (p + 2) ≡ u8At s (p + 2)) ⊎ ((u8At s (p + 2) ≡ 255) × (u8At s' (p + 2) ≡ codeOf c))
+  pub tank : (u16At s' (p + 6) ≡ u16At s (p + 6)) ⊎ ((u16At s (p + 6) ≡ 0) × (u16At s' (p + 6) ≡ t))
+
+-- accepted or refused alike, with the same values
+pub record Alike (s s' : List ℕ) : Type 0 where
+  pub length-same : length s' ≡ length s
+  pub seasons-same : seasonsOf s' ≡ seasonsOf s
+  pub rows-same : rowsOf s' ≡ rowsOf s
+  pub check-same : sheetCheck s' ≡ sheetCheck s
+  pub cells-same : cellsOf s' ≡ cellsOf s
+  pub season-same : (j : ℕ) → j < seasonsOf s → seasonAt s' j ≡ seasonAt s j
+  pub season-list-same : seasonList s' ≡ seasonList s
+  pub row-same : (j : ℕ) → j < rowsOf s → rowAt s' j ≡ rowAt s j
+
+-- the same checks, one by one, are the same together
+each-cong : (f g : ℕ → Check) (n : ℕ) → ((j : ℕ) → j < n → f j ≡ g j) → each f n ≡ each g n
+unfolding each
+each-cong f g zero h = refl
+each-cong f g (suc n) h = cc (each-cong f g n (λ j l. h j (omega arith)), h n (omega arith))
+
+-- records of 24 bytes do not overlap
+apart : (q j i k m : ℕ) → k < 24 → m < 24 → q + 24 * j + k ≡ q + 24 * i + m → (j ≡ i) × (k ≡ m)
+apart q j i k m h l e =
+    elim (decLe (suc j) i) [
+      | yes a ↦ absurd (omega arith)
+      | no a ↦
+          elim (decLe (suc i) j) [
+            | yes b ↦ absurd (omega arith)
+            | no b ↦ (omega arith, omega arith)
+          ]
+    ]
+
+-- the bytes of a row other than its canister and its tank
+abbrev plain : ℕ → Bool
+plain k = both (ltb k 24) (both (not (eqb k 2)) (both (not (eqb k 6)) (not (eqb k 7))))
+
+-- they are bytes of the row
+plain-below : (k : ℕ) → T (plain k) → k < 24
+plain-below k h = ltb→lt k 24 (both-left (ltb k 24) (both (not (eqb k 2)) (both (not (eqb k 6)) (not (eqb k 7)))) h)
+
+-- a canister's code passes as 255 does,
+code-counts : (c : Canister) → codeWrong (codeOf c) ≡ codeWrong 255
+unfolding codeWrong
+code-counts None = refl
+code-counts Small = refl
+code-counts Medium = refl
+code-counts Large = refl
+
+-- and stands for the same where the class has that canister
+canister-counts : (c : Canister) (t : ℕ) → canisterOf (codeOf c) (Fitted c t) ≡ canisterOf 255 (Fitted c t)
+unfolding canisterOf fittedCanister writtenCanister
+canister-counts None t = refl
+canister-counts Small t = refl
+canister-counts Medium t = refl
+canister-counts Large t = refl
+
+-- a tank that is written counts as 0 does, where the class has that tank
+tank-counts : (c : Canister) (t : ℕ) → tankOf t (Fitted c t) ≡ tankOf 0 (Fitted c t)
+unfolding tankOf fittedTank
+tank-counts c zero = refl
+tank-counts c (suc t) = refl
+
+-- and passes as 0 does
+tank-passes : (s : List ℕ) (p : ℕ) {c : Canister} {t : ℕ} → equipmentAt s p ≡ Fitted c t → ltb tankLimit t ≡ ltb tankLimit 0
+unfolding equipmentAt fittedTank
+tank-passes s p {c} {t} e =
+    let most = equipment-tank (u8At s p) (u8At s (p + 1)) (λ a. let z : _≡_ {A = ℕ} 0 1 = cc in omega arith) .1 in
+    le-ltb tankLimit t (omega (arith, ap fittedTank e))
+
+module _ (s s' : List ℕ) (i : ℕ) (c : Canister) (t : ℕ) (fitted : equipmentAt s (rowPlace s i) ≡ Fitted c t) (w : Written s s' (rowPlace s i) c t) where
+  -- bytes before the rows are the same
+  early : (k : ℕ) → k < rowPlace s 0 → u8At s' k ≡ u8At s k
+  early k h = w .elsewhere k (λ e. omega arith) (λ e. omega arith) (λ e. omega arith)
+
+  -- so the counts of seasons and rows,
+  seasons : seasonsOf s' ≡ seasonsOf s
+  seasons = early 5 (omega arith)
+
+  rows : rowsOf s' ≡ rowsOf s
+  rows = early 6 (omega arith)
+
+  -- the parking counts,
+  counts : (k n : ℕ) → k + 2 * n ≤ 104 → countsAt s' k n ≡ countsAt s k n
+  unfolding countsAt
+  counts k zero h = refl
+  counts k (suc n) h = cc (early k (omega arith), early (k + 1) (omega arith), counts (k + 2) n (omega arith))
+
+  -- two bytes together,
+  word : (k : ℕ) → k + 1 < rowPlace s 0 → u16At s' k ≡ u16At s k
+  word k h = cc (early k (omega arith), early (k + 1) h)
+
+  -- each season,
+  season : (j : ℕ) → j < seasonsOf s → seasonAt s' j ≡ seasonAt s j
+  unfolding seasonAt seasonFrom
+  season j h =
+      let p : ℕ = seasonPlace s j in
+      rw (word p (omega arith), word (p + 2) (omega arith), word (p + 4) (omega arith), word (p + 6) (omega arith))
+
+  -- all of them,
+  season-list : (j n : ℕ) → j + n ≤ seasonsOf s → seasonsFrom s' j n ≡ seasonsFrom s j n
+  unfolding seasonsFrom
+  season-list j zero h = refl
+  season-list j (suc n) h = cc (season j (omega arith), season-list (suc j) n (omega arith))
+
+  -- the days before a season,
+  days : (n : ℕ) → n ≤ seasonsOf s → daysBefore s' n ≡ daysBefore s n
+  unfolding daysBefore
+  days zero h = refl
+  days (suc n) h = cc (days n (omega arith), season n h)
+
+  -- and what holds in some season are the same;
+  some : (wrong : Season → Bool) (n : ℕ) → n ≤ seasonsOf s → someSeason wrong s' n ≡ someSeason wrong s n
+  unfolding someSeason
+  some wrong zero h = refl
+  some wrong (suc n) h = cc (some wrong n (omega arith), season n h)
+
+  -- the head passes or is refused alike,
+  head : headCheck s' ≡ headCheck s
+  unfolding headCheck lettersMissing
+  head = cc (w .same-length, early 0 (omega arith), early 1 (omega arith), early 2 (omega arith), early 3 (omega arith), early 4 (omega arith), seasons, rows, early 7 (omega arith))
+
+  -- and so do the parking counts,
+  parking : parkingCheck s' ≡ parkingCheck s
+  unfolding parkingCheck durationCounts hourCounts
+  parking = cc (counts 8 24 (omega arith), counts 56 24 (omega arith))
+
+  -- of which the cells are the same,
+  cells : cellsOf s' ≡ cellsOf s
+  unfolding cellsOf durationCounts hourCounts
+  cells = cc (counts 8 24 (omega arith), counts 56 24 (omega arith))
+
+  -- and each season.
+  season-check : (j : ℕ) → j < seasonsOf s → seasonCheck s' j ≡ seasonCheck s j
+  unfolding seasonCheck
+  season-check j h = cc (season j h, days j (omega arith))
+
+  -- In every row the plain bytes are the same,
+  row-byte : (j k q : ℕ) → q ≡ rowPlace s j + k → T (plain k) → u8At s' q ≡ u8At s q
+  row-byte j k q place h =
+      let off : (m : ℕ) → m < 24 → (T (plain m) → ⊥) → q ≡ rowPlace s i + m → ⊥
+      = λ m l no e. no (subst (λ (x : ℕ). T (plain x)) (apart (104 + 8 * seasonsOf s) j i k m (plain-below k h) l (sym place ∙ e) .1) h) in
+      w .elsewhere q (off 2 (omega arith) (λ no. no)) (off 6 (omega arith) (λ no. no)) (off 7 (omega arith) (λ no. no))
+
+  -- two of them together,
+  row-word : (j k q : ℕ) → q ≡ rowPlace s j + k → T (plain k) → T (plain (k + 1)) → u16At s' q ≡ u16At s q
+  row-word j k q place h l = cc (row-byte j k q place h, row-byte j (k + 1) (q + 1) (omega arith) l)
+
+  -- four of them,
+  row-long : (j k q : ℕ) → q ≡ rowPlace s j + k → T (plain k) → T (plain (k + 1)) → T (plain (k + 2)) → T (plain (k + 2 + 1)) → u32At s' q ≡ u32At s q
+  row-long j k q place a b c d = cc (row-word j k q place a b, row-word j (k + 2) (q + 2) (omega arith) c d)
+
+  -- and what class and technology stand for.
+  row-equipment : (j : ℕ) → equipmentAt s' (rowPlace s j) ≡ equipmentAt s (rowPlace s j)
+  unfolding equipmentAt
+  row-equipment j = cc (row-byte j 0 (rowPlace s j) (omega arith) tt, row-byte j 1 (rowPlace s j + 1) refl tt)
+
+  -- In another row than i all bytes are the same
+  other-byte : (j k q : ℕ) → q ≡ rowPlace s j + k → k < 24 → ¬ (j ≡ i) → u8At s' q ≡ u8At s q
+  other-byte j k q place l n =
+      let off : (m : ℕ) → m < 24 → q ≡ rowPlace s i + m → ⊥ = λ m d e. n (apart (104 + 8 * seasonsOf s) j i k m l d (sym place ∙ e) .0) in
+      w .elsewhere q (off 2 (omega arith)) (off 6 (omega arith)) (off 7 (omega arith))
+
+  -- So in every row the canister's code passes alike and stands for the same canister,
+  row-canister : (j : ℕ) → (codeWrong (u8At s' (rowPlace s j + 2)) ≡ codeWrong (u8At s (rowPlace s j + 2))) × (canisterOf (u8At s' (rowPlace s j + 2)) (equipmentAt s (rowPlace s j)) ≡ canisterOf (u8At s (rowPlace s j + 2)) (equipmentAt s (rowPlace s j)))
+  row-canister j =
+      elim (ℕ-discrete j i) [
+        | yes e ↦ rw e (⊎-elim (λ h. (cc, cc)) (λ (h, g). (cc (code-counts c), cc (canister-counts c t))) (w .canister))
+        | no n ↦ let h = other-byte j 2 (rowPlace s j + 2) refl (omega arith) n in (cc, cc)
+      ]
+
+  -- the tank passes alike and counts the same,
+  row-tank : (j : ℕ) → (ltb tankLimit (u16At s' (rowPlace s j + 6)) ≡ ltb tankLimit (u16At s (rowPlace s j + 6))) × (tankOf (u16At s' (rowPlace s j + 6)) (equipmentAt s (rowPlace s j)) ≡ tankOf (u16At s (rowPlace s j + 6)) (equipmentAt s (rowPlace s j)))
+  row-tank j =
+      elim (ℕ-discrete j i) [
+        | yes e ↦ rw e (⊎-elim (λ h. (cc, cc)) (λ (h, g). (cc (tank-passes s (rowPlace s i) fitted), cc (tank-counts c t))) (w .tank))
+        | no n ↦
+            let h = other-byte j 6 (rowPlace s j + 6) refl (omega arith) n in
+            let g = other-byte j 7 (rowPlace s j + 6 + 1) (omega arith) (omega arith) n in
+            (cc, cc)
+      ]
+
+  -- the record that starts at the row's place gives the same values,
+  row-from : (j : ℕ) → rowFrom s' (rowPlace s j) ≡ rowFrom s (rowPlace s j)
+  unfolding rowFrom
+  row-from j =
+      let p : ℕ = rowPlace s j in
+      rw (
+        row-equipment j,
+        row-canister j .1,
+        row-tank j .1,
+        row-byte j 0 p (omega arith) tt,
+        row-byte j 3 (p + 3) refl tt,
+        row-byte j 4 (p + 4) refl tt,
+        row-byte j 5 (p + 5) refl tt,
+        row-long j 8 (p + 8) refl tt tt tt tt,
+        row-word j 12 (p + 12) refl tt tt,
+        row-word j 14 (p + 14) refl tt tt,
+        row-word j 16 (p + 16) refl tt tt,
+        row-word j 18 (p + 18) refl tt tt,
+        row-long j 20 (p + 20) refl tt tt tt tt,
+      )
+
+  -- which are the row's,
+  row : (j : ℕ) → rowAt s' j ≡ rowAt s j
+  unfolding rowAt
+  row j = rw seasons (row-from j)
+
+  -- and the row passes or is refused alike.
+  row-check : (j : ℕ) → rowCheck s' j ≡ rowCheck s j
+  unfolding rowCheck
+  row-check j =
+      let (code, canister) = row-canister j in
+      let (limit, tank) = row-tank j in
+      cc (seasons, row j, row-equipment j, some _ (seasonsOf s) (omega arith))
+
+  -- accepted or refused alike, with the same values
+  pub alike : Alike s s'
+  unfolding sheetCheck lengthCheck seasonList
+  alike = record {
+    length-same = w .same-length;
+    seasons-same = seasons;
+    rows-same = rows;
+    check-same =
+        let checks : each (seasonCheck s') (seasonsOf s) ≡ each (seasonCheck s) (seasonsOf s) = each-cong (seasonCheck s') (seasonCheck s) (seasonsOf s) season-check in
+        let rest : each (rowCheck s') (rowsOf s) ≡ each (rowCheck s) (rowsOf s) = each-cong (rowCheck s') (rowCheck s) (rowsOf s) (λ j _. row-check j) in
+        cc (w .same-length, seasons, rows, head, parking, checks, rest);
+    cells-same = cells;
+    season-same = season;
+    season-list-same = cc (seasons, season-list 0 (seasonsOf s) (omega arith));
+    row-same = λ j _. row j;
+  }
+
+-- nothing written
+pub nothing-written : (s : List ℕ) (p : ℕ) (c : Canister) (t : ℕ) → Written s s p c t
+nothing-written s p c t = record { same-length = refl; elsewhere = λ k a b d. refl; canister = inl refl; tank = inl refl }
+
+-- the canister written, where the row left it to the class
+pub canister-written : {s s' : List ℕ} {p : ℕ} {c : Canister} {t : ℕ} → p + 24 ≤ length s → u8At s (p + 2) ≡ 255 → Written s s' p c t → Written s (set s' (p + 2) (codeOf c)) p c t
+canister-written {s} {s'} {p} {c} inside h w =
+    let kept : (k : ℕ) → ¬ (k ≡ p + 2) → u8At (set s' (p + 2) (codeOf c)) k ≡ u8At s' k = λ k a. getD-set-other s' (p + 2) k (codeOf c) 0 a in
+    let tank : u16At (set s' (p + 2) (codeOf c)) (p + 6) ≡ u16At s' (p + 6) = cc (kept (p + 6) (λ e. omega arith), kept (p + 6 + 1) (λ e. omega arith)) in
+    record {
+      same-length = length-set s' (p + 2) (codeOf c) ∙ w .same-length;
+      elsewhere = λ k a b d. kept k a ∙ w .elsewhere k a b d;
+      canister = inr (h, getD-set-same s' (p + 2) (codeOf c) 0 (omega (arith, w .same-length)));
+      tank = ⊎-elim (λ e. inl (tank ∙ e)) (λ (a, e). inr (a, tank ∙ e)) (w .tank);
+    }
+
+-- the tank written, where the row left it to the class
+pub tank-written : {s s' : List ℕ} {p : ℕ} {c : Canister} {t : ℕ} → p + 24 ≤ length s → u16At s (p + 6) ≡ 0 → Written s s' p c t → Written s (set (set s' (p + 6) (t % 256)) (p + 7) (t / 256)) p c t
+tank-written {s} {s'} {p} {c} {t} inside h w =
+    let low : List ℕ = set s' (p + 6) (t % 256) in
+    let kept : (k : ℕ) → ¬ (k ≡ p + 6) → ¬ (k ≡ p + 7) → u8At (set low (p + 7) (t / 256)) k ≡ u8At s' k
+    = λ k a b. getD-set-other low (p + 7) k (t / 256) 0 b ∙ getD-set-other s' (p + 6) k (t % 256) 0 a in
+    let canister : u8At (set low (p + 7) (t / 256)) (p + 2) ≡ u8At s' (p + 2) = kept (p + 2) (λ e. omega arith) (λ e. omega arith) in
+    let long : length low ≡ length s = length-set s' (p + 6) (t % 256) ∙ w .same-length in
+    let first : u8At (set low (p + 7) (t / 256)) (p + 6) ≡ t % 256
+    = getD-set-other low (p + 7) (p + 6) (t / 256) 0 (λ e. omega arith) ∙ getD-set-same s' (p + 6) (t % 256) 0 (omega (arith, w .same-length)) in
+    let next : p + 6 + 1 ≡ p + 7 = omega arith in
+    let second : u8At (set low (p + 7) (t / 256)) (p + 6 + 1) ≡ t / 256 = rw next (getD-set-same low (p + 7) (t / 256) 0 (omega (arith, long))) in
+    record {
+      same-length = length-set low (p + 7) (t / 256) ∙ long;
+      elsewhere = λ k a b d. kept k b d ∙ w .elsewhere k a b d;
+      canister = ⊎-elim (λ e. inl (canister ∙ e)) (λ (a, e). inr (a, canister ∙ e)) (w .canister);
+      tank = inr (h, omega (arith, first, second));
+    }
+
+-- Row i, inside the sheet, whose class stands for canister c and tank t: the class's canister may be written for 255,
+pub canister-alike : (s : List ℕ) (i : ℕ) {c : Canister} {t : ℕ} → equipmentAt s (rowPlace s i) ≡ Fitted c t → rowPlace s i + 24 ≤ length s → u8At s (rowPlace s i + 2) ≡ 255 → Alike s (set s (rowPlace s i + 2) (codeOf c))
+canister-alike s i {c} {t} fitted inside h = alike s _ i c t fitted (canister-written inside h (nothing-written s (rowPlace s i) c t))
+
+-- its tank for 0,
+pub tank-alike : (s : List ℕ) (i : ℕ) {c : Canister} {t : ℕ} → equipmentAt s (rowPlace s i) ≡ Fitted c t → rowPlace s i + 24 ≤ length s → u16At s (rowPlace s i + 6) ≡ 0 → Alike s (set (set s (rowPlace s i + 6) (t % 256)) (rowPlace s i + 7) (t / 256))
+tank-alike s i {c} {t} fitted inside h = alike s _ i c t fitted (tank-written inside h (nothing-written s (rowPlace s i) c t))
+
+-- and both.
+pub both-alike : (s : List ℕ) (i : ℕ) {c : Canister} {t : ℕ} → equipmentAt s (rowPlace s i) ≡ Fitted c t → rowPlace s i + 24 ≤ length s → u8At s (rowPlace s i + 2) ≡ 255 → u16At s (rowPlace s i + 6) ≡ 0 → Alike s (set (set (set s (rowPlace s i + 2) (codeOf c)) (rowPlace s i + 6) (t % 256)) (rowPlace s i + 7) (t / 256))
+both-alike s i {c} {t} fitted inside h k = alike s _ i c t fitted (tank-written inside k (canister-written inside h (nothing-written s (rowPlace s i) c t)))

@@ -1,0 +1,252 @@
+-- What a chain of checks says of a sheet: where it passes every demand is met, and where it refuses, the first demand that is
+-- not met gives the number and the place.
+-- Assumes nothing.
+use mathlib.Core.Bool.{Bool, true, false, not, _&&_, _||_}
+use mathlib.Core.Logic.{_⊎_, inl, inr, ⊎-elim}
+use mathlib.Core.Path.{_≡_, refl, sym}
+use Prim.Native.Nat.{ℕ, suc, zero, _≤_, _<_}
+use native.Mathlib.Decide.{decLe}
+use native.Mathlib.Omega.{arith}
+use borrow.Author.Tests.{ltb-true, ltb-false, lt-ltb, le-ltb, eqb-true, eqb-false, not-true, not-false}
+use lib.Dec.{ltb, eqb}
+use Rattle.bounds.specs.Fraction.{Fraction, _≤ᶠ_, _≤?_}
+use Rattle.bounds.proofs.Order.{test-cases}
+use Rattle.sheet.specs.declared.Check.{Check}
+use Rattle.sheet.specs.declared.Check.the-variants.{Pass, Refused}
+use Rattle.sheet.specs.Check.{refuse, _then_, each}
+
+-- Demands in their order: one with its number and place, one after another, and those on records 0, 1, .. n − 1.
+infixr 5 _next_
+pub data Demands : Type 1 where
+  demand : ℕ → ℕ → Type 0 → Demands
+  _next_ : Demands → Demands → Demands
+  every : ℕ → (ℕ → Demands) → Demands
+
+-- all are met
+abbrev pub Met : Demands → Type 0
+Met (demand number place A) = A
+Met (D next E) = Met D × Met E
+Met (every n f) = (i : ℕ) → i < n → Met (f i)
+
+-- the first that is not met has this number and place: "The first that applies, in table and file order"
+abbrev pub FirstUnmet : ℕ → ℕ → Demands → Type 0
+FirstUnmet n p (demand number place A) = (n ≡ number) × (p ≡ place) × ¬ A
+FirstUnmet n p (D next E) = FirstUnmet n p D ⊎ (Met D × FirstUnmet n p E)
+FirstUnmet n p (every k f) = (i : ℕ) × (i < k) × ((j : ℕ) → j < i → Met (f j)) × FirstUnmet n p (f i)
+
+-- Passing and refusing, for the three ways to put checks together.
+
+-- what holds below n, and at n, holds below n + 1
+pub below-suc : {P : ℕ → Type 0} {n : ℕ} → ((i : ℕ) → i < n → P i) → P n → (i : ℕ) → i < suc n → P i
+below-suc {P} {n} before last i l =
+    elim (decLe n i) [
+      | yes k ↦ let e : i ≡ n = omega arith in rw e last
+      | no k ↦ before i (omega arith)
+    ]
+
+-- a number that does not apply: its condition is false
+pub refuse-pass : (b : Bool) (number place : ℕ) → refuse b number place ≡ Pass → b ≡ false
+unfolding refuse
+refuse-pass true number place h = cc
+refuse-pass false number place h = refl
+
+-- a number that applies is returned with its place, and its condition is true
+pub refuse-refused : (b : Bool) (number place : ℕ) {n p : ℕ} → refuse b number place ≡ Refused n p → (n ≡ number) × (p ≡ place) × (b ≡ true)
+unfolding refuse
+refuse-refused true number place h = (cc, cc, refl)
+refuse-refused false number place h = (cc, cc, cc)
+
+-- both of two checks pass
+pub then-pass : (c d : Check) → c then d ≡ Pass → (c ≡ Pass) × (d ≡ Pass)
+unfolding _then_
+then-pass Pass d h = (refl, h)
+then-pass (Refused number place) d h = (cc, cc)
+
+-- the first refuses, or it passes and the second refuses
+pub then-refused : (c d : Check) {n p : ℕ} → c then d ≡ Refused n p → (c ≡ Refused n p) ⊎ ((c ≡ Pass) × (d ≡ Refused n p))
+unfolding _then_
+then-refused Pass d h = inr (refl, h)
+then-refused (Refused number place) d h = inl h
+
+-- every record passes
+pub each-pass : (f : ℕ → Check) (n : ℕ) → each f n ≡ Pass → (i : ℕ) → i < n → f i ≡ Pass
+unfolding each
+each-pass f zero h i l = absurd (omega arith)
+each-pass f (suc n) h i l =
+    let (before, last) = then-pass (each f n) (f n) h in
+    below-suc {P = λ (k : ℕ). f k ≡ Pass} (each-pass f n before) last i l
+
+-- some record refuses, and all before it pass
+pub each-refused : (f : ℕ → Check) (n : ℕ) {m p : ℕ} → each f n ≡ Refused m p → (i : ℕ) × (i < n) × (each f i ≡ Pass) × (f i ≡ Refused m p)
+unfolding each
+each-refused f zero h = absurd (let z : _≡_ {A = ℕ} 0 1 = cc in omega arith)
+each-refused f (suc n) h =
+    ⊎-elim
+    (λ b. let (i, l, before, here) = each-refused f n b in (i, omega arith, before, here))
+    (λ (before, here). (n, omega arith, before, here))
+    (then-refused (each f n) (f n) h)
+
+-- Checks that judge demands.
+
+-- the test is false where A holds, and true where not
+pub record Tests (wrong : Bool) (A : Type 0) : Type 0 where
+  pub holds : wrong ≡ false → A
+  pub fails : wrong ≡ true → ¬ A
+
+-- the check passes where all demands are met, and else returns the first that is not
+pub record Judges (c : Check) (D : Demands) : Type 0 where
+  pub passes : c ≡ Pass → Met D
+  pub refuses : (n p : ℕ) → c ≡ Refused n p → FirstUnmet n p D
+
+-- one test judges one demand
+pub judges-refuse : {wrong : Bool} {number place : ℕ} {A : Type 0} → Tests wrong A → Judges (refuse wrong number place) (demand number place A)
+judges-refuse {wrong} {number} {place} t = record {
+  passes = λ h. t .holds (refuse-pass wrong number place h);
+  refuses = λ n p h. let (m, q, b) = refuse-refused wrong number place h in (m, q, t .fails b);
+}
+
+-- two checks judge two demands, in this order
+pub judges-then : {c d : Check} {D E : Demands} → Judges c D → Judges d E → Judges (c then d) (D next E)
+judges-then {c} {d} j k = record {
+  passes = λ h. let (a, b) = then-pass c d h in (j .passes a, k .passes b);
+  refuses = λ n p h.
+      ⊎-elim (λ a. inl (j .refuses n p a)) (λ (a, b). inr (j .passes a, k .refuses n p b)) (then-refused c d h);
+}
+
+-- one test, then the rest
+infixr 4 _⊳_
+pub _⊳_ : {wrong : Bool} {number place : ℕ} {A : Type 0} {d : Check} {E : Demands} → Tests wrong A → Judges d E → Judges (refuse wrong number place then d) (demand number place A next E)
+t ⊳ j = judges-then (judges-refuse t) j
+
+-- one check for each record judges one demand for each
+pub judges-each : {f : ℕ → Check} {g : ℕ → Demands} (n : ℕ) → ((i : ℕ) → Judges (f i) (g i)) → Judges (each f n) (every n g)
+judges-each {f} n j = record {
+  passes = λ h i l. j i .passes (each-pass f n h i l);
+  refuses = λ m p h.
+      let (i, l, before, here) = each-refused f n h in
+      (i, l, (λ k b. j k .passes (each-pass f i before k b)), j i .refuses m p here);
+}
+
+-- a first demand that is not met is not met
+unmet-not-met : (n p : ℕ) (D : Demands) → FirstUnmet n p D → Met D → ⊥
+unmet-not-met n p (demand number place A) (m, q, fails) met = fails met
+unmet-not-met n p (D next E) u met =
+    ⊎-elim (λ a. unmet-not-met n p D a (met .0)) (λ (m, a). unmet-not-met n p E a (met .1)) u
+unmet-not-met n p (every k f) (i, l, before, a) met = unmet-not-met n p (f i) a (met i l)
+
+-- the check passes where all demands are met
+pub met-passes : (c : Check) {D : Demands} → Judges c D → Met D → c ≡ Pass
+met-passes Pass j met = refl
+met-passes (Refused n p) {D} j met = absurd (unmet-not-met n p D (j .refuses n p refl) met)
+
+-- From the number alone to its demand.
+
+-- the first number, and one past the last, where numbers rise
+abbrev pub least : Demands → ℕ
+least (demand number place A) = number
+least (D next E) = least D
+least (every n f) = least (f 0)
+
+abbrev pub top : Demands → ℕ
+top (demand number place A) = suc number
+top (D next E) = top E
+top (every n f) = top (f 0)
+
+-- the numbers run on, the same for every record
+abbrev pub Rising : Demands → Type 0
+Rising (demand number place A) = Unit
+Rising (D next E) = (top D ≡ least E) × Rising D × Rising E
+Rising (every n f) = (i : ℕ) → (least (f i) ≡ least (f 0)) × (top (f i) ≡ top (f 0)) × Rising (f i)
+
+abbrev pub choose : Bool → Type 0 → Type 0 → Type 0
+choose true A B = A
+choose false A B = B
+
+-- the demand of this number is not met at this place, and all before it are; at a numeral this computes to that demand
+abbrev pub Unmet : ℕ → ℕ → Demands → Type 0
+Unmet n p (demand number place A) = (n ≡ number) × (p ≡ place) × ¬ A
+Unmet n p (D next E) = choose (ltb n (top D)) (Unmet n p D) (Met D × Unmet n p E)
+Unmet n p (every k f) = (i : ℕ) × (i < k) × ((j : ℕ) → j < i → Met (f j)) × Unmet n p (f i)
+
+least-below-top : (D : Demands) → Rising D → least D < top D
+least-below-top (demand number place A) r = omega arith
+least-below-top (D next E) r = omega (arith, least-below-top D (r .1), least-below-top E (r .2), r .0)
+least-below-top (every n f) r = least-below-top (f 0) (r 0 .2)
+
+number-between : (n p : ℕ) (D : Demands) → Rising D → FirstUnmet n p D → (least D ≤ n) × (n < top D)
+number-between n p (demand number place A) r u = (omega arith, omega arith)
+number-between n p (D next E) r u =
+    ⊎-elim (λ a. let h = number-between n p D (r .1) a in let k = least-below-top E (r .2) in (h .0, omega (arith, r .0)))
+    (λ (m, a). let h = number-between n p E (r .2) a in let k = least-below-top D (r .1) in (omega (arith, r .0), h .1)) u
+number-between n p (every k f) r (i, l, before, a) =
+    let h = number-between n p (f i) (r i .2) a in
+    (omega (arith, r i .0), omega (arith, r i .1))
+
+-- the first demand that is not met is the one of its number
+pub unmet : (n p : ℕ) (D : Demands) → Rising D → FirstUnmet n p D → Unmet n p D
+unmet n p (demand number place A) r u = u
+unmet n p (D next E) r u =
+    ⊎-elim
+    (λ a. rw (lt-ltb n (top D) (number-between n p D (r .1) a .1)) (unmet n p D (r .1) a))
+    (λ (m, a). rw (le-ltb n (top D) (omega (arith, r .0, number-between n p E (r .2) a .0))) (m, unmet n p E (r .2) a)) u
+unmet n p (every k f) r (i, l, before, a) = (i, l, before, unmet n p (f i) (r i .2) a)
+
+-- the demand of this number is not met at this place
+abbrev pub Broken : ℕ → ℕ → Demands → Type 0
+Broken n p (demand number place A) = (p ≡ place) × ¬ A
+Broken n p (D next E) = choose (ltb n (top D)) (Broken n p D) (Broken n p E)
+Broken n p (every k f) = (i : ℕ) × (i < k) × Broken n p (f i)
+
+choose-cong : (b : Bool) {A B C D : Type 0} → (A → C) → (B → D) → choose b A B → choose b C D
+choose-cong true f g x = f x
+choose-cong false f g y = g y
+
+-- so it is, where also all before it are met
+pub broken : (n p : ℕ) (D : Demands) → Unmet n p D → Broken n p D
+broken n p (demand number place A) (m, q, fails) = (q, fails)
+broken n p (D next E) u = choose-cong (ltb n (top D)) (broken n p D) (λ (m, a). broken n p E a) u
+broken n p (every k f) (i, l, before, a) = (i, l, broken n p (f i) a)
+
+-- Tests and what they demand.
+
+pub true-is-not-false : true ≡ false → ⊥
+true-is-not-false e = let z : _≡_ {A = ℕ} 0 1 = cc in omega arith
+
+-- the test is true where A holds, and false where not
+pub record Shows (right : Bool) (A : Type 0) : Type 0 where
+  pub shown : right ≡ true → A
+  pub denied : right ≡ false → ¬ A
+
+-- the test x < y demands y ≤ x
+pub ltb-tests : (x y : ℕ) → Tests (ltb x y) (y ≤ x)
+ltb-tests x y = record { holds = ltb-false x y; fails = λ t l. omega (arith, ltb-true x y t) }
+
+-- either of two tests demands what both demand
+pub ||-tests : {b c : Bool} {A B : Type 0} → Tests b A → Tests c B → Tests (b || c) (A × B)
+||-tests {b = true} s t = record { holds = λ e. absurd (true-is-not-false e); fails = λ e (x, y). s .fails refl x }
+||-tests {b = false} s t = record { holds = λ e. (s .holds refl, t .holds e); fails = λ e (x, y). t .fails e y }
+
+-- both of two tests demand what either demands
+pub &&-tests : {b c : Bool} {A B : Type 0} → Tests b A → Tests c B → Tests (b && c) (A ⊎ B)
+&&-tests {b = true} s t = record { holds = λ e. inr (t .holds e); fails = λ e. ⊎-elim (s .fails refl) (t .fails e) }
+&&-tests {b = false} s t = record { holds = λ e. inl (s .holds refl); fails = λ e. absurd (true-is-not-false (sym e)) }
+
+-- a demand in other words
+pub tests-as : {b : Bool} {A B : Type 0} → (A → B) → (B → A) → Tests b A → Tests b B
+tests-as to from t = record { holds = λ e. to (t .holds e); fails = λ e y. t .fails e (from y) }
+
+-- that a test does not hold demands what it shows
+pub not-tests : {b : Bool} {A : Type 0} → Shows b A → Tests (not b) A
+not-tests {b} s = record { holds = λ e. s .shown (not-false b e); fails = λ e. s .denied (not-true b e) }
+
+pub eqb-shows : (x y : ℕ) → Shows (eqb x y) (x ≡ y)
+eqb-shows x y = record { shown = eqb-true x y; denied = eqb-false x y }
+
+pub ≤-shows : (x y : Fraction) → Shows (x ≤? y) (x ≤ᶠ y)
+≤-shows x y =
+    test-cases (λ (c : Bool). Shows c (x ≤ᶠ y)) x y (λ h. record { shown = λ _. h; denied = λ e. absurd (true-is-not-false e) })
+    (λ n. record { shown = λ e. absurd (true-is-not-false (sym e)); denied = λ _. n })
+
+pub &&-shows : {b c : Bool} {A B : Type 0} → Shows b A → Shows c B → Shows (b && c) (A × B)
+&&-shows {b = true} s t = record { shown = λ e. (s .shown refl, t .shown e); denied = λ e (x, y). t .denied e y }
+&&-shows {b = false} s t = record { shown = λ e. absurd (true-is-not-false (sym e)); denied = λ e (x, y). s .denied refl x }

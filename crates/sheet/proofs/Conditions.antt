@@ -1,0 +1,286 @@
+-- "Where a sheet stops", numbers 1 to 21 of document 01 as demands in plain arithmetic, each with its place: a sheet is accepted
+-- where all are met, and else the first that is not met gives the number and the place.
+-- Assumes nothing.
+use mathlib.Core.Bool.{Bool}
+use mathlib.Core.List.{List}
+use mathlib.Core.Logic.{_⊎_}
+use mathlib.Core.Path.{_≡_, refl, sym}
+use Prim.Native.Nat.{ℕ, suc, zero, _+_, _*_, _≤_, _<_}
+use native.Mathlib.Omega.{arith}
+use lib.ListN.{length}
+use Rattle.bounds.specs.Fraction.{Fraction, _≤ᶠ_, _+ᶠ_, negᶠ, _*ᶠ_, whole, _/10^_}
+use Rattle.exact.specs.declared.Canister.{Canister}
+use Rattle.exact.specs.declared.Canister.the-variants.{None, Small, Medium, Large}
+use Rattle.exact.specs.declared.Equipment.{Equipment}
+use Rattle.exact.specs.declared.Equipment.the-variants.{Absent, Fitted}
+use Rattle.exact.specs.declared.Season.{Season}
+use Rattle.exact.specs.declared.Row.{Row}
+use Rattle.exact.specs.Day.{signedTenths}
+use Rattle.exact.specs.Canister.{a, b}
+use Rattle.exact.specs.Factors.{total}
+use Rattle.sheet.specs.declared.Check.the-variants.{Pass, Refused}
+use Rattle.sheet.specs.Limits.{seasonsLimit, rowsLimit, countsLimit, daysLimit, coldLimit, warmLimit, vpLeast, vpLimit, percentLimit, tankLimit, vehiclesLimit, tripsLimit, minutesLimit}
+use Rattle.sheet.specs.Bytes.{u8At, u16At, versionOf, seasonsOf, rowsOf, durationCounts, hourCounts, seasonPlace, rowPlace, seasonAt, rowAt, equipmentAt}
+use Rattle.sheet.specs.Sheet.{outside, lettersMissing, headCheck, lengthCheck, parkingCheck, daysBefore, temperaturesWrong, seasonCheck, isAbsent, codeWrong, percentWrong, loadWrong, above3, saturationWrong, someSeason, rowCheck, sheetCheck}
+use Rattle.sheet.proofs.Checks.{Demands, demand, _next_, every, Tests, Judges, Rising, Met, Unmet, unmet, Broken, broken, met-passes, true-is-not-false, below-suc, judges-refuse, judges-then, judges-each, _⊳_, ltb-tests, ||-tests, &&-tests, tests-as, not-tests, eqb-shows, ≤-shows, &&-shows}
+
+-- Head | 1 under 8 bytes; 2 mark; 3 version; 4 S; 5 R; 6 byte 7 | 0; 0; 3; 5; 6; 7
+abbrev pub headDemands : List ℕ → Demands
+headDemands s =
+    demand 1 0 (8 ≤ length s) next
+    demand 2 0 (((u8At s 0 ≡ 0x45) × (u8At s 1 ≡ 0x56)) × (u8At s 2 ≡ 0x50)) next
+    demand 3 3 (versionOf s ≡ 1) next
+    demand 4 5 ((1 ≤ seasonsOf s) × (seasonsOf s ≤ seasonsLimit)) next
+    demand 5 6 ((1 ≤ rowsOf s) × (rowsOf s ≤ rowsLimit)) next
+    demand 6 7 (u8At s 7 ≡ 0)
+
+-- Length | 7 not 104 + 8S + 24R | 0
+abbrev pub lengthDemand : List ℕ → Demands
+lengthDemand s = demand 7 0 (length s ≡ 104 + 8 * seasonsOf s + 24 * rowsOf s)
+
+-- Parking | 8 duration sum; 9 hour sum | 8; 56
+abbrev pub parkingDemands : List ℕ → Demands
+parkingDemands s =
+    demand 8 8 ((1 ≤ total (durationCounts s)) × (total (durationCounts s) ≤ countsLimit)) next
+    demand 9 56 ((1 ≤ total (hourCounts s)) × (total (hourCounts s) ≤ countsLimit))
+
+-- Each season | 10 days or their running sum; 11 temperatures; 12 vp | record start
+abbrev pub seasonDemands : List ℕ → ℕ → Demands
+seasonDemands s i =
+    let season = seasonAt s i in
+    let place = seasonPlace s i in
+    let lowest = signedTenths (season .lowest) in
+    let highest = signedTenths (season .highest) in
+    demand 10 place (((1 ≤ season .days) × (season .days ≤ daysLimit)) × (daysBefore s i + season .days ≤ daysLimit)) next
+    demand 11 place (((negᶠ (coldLimit /10^ 1) ≤ᶠ lowest) × (lowest ≤ᶠ highest)) × (highest ≤ᶠ warmLimit /10^ 1)) next
+    demand 12 place ((vpLeast ≤ season .vp) × (season .vp ≤ vpLimit))
+
+-- "s = 2, 1, 0.5 for small, medium, large"
+abbrev pub Size : Canister → Fraction → Type 0
+Size None s = ⊥
+Size Small s = s ≡ whole 2
+Size Medium s = s ≡ whole 1
+Size Large s = s ≡ 5 /10^ 1
+
+-- a + b·s·m at temperature T, for a canister of size s and its load m
+abbrev pub exponentAt : Season → Fraction → Fraction → Fraction → Fraction
+exponentAt season T s m =
+    let vp = season .vp /10^ 1 in
+    a vp T +ᶠ b vp T *ᶠ s *ᶠ m
+
+-- at the season's highest temperature, a + b·s·m_sat ≤ 3
+abbrev pub AtMost3 : Season → Fraction → ℕ → Type 0
+AtMost3 season s saturation = exponentAt season (signedTenths (season .highest)) s (saturation /10^ 1) ≤ᶠ whole 3
+
+-- Each row | 13 class and technology not in the table; 14 canister code; 15 a percent; 16 vehicles; 17 tank; 18 trips or
+-- minutes; 19 load above m_sat, or a load or m_sat with no canister; 20 in some season, at its highest temperature,
+-- a + b·s·m_sat above 3; 21 bytes 20 to 23 | record start
+abbrev pub rowDemands : List ℕ → ℕ → Demands
+rowDemands s i =
+    let row = rowAt s i in
+    let place = rowPlace s i in
+    let code = u8At s (place + 2) in
+    demand 13 place (¬ (equipmentAt s place ≡ Absent)) next
+    demand 14 place ((code ≤ 3) ⊎ (code ≡ 255)) next
+    demand 15 place (((row .carburettor ≤ percentLimit) × (row .hot ≤ percentLimit)) × (row .fill ≤ percentLimit)) next
+    demand 16 place (row .vehicles ≤ vehiclesLimit) next
+    demand 17 place (u16At s (place + 6) ≤ tankLimit) next
+    demand 18 place ((row .trips ≤ tripsLimit) × (row .minutes ≤ minutesLimit)) next
+    demand 19 place ((row .load ≤ row .saturation) × (row .canister ≡ None → row .saturation ≡ 0)) next
+    demand 20 place ((j : ℕ) → j < seasonsOf s → (size : Fraction) → Size (row .canister) size → AtMost3 (seasonAt s j) size (row .saturation)) next
+    demand 21 place (row .reserved ≡ 0)
+
+-- "records one after another", in table and file order
+abbrev pub demands : List ℕ → Demands
+demands s =
+    headDemands s next
+    lengthDemand s next
+    parkingDemands s next
+    every (seasonsOf s) (seasonDemands s) next
+    every (rowsOf s) (rowDemands s)
+
+-- a number outside least to most
+outside-tests : (least most x : ℕ) → Tests (outside least most x) ((least ≤ x) × (x ≤ most))
+unfolding outside
+outside-tests least most x = ||-tests (ltb-tests x least) (ltb-tests most x)
+
+-- what headCheck judges
+pub head-judged : (s : List ℕ) → Judges (headCheck s) (headDemands s)
+unfolding headCheck lettersMissing
+head-judged s =
+    ltb-tests _ _ ⊳
+    not-tests (&&-shows (&&-shows (eqb-shows _ _) (eqb-shows _ _)) (eqb-shows _ _)) ⊳
+    not-tests (eqb-shows _ _) ⊳
+    outside-tests _ _ _ ⊳
+    outside-tests _ _ _ ⊳
+    judges-refuse (not-tests (eqb-shows _ _))
+
+-- lengthCheck
+pub length-judged : (s : List ℕ) → Judges (lengthCheck s) (lengthDemand s)
+unfolding lengthCheck
+length-judged s = judges-refuse (not-tests (eqb-shows _ _))
+
+-- parkingCheck
+pub parking-judged : (s : List ℕ) → Judges (parkingCheck s) (parkingDemands s)
+unfolding parkingCheck
+parking-judged s = outside-tests _ _ _ ⊳ judges-refuse (outside-tests _ _ _)
+
+-- seasonCheck
+pub season-judged : (s : List ℕ) (i : ℕ) → Judges (seasonCheck s i) (seasonDemands s i)
+unfolding seasonCheck temperaturesWrong
+season-judged s i =
+    ||-tests (outside-tests _ _ _) (ltb-tests _ _) ⊳
+    not-tests (&&-shows (&&-shows (≤-shows _ _) (≤-shows _ _)) (≤-shows _ _)) ⊳
+    judges-refuse (outside-tests _ _ _)
+
+-- 13: a pair that is in the table
+absent-tests : (e : Equipment) → Tests (isAbsent e) (¬ (e ≡ Absent))
+unfolding isAbsent
+absent-tests Absent = record { holds = λ e. absurd (true-is-not-false e); fails = λ _ n. n refl }
+absent-tests (Fitted c tank) = record { holds = λ _ e. let z : _≡_ {A = ℕ} 0 1 = cc in omega arith; fails = λ e. absurd (true-is-not-false (sym e)) }
+
+-- 14: a code of 0 to 3, or 255
+code-tests : (code : ℕ) → Tests (codeWrong code) ((code ≤ 3) ⊎ (code ≡ 255))
+unfolding codeWrong
+code-tests code = &&-tests (ltb-tests 3 code) (not-tests (eqb-shows code 255))
+
+-- 19: a load up to m_sat, and m_sat 0 with no canister
+load-tests : (c : Canister) (load saturation : ℕ) → Tests (loadWrong c load saturation) ((load ≤ saturation) × (c ≡ None → saturation ≡ 0))
+unfolding loadWrong
+load-tests None load saturation =
+    tests-as (λ (h, k). (omega arith, λ _. omega arith)) (λ (h, k). let z : saturation ≡ 0 = k refl in (omega arith, omega arith))
+    (||-tests (ltb-tests 0 load) (ltb-tests 0 saturation))
+load-tests Small load saturation = tests-as (λ h. (h, λ e. cc)) (λ (h, k). h) (ltb-tests saturation load)
+load-tests Medium load saturation = tests-as (λ h. (h, λ e. cc)) (λ (h, k). h) (ltb-tests saturation load)
+load-tests Large load saturation = tests-as (λ h. (h, λ e. cc)) (λ (h, k). h) (ltb-tests saturation load)
+
+-- 20 in one season, for one size
+above3-tests : (season : Season) (s : Fraction) (saturation : ℕ) → Tests (above3 season s saturation) ((size : Fraction) → size ≡ s → AtMost3 season size saturation)
+unfolding above3
+above3-tests season s saturation = tests-as (λ h size e. rw e h) (λ f. f s refl) (not-tests (≤-shows _ _))
+
+-- and for the size of the canister, if there is one
+saturation-tests : (c : Canister) (saturation : ℕ) (season : Season) → Tests (saturationWrong c saturation season) ((size : Fraction) → Size c size → AtMost3 season size saturation)
+unfolding saturationWrong
+saturation-tests None saturation season = record { holds = λ _ size n. absurd n; fails = λ e. absurd (true-is-not-false (sym e)) }
+saturation-tests Small saturation season = above3-tests season (whole 2) saturation
+saturation-tests Medium saturation season = above3-tests season (whole 1) saturation
+saturation-tests Large saturation season = above3-tests season (5 /10^ 1) saturation
+
+-- a test at some season demands the same of every season
+some-tests : {P : Season → Type 0} (wrong : Season → Bool) → ((season : Season) → Tests (wrong season) (P season)) → (s : List ℕ) (n : ℕ) → Tests (someSeason wrong s n) ((j : ℕ) → j < n → P (seasonAt s j))
+unfolding someSeason
+some-tests wrong t s zero =
+    record { holds = λ _ j l. absurd (omega arith); fails = λ e. absurd (true-is-not-false (sym e)) }
+some-tests {P} wrong t s (suc n) =
+    tests-as (λ (before, last). below-suc {P = λ (j : ℕ). P (seasonAt s j)} before last)
+    (λ f. ((λ j l. f j (omega arith)), f n (omega arith)))
+    (||-tests (some-tests wrong t s n) (t (seasonAt s n)))
+
+-- rowCheck
+pub row-judged : (s : List ℕ) (i : ℕ) → Judges (rowCheck s i) (rowDemands s i)
+unfolding rowCheck percentWrong
+row-judged s i =
+    absent-tests _ ⊳
+    code-tests _ ⊳
+    ||-tests (||-tests (ltb-tests _ _) (ltb-tests _ _)) (ltb-tests _ _) ⊳
+    ltb-tests _ _ ⊳
+    ltb-tests _ _ ⊳
+    ||-tests (ltb-tests _ _) (ltb-tests _ _) ⊳
+    load-tests _ _ _ ⊳
+    some-tests _ (saturation-tests _ _) _ _ ⊳
+    judges-refuse (not-tests (eqb-shows _ _))
+
+-- a sheet is accepted where all demands are met, and else refused with the number and the place of the first that is not
+pub sheet-judged : (s : List ℕ) → Judges (sheetCheck s) (demands s)
+unfolding sheetCheck
+sheet-judged s =
+    judges-then (head-judged s)
+    (judges-then (length-judged s)
+    (judges-then (parking-judged s)
+    (judges-then (judges-each (seasonsOf s) (season-judged s)) (judges-each (rowsOf s) (row-judged s)))))
+
+-- the numbers 1 to 21 run on
+rising : (s : List ℕ) → Rising (demands s)
+rising s = (
+  refl,
+  (refl, tt, (refl, tt, (refl, tt, (refl, tt, (refl, tt, tt))))),
+  (
+    refl,
+    tt,
+    (
+      refl,
+      (refl, tt, tt),
+      (refl, (λ i. (refl, refl, (refl, tt, (refl, tt, tt)))), (λ i. (refl, refl, (refl, tt, (refl, tt, (refl, tt, (refl, tt, (refl, tt, (refl, tt, (refl, tt, (refl, tt, tt))))))))))),
+    ),
+  ),
+)
+
+-- a sheet is accepted where all demands are met
+pub met-accepted : (s : List ℕ) → Met (demands s) → sheetCheck s ≡ Pass
+met-accepted s met = met-passes (sheetCheck s) (sheet-judged s) met
+
+-- a number is returned only where its demand is not met, and all before it are: at each numeral 1 to 21 this computes to the
+-- line of that number in the tables above, with its place, and those before it
+pub refused : (s : List ℕ) (n p : ℕ) → sheetCheck s ≡ Refused n p → Unmet n p (demands s)
+refused s n p h = unmet n p (demands s) (rising s) (sheet-judged s .refuses n p h)
+
+-- in some season, whose record starts at p, this does not hold of it and of the days before it
+abbrev pub NotInSeason : List ℕ → ℕ → (Season → ℕ → Type 0) → Type 0
+NotInSeason s p A = (i : ℕ) × (i < seasonsOf s) × ((p ≡ 104 + 8 * i) × ¬ A (seasonAt s i) (daysBefore s i))
+
+-- in some row, whose record starts at p, this does not hold of it and of its place
+abbrev pub NotInRow : List ℕ → ℕ → (Row → ℕ → Type 0) → Type 0
+NotInRow s p A = (i : ℕ) × (i < rowsOf s) × ((p ≡ 104 + 8 * seasonsOf s + 24 * i) × ¬ A (rowAt s i) (rowPlace s i))
+
+-- for each number 1 to 21, what a refusal with it says of the sheet and of its place, with the numbers of document 01
+pub record Conditions (s : List ℕ) (p : ℕ) : Type 0 where
+  pub short : sheetCheck s ≡ Refused 1 p → (p ≡ 0) × ¬ (8 ≤ length s)
+  pub mark : sheetCheck s ≡ Refused 2 p → (p ≡ 0) × ¬ (((u8At s 0 ≡ 0x45) × (u8At s 1 ≡ 0x56)) × (u8At s 2 ≡ 0x50))
+  pub version : sheetCheck s ≡ Refused 3 p → (p ≡ 3) × ¬ (u16At s 3 ≡ 1)
+  pub seasons : sheetCheck s ≡ Refused 4 p → (p ≡ 5) × ¬ ((1 ≤ u8At s 5) × (u8At s 5 ≤ 12))
+  pub rows : sheetCheck s ≡ Refused 5 p → (p ≡ 6) × ¬ ((1 ≤ u8At s 6) × (u8At s 6 ≤ 32))
+  pub byte-7 : sheetCheck s ≡ Refused 6 p → (p ≡ 7) × ¬ (u8At s 7 ≡ 0)
+  pub length-wrong : sheetCheck s ≡ Refused 7 p → (p ≡ 0) × ¬ (length s ≡ 104 + 8 * seasonsOf s + 24 * rowsOf s)
+  pub durations : sheetCheck s ≡ Refused 8 p → (p ≡ 8) × ¬ ((1 ≤ total (durationCounts s)) × (total (durationCounts s) ≤ 1000))
+  pub hours : sheetCheck s ≡ Refused 9 p → (p ≡ 56) × ¬ ((1 ≤ total (hourCounts s)) × (total (hourCounts s) ≤ 1000))
+  pub days : sheetCheck s ≡ Refused 10 p → NotInSeason s p (λ (season : Season) (before : ℕ). ((1 ≤ season .days) × (season .days ≤ 366)) × (before + season .days ≤ 366))
+  pub temperatures : sheetCheck s ≡ Refused 11 p → NotInSeason s p (λ (season : Season) (before : ℕ). ((negᶠ (300 /10^ 1) ≤ᶠ signedTenths (season .lowest)) × (signedTenths (season .lowest) ≤ᶠ signedTenths (season .highest))) × (signedTenths (season .highest) ≤ᶠ 500 /10^ 1))
+  pub vapour-pressure : sheetCheck s ≡ Refused 12 p → NotInSeason s p (λ (season : Season) (before : ℕ). (300 ≤ season .vp) × (season .vp ≤ 1100))
+  pub class-technology : sheetCheck s ≡ Refused 13 p → NotInRow s p (λ (row : Row) (place : ℕ). ¬ (equipmentAt s place ≡ Absent))
+  pub canister-code : sheetCheck s ≡ Refused 14 p → NotInRow s p (λ (row : Row) (place : ℕ). (u8At s (place + 2) ≤ 3) ⊎ (u8At s (place + 2) ≡ 255))
+  pub percents : sheetCheck s ≡ Refused 15 p → NotInRow s p (λ (row : Row) (place : ℕ). ((row .carburettor ≤ 100) × (row .hot ≤ 100)) × (row .fill ≤ 100))
+  pub vehicles : sheetCheck s ≡ Refused 16 p → NotInRow s p (λ (row : Row) (place : ℕ). row .vehicles ≤ 10000000)
+  pub tank : sheetCheck s ≡ Refused 17 p → NotInRow s p (λ (row : Row) (place : ℕ). u16At s (place + 6) ≤ 1500)
+  pub trips-minutes : sheetCheck s ≡ Refused 18 p → NotInRow s p (λ (row : Row) (place : ℕ). (row .trips ≤ 2000) × (row .minutes ≤ 1440))
+  pub loads : sheetCheck s ≡ Refused 19 p → NotInRow s p (λ (row : Row) (place : ℕ). (row .load ≤ row .saturation) × (row .canister ≡ None → row .saturation ≡ 0))
+  pub saturation : sheetCheck s ≡ Refused 20 p → NotInRow s p (λ (row : Row) (place : ℕ). (j : ℕ) → j < seasonsOf s → (size : Fraction) → Size (row .canister) size → AtMost3 (seasonAt s j) size (row .saturation))
+  pub bytes-20-to-23 : sheetCheck s ≡ Refused 21 p → NotInRow s p (λ (row : Row) (place : ℕ). row .reserved ≡ 0)
+
+-- "Only where its condition holds"
+pub conditions : (s : List ℕ) (p : ℕ) → Conditions s p
+conditions s p =
+    let only : (n : ℕ) → sheetCheck s ≡ Refused n p → Broken n p (demands s) = λ n h. broken n p (demands s) (refused s n p h) in
+    record {
+      short = only 1;
+      mark = only 2;
+      version = only 3;
+      seasons = only 4;
+      rows = only 5;
+      byte-7 = only 6;
+      length-wrong = only 7;
+      durations = only 8;
+      hours = only 9;
+      days = only 10;
+      temperatures = only 11;
+      vapour-pressure = only 12;
+      class-technology = only 13;
+      canister-code = only 14;
+      percents = only 15;
+      vehicles = only 16;
+      tank = only 17;
+      trips-minutes = only 18;
+      loads = only 19;
+      saturation = only 20;
+      bytes-20-to-23 = only 21;
+    }
