@@ -1,0 +1,84 @@
+-- The lesser of two values and the excess of one over the other, and their enclosures.
+-- Assumes nothing.
+use mathlib.Core.Bool.{Bool, true, false}
+use Prim.Native.Nat.{ℕ, _+_, _-_, _≤_, _<_, min}
+use native.Mathlib.Omega.{arith}
+use native.Mathlib.Decide.{decLe}
+use native.Mathlib.Nat.{mul-le-mul-right}
+use Rattle.bounds.specs.Fraction.{Fraction, _≤ᶠ_, _≤?_, _-ᶠ_, whole}
+use Rattle.bounds.specs.Enclosure.{Within}
+use Rattle.bounds.proofs.Order.{nonNegative→≤, test-cases, not-≤→<, <→≤, ≤-refl, ≤-trans, ≈→≥, +-zero, sub-mono, sub-nonNegative, ≤-sub, ratio-≤}
+use Rattle.bounds.proofs.Within.{weaken, within-above, within-below, within-from, within-cross, whole-within, sub-within}
+
+-- min(x, y)
+unfoldable pub lesser : Fraction → Fraction → Fraction
+lesser x y = elim (x ≤? y) [ true ↦ x | false ↦ y ]
+
+-- max(0, x − y)
+unfoldable pub excess : Fraction → Fraction → Fraction
+excess x y = elim (x ≤? y) [ true ↦ whole 0 | false ↦ x -ᶠ y ]
+
+-- min(x, y) ≤ x
+pub lesser-left : (x y : Fraction) → lesser x y ≤ᶠ x
+unfolding lesser
+lesser-left x y =
+    test-cases (λ (c : Bool). (elim c [ true ↦ x | false ↦ y ]) ≤ᶠ x) x y (λ _. ≤-refl x) (λ h. <→≤ (not-≤→< h))
+
+-- min(x, y) ≤ y
+pub lesser-right : (x y : Fraction) → lesser x y ≤ᶠ y
+unfolding lesser
+lesser-right x y = test-cases (λ (c : Bool). (elim c [ true ↦ x | false ↦ y ]) ≤ᶠ y) x y (λ h. h) (λ _. ≤-refl y)
+
+-- what is at most both is at most the lesser
+pub lesser-greatest : {x y z : Fraction} → z ≤ᶠ x → z ≤ᶠ y → z ≤ᶠ lesser x y
+unfolding lesser
+lesser-greatest {x} {y} {z} h k = test-cases (λ (c : Bool). z ≤ᶠ (elim c [ true ↦ x | false ↦ y ])) x y (λ _. h) (λ _. k)
+
+-- 0 ≤ max(0, x − y)
+pub excess-nonNegative : (x y : Fraction) → whole 0 ≤ᶠ excess x y
+unfolding excess
+excess-nonNegative x y =
+    test-cases (λ (c : Bool). whole 0 ≤ᶠ (elim c [ true ↦ whole 0 | false ↦ x -ᶠ y ])) x y (λ _. ≤-refl (whole 0))
+    (λ h. nonNegative→≤ (sub-nonNegative (<→≤ (not-≤→< h))))
+
+-- x − y ≤ max(0, x − y)
+pub excess-above : (x y : Fraction) → x -ᶠ y ≤ᶠ excess x y
+unfolding excess
+excess-above x y =
+    test-cases (λ (c : Bool). x -ᶠ y ≤ᶠ (elim c [ true ↦ whole 0 | false ↦ x -ᶠ y ])) x y
+    (λ h. ≤-sub y (whole 0) (≤-trans h (≈→≥ (+-zero y)))) (λ _. ≤-refl (x -ᶠ y))
+
+-- what is at least 0 and x − y is at least the excess
+pub excess-least : (x y : Fraction) {z : Fraction} → whole 0 ≤ᶠ z → x -ᶠ y ≤ᶠ z → excess x y ≤ᶠ z
+unfolding excess
+excess-least x y {z} h k =
+    test-cases (λ (c : Bool). (elim c [ true ↦ whole 0 | false ↦ x -ᶠ y ]) ≤ᶠ z) x y (λ _. h) (λ _. k)
+
+-- the excess grows with x
+pub excess-mono : {x x' : Fraction} (y : Fraction) → x ≤ᶠ x' → excess x y ≤ᶠ excess x' y
+excess-mono {x} {x'} y h =
+    excess-least x y (excess-nonNegative x' y) (≤-trans (sub-mono h (≤-refl y)) (excess-above x' y))
+
+-- Enclosures.
+
+-- min(x, y)
+pub lesser-within : {s l w m v u : ℕ} {x y : Fraction} (p : 0 < s) → Within s l w x → Within s m v y → min (l + w) (m + v) ≤ min l m + u
+    → Within s (min l m) u (lesser x y)
+lesser-within {s} {l} {w} {m} {v} {u} {x} {y} p a b h =
+    within-from p
+    (lesser-greatest (≤-trans (ratio-≤ _ _ p p (mul-le-mul-right s (omega arith))) (within-above p a))
+    (≤-trans (ratio-≤ _ _ p p (mul-le-mul-right s (omega arith))) (within-above p b)))
+    (elim (decLe (l + w) (m + v)) [
+      | yes k ↦ ≤-trans (lesser-left x y) (≤-trans (within-below p a) (ratio-≤ _ _ p p (mul-le-mul-right s (omega arith))))
+      | no k ↦ ≤-trans (lesser-right x y) (≤-trans (within-below p b) (ratio-≤ _ _ p p (mul-le-mul-right s (omega arith))))
+    ])
+
+-- max(0, x − y)
+pub excess-within : {s l w m v : ℕ} {x y : Fraction} → Within s l w x → Within s m v y → Within s (l - m - v) (w + v) (excess x y)
+unfolding excess
+excess-within {s} {l} {w} {m} {v} {x} {y} a b =
+    test-cases (λ (c : Bool). Within s (l - m - v) (w + v) (elim c [ true ↦ whole 0 | false ↦ x -ᶠ y ])) x y
+    (λ h.
+    let g : l ≤ m + v = within-cross a b h in
+    weaken (whole-within s 0) (omega arith) (omega arith))
+    (λ h. sub-within (<→≤ (not-≤→< h)) a b)

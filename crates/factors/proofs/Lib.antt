@@ -1,0 +1,9 @@
+pub mod Gain
+pub mod Breakthrough
+pub mod Canister
+pub mod Mean
+pub mod Escape
+pub mod Losses
+pub mod FactorBound
+pub mod Sizes
+pub mod Excess

@@ -1,0 +1,226 @@
+-- How large the computed values are, for every accepted season and row, so that nothing overflows.
+-- Assumes nothing.
+use mathlib.Core.Bool.{Bool, true, false}
+use mathlib.Core.List.{List}
+use Prim.Native.Nat.{ℕ, _+_, _*_, _^_, _/_, _≤_, _<_, min}
+use native.Mathlib.Omega.{arith}
+use native.Mathlib.Nat.{mul-le-mul, div-le-of-le-mul, le-of-lt}
+use lib.Dec.{leb}
+use lib.ListN.{take}
+use Rattle.bounds.specs.Fraction.{_≤ᶠ_, _/10^_}
+use Rattle.bounds.specs.Exponential.{exponential, exponent}
+use Rattle.bounds.proofs.ExponentialBound.{exponential-within}
+use Rattle.exact.specs.declared.Canister.{Canister}
+use Rattle.exact.specs.declared.Canister.the-variants.{None, Small, Medium, Large}
+use Rattle.exact.specs.declared.Season.{Season}
+use Rattle.exact.specs.declared.Row.{Row}
+use Rattle.exact.specs.Factors.{Factor, F1, F2, F3, F4, F5, F6, F7, endHour, duration, total}
+use Rattle.marks.specs.Range.{SeasonInRange}
+use Rattle.marks.specs.Marks.{held, stepAt, raise, tenths, rate, passed}
+use Rattle.marks.proofs.Most.{within-most}
+use Rattle.marks.proofs.Season.{held-most}
+use Rattle.marks.proofs.Heat.{raise-most}
+use Rattle.marks.proofs.Rise.{rise-most}
+use Rattle.marks.proofs.Permeation.{rate-most, rates-most}
+use Rattle.factors.specs.Range.{RowInRange}
+use Rattle.factors.specs.Means.{weighted, meanUnits}
+use Rattle.factors.specs.Escape.{halves, tenthGrams, base, growth, loss, breakUnits}
+use Rattle.factors.specs.Factors.{startOf, endOf, vapourUnits, throughUnits, escapeUnits, escapeOverUnits, openUnits, diurnalUnits, soakUnits, runningUnits, carUnits, twoWheelerUnits, factorUnits, highMicrograms}
+use Rattle.factors.proofs.Gain.{gain-most}
+use Rattle.factors.proofs.Breakthrough.{E-most, exponent-most}
+use Rattle.factors.proofs.Canister.{saturated, saturation-most, growth-most, tenthGrams-within}
+use Rattle.factors.proofs.Mean.{weighted-first, weighted-most, meanUnits-most}
+use Rattle.factors.proofs.Losses.{duration-most}
+
+-- factor k is below so many grams: a diurnal loss, a soak or a trip
+abbrev pub gramsLimit : Factor → ℕ
+gramsLimit F1 = 17000
+gramsLimit F2 = 2500
+gramsLimit F3 = 2500
+gramsLimit F4 = 2500
+gramsLimit F5 = 2500
+gramsLimit F6 = 2500
+gramsLimit F7 = 2500
+
+-- cells below 2⁵⁴, in units of 2⁻²⁸ g and weighted with at most a million counts, have sums that fit, over the first i cells too
+pub partial-size : (v : ℕ → ℕ) → ((cell : ℕ) → v cell ≤ 2 ^ 54) → (counts : List ℕ) → total counts ≤ 10 ^ 6 → (i : ℕ)
+    → weighted (λ (cell : ℕ). v cell / 2 ^ 12) 0 (take i counts) < 2 ^ 62
+partial-size v h counts t i =
+    omega (arith, weighted-first (λ (cell : ℕ). v cell / 2 ^ 12) 0 counts i, weighted-most (λ (cell : ℕ). v cell / 2 ^ 12) (2 ^ 42) (λ cell. omega (arith, h cell)) 0 counts)
+
+-- exponents up to 3
+held-≤ : (x : ℕ) → x ≤ 19 * 10 ^ 14 → exponent x ≤ᶠ 3 /10^ 0
+unfolding exponent _/10^_
+held-≤ x h = omega arith
+
+-- E(3) ≤ 20.1
+exponential-3 : (x : ℕ) → x ≤ 19 * 10 ^ 14 → exponential x ≤ 21 * 2 ^ 40
+exponential-3 x h =
+    let n40 : 40 ≤ 40 = omega arith in
+    omega (arith, within-most 201 1 (exponential-within x (omega arith) .at 40 n40) (E-most 40 n40 (held-≤ x h)))
+
+-- tenths of a gram keep their order
+tenthGrams-mono : {j k : ℕ} → j ≤ k → tenthGrams j ≤ tenthGrams k
+unfolding tenthGrams
+tenthGrams-mono h = omega arith
+
+-- what breaks through is at most the vapour and the curve's end, from a load of at most m_sat
+break-most : (A K σ p v : ℕ) → p ≤ σ → A + K * min (p + v) σ / 2 ^ 41 ≤ 19 * 10 ^ 14 → breakUnits A K σ p v ≤ 21 * 2 ^ 40 + v
+unfolding breakUnits loss
+break-most A K σ p v h e = omega (arith, exponential-3 (A + K * min (p + v) σ / 2 ^ 41) e)
+
+module _ {season : Season} {row : Row} (s : SeasonInRange season) (r : RowInRange season row) where
+  -- 2·b·s in units of 10⁻¹⁴
+  pub growth-size : (i : ℕ) → growth (row .canister) (season .vp) (held season i) < 2 ^ 46
+  growth-size i = omega (arith, growth-most (row .canister) (season .vp) (held season i) (held-most i s))
+
+  -- m_sat of a canister, in units of 2⁻⁴⁰ g
+  pub saturation-size : 0 < halves (row .canister) → tenthGrams (row .saturation) < 2 ^ 49
+  unfolding tenthGrams
+  saturation-size h = omega (arith, saturation-most s r h)
+
+  -- the load is at most m_sat
+  pub load-below : tenthGrams (row .load) ≤ tenthGrams (row .saturation)
+  load-below = tenthGrams-mono (r .load-most)
+
+  -- the exponent of a loss is at most 3, at every mark and load
+  pub loss-exponent-most : (i m : ℕ)
+      → base (season .vp) (held season i) + growth (row .canister) (season .vp) (held season i) * min m (tenthGrams (row .saturation)) / 2 ^ 41
+      ≤ 19 * 10 ^ 14
+  loss-exponent-most i m = exponent-most _ _ (row .saturation /10^ 1) (tenthGrams-within (row .saturation)) (saturated s r i) m
+
+  -- 36 g for a rise of 1
+  pub vapourUnits-most : {rise : ℕ} (M : ℕ) → rise ≤ M → vapourUnits season row rise ≤ 36 * M
+  unfolding vapourUnits
+  vapourUnits-most {rise} M h = div-le-of-le-mul (2 ^ 40) (omega (arith, mul-le-mul (gain-most s r) h))
+
+  -- what breaks through is at most the vapour and 21 g
+  pub throughUnits-most : (i rise : ℕ) → throughUnits season row i rise ≤ 21 * 2 ^ 40 + vapourUnits season row rise
+  unfolding throughUnits
+  throughUnits-most i rise = break-most _ _ _ _ _ load-below (loss-exponent-most i _)
+
+  -- the rise over a cell's parking
+  pub parking-rise-most : (cell : ℕ) → passed (stepAt (held season)) (endHour cell) (duration cell) ≤ 450 * 2 ^ 40
+  parking-rise-most cell = rise-most (held season) (λ i. held-most i s) (endHour cell) (duration cell) (duration-most cell)
+
+  -- its vapour
+  pub parking-vapour-most : (cell : ℕ) → vapourUnits season row (passed (stepAt (held season)) (endHour cell) (duration cell)) ≤ 16200 * 2 ^ 40
+  parking-vapour-most cell = vapourUnits-most (450 * 2 ^ 40) (parking-rise-most cell)
+
+  -- what breaks through of it
+  pub parking-through-most : (i cell : ℕ) → throughUnits season row i (passed (stepAt (held season)) (endHour cell) (duration cell)) ≤ 2 ^ 54
+  parking-through-most i cell =
+      omega (arith, throughUnits-most i (passed (stepAt (held season)) (endHour cell) (duration cell)), parking-vapour-most cell)
+
+  -- the rise over a raise of at most 6 °C from mark i
+  pub raise-rise-most : (k i : ℕ) → k ≤ 60 → raise (tenths k) (held season i) ≤ 56 * 2 ^ 40
+  raise-rise-most k i h = raise-most (tenths k) (held season i) (omega arith) (held-most i s)
+
+  -- its vapour
+  pub raise-vapour-most : (k i : ℕ) → k ≤ 60 → vapourUnits season row (raise (tenths k) (held season i)) ≤ 2016 * 2 ^ 40
+  raise-vapour-most k i h = vapourUnits-most (56 * 2 ^ 40) (raise-rise-most k i h)
+
+  -- what breaks through of it
+  pub raise-through-most : (k i : ℕ) → k ≤ 60 → throughUnits season row i (raise (tenths k) (held season i)) ≤ 2 ^ 54
+  raise-through-most k i h = omega (arith, throughUnits-most i (raise (tenths k) (held season i)), raise-vapour-most k i h)
+
+  -- permeation over a cell's parking: half a gram for each of 24 half-hours
+  pub parking-permeation-most : (cell : ℕ) → passed (λ (i : ℕ). rate (season .vp) (held season i)) (endHour cell) (duration cell) / 2 ≤ 12 * 2 ^ 40
+  parking-permeation-most cell =
+      omega (arith, rates-most (season .vp) (held season) (s .vp-most) (λ i. omega (arith, held-most i s)) (endHour cell) (duration cell), duration-most cell)
+
+  -- permeation per hour up to 15 °C above mark i
+  pub raised-rate-most : (k i : ℕ) → k ≤ 150 → rate (season .vp) (held season i + tenths k) ≤ 2 ^ 40
+  raised-rate-most k i h = le-of-lt (rate-most (season .vp) (held season i + tenths k) (s .vp-most) (omega (arith, held-most i s)))
+
+  module _ (counts : List ℕ) where
+    -- the mean of what breaks through, of a rise of at most R
+    through-most : (R : ℕ) (mark rise : ℕ → ℕ) → ((cell : ℕ) → rise cell ≤ R * 2 ^ 40)
+        → meanUnits counts (λ (cell : ℕ). throughUnits season row (mark cell) (rise cell)) ≤ (36 * R + 21) * 2 ^ 28
+    through-most R mark rise h =
+        meanUnits-most counts _ ((36 * R + 21) * 2 ^ 28)
+        (λ cell. omega (arith, throughUnits-most (mark cell) (rise cell), vapourUnits-most (R * 2 ^ 40) (h cell)))
+
+    -- the mean escape of a rise of at most R
+    escape-most : (R : ℕ) (mark rise : ℕ → ℕ) → ((cell : ℕ) → rise cell ≤ R * 2 ^ 40) → (c : Canister)
+        → escapeUnits season row counts c mark rise ≤ (36 * R + 21) * 2 ^ 28
+    unfolding escapeUnits
+    escape-most R mark rise h None =
+        omega (arith, vapourUnits-most (R * 2 ^ 28) (meanUnits-most counts rise (R * 2 ^ 28) (λ cell. omega (arith, h cell))))
+    escape-most R mark rise h Small = through-most R mark rise h
+    escape-most R mark rise h Medium = through-most R mark rise h
+    escape-most R mark rise h Large = through-most R mark rise h
+
+    -- factor 1
+    diurnal-most : diurnalUnits season row counts ≤ 16233 * 2 ^ 28
+    unfolding diurnalUnits
+    diurnal-most =
+        omega (arith, escape-most 450 startOf (λ (cell : ℕ). passed (stepAt (held season)) (endHour cell) (duration cell)) parking-rise-most (row .canister), meanUnits-most counts (λ (cell : ℕ). passed (λ (i : ℕ). rate (season .vp) (held season i)) (endHour cell) (duration cell) / 2) (12 * 2 ^ 28) (λ cell. omega (arith, parking-permeation-most cell)))
+
+    -- the mean escape over a raise
+    over-most : (mark : ℕ → ℕ) (k : ℕ) → k ≤ 60 → escapeOverUnits season row counts mark (tenths k) ≤ 2037 * 2 ^ 28
+    unfolding escapeOverUnits
+    over-most mark k h =
+        escape-most 56 mark (λ (cell : ℕ). raise (tenths k) (held season (mark cell))) (λ cell. raise-rise-most k (mark cell) h) (row .canister)
+
+    -- the mean permeation per hour
+    rate-mean-most : (mark : ℕ → ℕ) (k : ℕ) → k ≤ 150 → meanUnits counts (λ (cell : ℕ). rate (season .vp) (held season (mark cell) + tenths k)) ≤ 2 ^ 28
+    rate-mean-most mark k h = meanUnits-most counts _ (2 ^ 28) (λ cell. omega (arith, raised-rate-most k (mark cell) h))
+
+    -- the mean vapour over a raise, without canister
+    open-most : (k : ℕ) → k ≤ 60 → (c : Canister) → openUnits season row counts c (tenths k) ≤ 2016 * 2 ^ 28
+    unfolding openUnits
+    open-most k h None =
+        vapourUnits-most (56 * 2 ^ 28)
+        (meanUnits-most counts (λ (cell : ℕ). raise (tenths k) (held season (endOf cell))) (56 * 2 ^ 28) (λ cell. omega (arith, raise-rise-most k (endOf cell) h)))
+    open-most k h Small = omega arith
+    open-most k h Medium = omega arith
+    open-most k h Large = omega arith
+
+    -- factor 2 of a car
+    soak-most : soakUnits season row counts ≤ 2 ^ 28
+    unfolding soakUnits
+    soak-most = rate-mean-most startOf 110 (omega arith)
+
+    -- factor 5 of a car: 24 hours a trip
+    running-most : runningUnits season row counts ≤ 24 * 2 ^ 28
+    unfolding runningUnits
+    running-most = div-le-of-le-mul 60 (omega (arith, mul-le-mul (r .minutes-most) (rate-mean-most endOf 150 (omega arith))))
+
+    -- the factors of a car
+    car-most : (k : Factor) → carUnits season row counts k + 2 ^ 28 ≤ gramsLimit k * 2 ^ 28
+    unfolding carUnits
+    car-most F1 = omega (arith, diurnal-most)
+    car-most F2 = omega (arith, soak-most)
+    car-most F3 = omega (arith, over-most startOf 45 (omega arith), soak-most)
+    car-most F4 = omega (arith, over-most startOf 60 (omega arith), soak-most)
+    car-most F5 = omega (arith, running-most)
+    car-most F6 = omega (arith, open-most 10 (omega arith) (row .canister), running-most)
+    car-most F7 = omega (arith, open-most 50 (omega arith) (row .canister), running-most)
+
+    -- the factors of a two-wheeler
+    twoWheeler-most : (k : Factor) → twoWheelerUnits season row counts k + 2 ^ 28 ≤ gramsLimit k * 2 ^ 28
+    unfolding twoWheelerUnits
+    twoWheeler-most F1 = omega (arith, diurnal-most)
+    twoWheeler-most F2 = omega (arith, over-most startOf 15 (omega arith))
+    twoWheeler-most F3 = omega (arith, over-most startOf 35 (omega arith))
+    twoWheeler-most F4 = omega (arith, over-most startOf 35 (omega arith))
+    twoWheeler-most F5 = omega (arith, over-most endOf 10 (omega arith))
+    twoWheeler-most F6 = omega (arith, over-most endOf 25 (omega arith))
+    twoWheeler-most F7 = omega (arith, over-most endOf 25 (omega arith))
+
+    -- each class
+    class-most : (k : Factor) (twoWheeler : Bool)
+        → (elim twoWheeler [ true ↦ twoWheelerUnits season row counts k | false ↦ carUnits season row counts k ]) + 2 ^ 28 ≤ gramsLimit k * 2 ^ 28
+    class-most k true = twoWheeler-most k
+    class-most k false = car-most k
+
+    -- factor k in units of 2⁻²⁸ g, with a gram to spare
+    pub factorUnits-most : (k : Factor) → factorUnits season row counts k + 2 ^ 28 ≤ gramsLimit k * 2 ^ 28
+    unfolding factorUnits
+    factorUnits-most k = class-most k (leb 5 (row .class))
+
+    -- and in micrograms
+    pub highMicrograms-most : (k : Factor) → highMicrograms (factorUnits season row counts k) ≤ gramsLimit k * 10 ^ 6
+    unfolding highMicrograms
+    highMicrograms-most k = omega (arith, factorUnits-most k)

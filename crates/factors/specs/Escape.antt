@@ -1,0 +1,37 @@
+-- The computed breakthrough of a canister: which whole numbers it is made of. Definitions only.
+-- Loads and vapour are in units of 2⁻⁴⁰ g, exponents in units of 10⁻¹⁴ above −16.
+use Prim.Native.Nat.{ℕ, _+_, _*_, _-_, _/_, _^_, min}
+use Rattle.bounds.specs.Exponential.{exponential}
+use Rattle.exact.specs.declared.Canister.{Canister}
+use Rattle.exact.specs.declared.Canister.the-variants.{None, Small, Medium, Large}
+
+-- s in halves
+unfoldable pub halves : Canister → ℕ
+halves None = 0
+halves Small = 4
+halves Medium = 2
+halves Large = 1
+
+-- tenths of a gram, cut
+unfoldable pub tenthGrams : ℕ → ℕ
+tenthGrams m = m * 2 ^ 40 / 10
+
+-- a, held as (a + 16)·10¹⁴, for vp in tenths of kPa and a held temperature
+unfoldable pub base : ℕ → ℕ → ℕ
+base vp θ = 305 * 10 ^ 12 + 650 * θ - 15 * 10 ^ 10 * vp
+
+-- 2·b·s·10¹⁴
+unfoldable pub growth : Canister → ℕ → ℕ → ℕ
+growth c vp θ = (112 * 10 ^ 11 + θ - 15 * 10 ^ 8 * vp) * halves c
+
+-- B(m), from below, for a = A, 2·b·s = K and a cut saturating load. (One unit is taken off the overflow for what is cut.)
+unfoldable pub loss : ℕ → ℕ → ℕ → ℕ → ℕ
+loss A K saturation m = exponential (A + K * min m saturation / 2 ^ 41) + (m - (saturation + 1))
+
+-- how far B(m1) can be above `loss`
+abbrev pub lossError : ℕ
+lossError = 179
+
+-- B(m1 + v) − B(m1), from below
+unfoldable pub breakUnits : ℕ → ℕ → ℕ → ℕ → ℕ → ℕ
+breakUnits A K saturation m1 v = loss A K saturation (m1 + v) - (loss A K saturation m1 + lossError)

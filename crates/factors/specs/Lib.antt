@@ -1,0 +1,4 @@
+pub mod Range
+pub mod Escape
+pub mod Means
+pub mod Factors
