@@ -4,3 +4,4 @@ pub mod Enclosure
 pub mod Exponential
 pub mod Power
 pub mod Lists
+pub mod Total

@@ -2,7 +2,7 @@
 // p below 1 / 4096, E(z) is close to the product of two table entries, at h and at m, and of 1 + p + p^2 / 2. Every step cuts downwards.
 use crate::fixed::mul_shift;
 ghost use mathlib.Core.Path.{_≡_};
-ghost use Prim.Native.Nat.{_*_, _^_, _<_};
+ghost use Prim.Native.Nat.{_*_, _^_, _<_, _≤_};
 ghost use Rattle.bounds.specs.Series.{E};
 ghost use Rattle.bounds.specs.Enclosure.{WithinAll};
 ghost use Rattle.bounds.specs.Exponential.{exponent, high, middle, rest, quadratic, fine, exponential, exponentLimit, exponentialError};
@@ -56,6 +56,15 @@ pub fn exponential(highs: &[u64; 322], middles: &[u64; 256], x: u64) -> u64
 {
     let h = (x / COARSE_STEP) as usize;
     mul_shift(highs[h], fine(middles, x % COARSE_STEP))
+}
+
+// How far 2^40 E(z) can be above what `exponential` gives for the same x
+pub fn exponential_error(highs: &[u64; 322], x: u64) -> u64
+    requires { ⌜ (now highs ≡ high) × (x < exponentLimit) ⌝ }
+    ensures { λ r. ⌜ (r ≡ exponentialError x) × (r ≤ 475) ⌝ }
+{
+    let h = (x / COARSE_STEP) as usize;
+    8 * (highs[h] / ONE + 1) + 3
 }
 
 // The first table as a value. A caller makes it once and lends it: the constant itself would be built anew wherever it is read.

@@ -1,0 +1,16 @@
+-- The exponentials of many exponents added up: what the exported function gives. Definitions only.
+use mathlib.Core.Bool.{cond}
+use mathlib.Core.List.{List}
+use Prim.Native.Nat.{ℕ, _%_, _^_}
+use lib.Dec.{ltb}
+use lib.ListN.{length, getD}
+use Rattle.bounds.specs.Exponential.{exponential, exponentLimit}
+use Rattle.bounds.specs.Lists.{sum}
+
+-- the exponential of an exponent that is served, and 0 of any other
+unfoldable pub served : ℕ → ℕ
+served x = cond (ltb x exponentLimit) (exponential x) 0
+
+-- their sum, of which 64 bits are kept
+unfoldable pub total : List ℕ → ℕ
+total xs = sum (λ k. served (getD xs k 0)) (length xs) % 2 ^ 64

@@ -1,0 +1,28 @@
+-- `bounds_vectors::exponentials` is safe and ends. The loop's invariant: no count is above the number of vectors passed. The measure is what is left of them.
+use Prim.Native.Nat.{_≤_, _-_, _/_}
+use borrow.Author.Needs.{needs}
+use lib.ListN.{length}
+use Rattle.bounds_vectors.proofs.exponentials.Statement.{statement}
+use Rattle.bounds_vectors.proofs.exponentials.Tie as tie
+
+abbrev Inv-loop : tie.InvT-loop
+Inv-loop highs middles first limit s tally₀ i₀ tally i = (tally .tried ≤ i) × (tally .enclosed ≤ i)
+
+abbrev μ-loop : tie.MeasureT-loop
+μ-loop highs middles first limit s tally₀ i₀ tally i = length s / 24 - i
+
+pub exponentials-spec : {M : Type 1} → statement M
+exponentials-spec =
+    tie.close
+    (tie.spec
+    Inv-loop
+    μ-loop
+    (λ c κs. search needs)
+    (λ c. search needs)
+    (λ c. search needs)
+    (λ c κs. search needs)
+    (λ c κs. search needs)
+    (λ c. search needs)
+    (λ c. search needs)
+    (λ c. search needs)
+    (λ c. search needs))

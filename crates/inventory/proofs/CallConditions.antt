@@ -1,0 +1,56 @@
+-- Numbers 22 and 23 of document 01 as demands in plain arithmetic, after those of the sheet: each call answers where all are met, and
+-- else returns the first that is not met, with its place.
+-- Assumes nothing.
+use mathlib.Core.List.{List}
+use mathlib.Core.Path.{_≡_}
+use Prim.Native.Nat.{ℕ, _≤_, _<_}
+use native.Mathlib.Omega.{arith}
+use borrow.Author.Tests.{leb-true, leb-false}
+use lib.Dec.{leb}
+use Rattle.sheet.specs.declared.Check.the-variants.{Pass}
+use Rattle.sheet.specs.Bytes.{seasonsOf, rowsOf}
+use Rattle.sheet.specs.Sheet.{outside}
+use Rattle.sheet.proofs.Checks.{Demands, demand, _next_, Tests, Judges, judges-refuse, judges-then, ltb-tests, ||-tests, then-pass}
+use Rattle.sheet.proofs.Conditions.{demands, sheet-judged}
+use Rattle.sheet.proofs.Accepted.{Accepted, accepted}
+use Rattle.inventory.specs.FactorCall.{factorCheck}
+use Rattle.inventory.specs.Report.{reportLength, reportCheck}
+
+-- the test x ≤ y demands y < x
+leb-tests : (x y : ℕ) → Tests (leb x y) (y < x)
+leb-tests x y = record { holds = leb-false x y; fails = λ t l. omega (arith, leb-true x y t) }
+
+-- Call | 22 report buffer short | 0
+abbrev pub reportDemands : List ℕ → ℕ → Demands
+reportDemands s room = demands s next demand 22 0 (reportLength s ≤ room)
+
+pub report-judged : (s : List ℕ) (room : ℕ) → Judges (reportCheck s room) (reportDemands s room)
+unfolding reportCheck
+report-judged s room = judges-then (sheet-judged s) (judges-refuse (ltb-tests room (reportLength s)))
+
+-- Call | 23 season, row or factor absent | 0: "one factor, 1 to 7, of a season and row (counted from 0)"
+abbrev pub factorDemands : List ℕ → ℕ → ℕ → ℕ → Demands
+factorDemands s season row k =
+    demands s next
+    demand 23 0 (((season < seasonsOf s) × (row < rowsOf s)) × ((1 ≤ k) × (k ≤ 7)))
+
+pub factor-judged : (s : List ℕ) (season row k : ℕ) → Judges (factorCheck s season row k) (factorDemands s season row k)
+unfolding factorCheck outside
+factor-judged s season row k =
+    judges-then (sheet-judged s)
+    (judges-refuse (||-tests (||-tests (leb-tests (seasonsOf s) season) (leb-tests (rowsOf s) row)) (||-tests (ltb-tests k 1) (ltb-tests 7 k))))
+
+-- What a call that answers may rely on.
+
+-- the sheet is accepted, and the buffer has room
+pub report-accepted : (s : List ℕ) (room : ℕ) → reportCheck s room ≡ Pass → Accepted s × (reportLength s ≤ room)
+unfolding reportCheck
+report-accepted s room h = (accepted s (then-pass _ _ h .0), report-judged s room .passes h .1)
+
+-- the sheet is accepted, and it has the season and the row
+pub factor-accepted : (s : List ℕ) (season row k : ℕ) → factorCheck s season row k ≡ Pass
+    → Accepted s × (season < seasonsOf s) × (row < rowsOf s) × (1 ≤ k) × (k ≤ 7)
+unfolding factorCheck
+factor-accepted s season row k h =
+    let ((season-there, row-there), (least, most)) = factor-judged s season row k .passes h .1 in
+    (accepted s (then-pass _ _ h .0), season-there, row-there, least, most)

@@ -1,0 +1,110 @@
+-- Sheets that count alike have the same answers: the factor call's, and the report call's with all its words.
+-- Assumes nothing.
+use mathlib.Core.Bool.{Bool}
+use mathlib.Core.List.{List}
+use mathlib.Core.Path.{_≡_, refl}
+use Prim.Native.Nat.{ℕ, suc, zero, _+_, _/_, _%_, _≤_, _<_}
+use native.Mathlib.Omega.{arith}
+use lib.ListN.{length, set}
+use Rattle.bounds.proofs.Lists.{tab-ext}
+use Rattle.exact.specs.declared.Canister.{Canister}
+use Rattle.exact.specs.declared.Equipment.the-variants.{Fitted}
+use Rattle.sheet.specs.declared.Check.{Check}
+use Rattle.sheet.specs.declared.Check.the-variants.{Pass, Refused}
+use Rattle.sheet.specs.Bytes.{u8At, u16At, seasonsOf, rowsOf, rowPlace, equipmentAt}
+use Rattle.sheet.proofs.Alike.{codeOf, Alike, canister-alike, tank-alike, both-alike}
+use Rattle.inventory.specs.FactorCall.{factorCheck, unitsAt, answered, factorAnswer}
+use Rattle.inventory.specs.Report.{reportLength, reportCheck, wordsOf, rowWords, subtotal, subtotals, grandTotal, report}
+use Rattle.inventory.proofs.CallConditions.{factor-accepted}
+
+module _ {s s' : List ℕ} (a : Alike s s') where
+  -- The factor call.
+
+  -- accepted or refused alike
+  factor-check-same : (season row k : ℕ) → factorCheck s' season row k ≡ factorCheck s season row k
+  unfolding factorCheck
+  factor-check-same season row k = cc (a .check-same, a .seasons-same, a .rows-same)
+
+  -- the same computed factor, where there is one
+  units-same : (season row k : ℕ) → season < seasonsOf s → row < rowsOf s → unitsAt s' season row k ≡ unitsAt s season row k
+  unfolding unitsAt
+  units-same season row k h l = cc (a .cells-same, a .season-same season h, a .row-same row l)
+
+  -- so the same band or refusal
+  answered-same : (season row k : ℕ) (c : Check) → factorCheck s season row k ≡ c
+      → answered c (unitsAt s' season row k) ≡ answered c (unitsAt s season row k)
+  unfolding answered
+  answered-same season row k Pass h =
+      let (accepted, season-there, row-there, least, most) = factor-accepted s season row k h in
+      cc (units-same season row k season-there row-there)
+  answered-same season row k (Refused number place) h = refl
+
+  -- the same answer for every season, row and factor
+  pub factor-alike : (season row k : ℕ) → factorAnswer s' season row k ≡ factorAnswer s season row k
+  unfolding factorAnswer
+  factor-alike season row k = rw (factor-check-same season row k) (answered-same season row k (factorCheck s season row k) refl)
+
+  -- The report call.
+
+  -- accepted or refused alike, for every length of the buffer
+  pub report-check-alike : (room : ℕ) → reportCheck s' room ≡ reportCheck s room
+  unfolding reportCheck reportLength
+  report-check-alike room = cc (a .check-same, a .rows-same)
+
+  -- the same six words of each row
+  words-same : (i : ℕ) → i < rowsOf s → wordsOf s' i ≡ wordsOf s i
+  unfolding wordsOf
+  words-same i l = cc (a .cells-same, a .season-list-same, a .row-same i l)
+
+  -- and of the first n rows
+  rowWords-same : (n : ℕ) → n ≤ rowsOf s → rowWords s' n ≡ rowWords s n
+  unfolding rowWords
+  rowWords-same zero h = refl
+  rowWords-same (suc n) h = cc (rowWords-same n (omega arith), words-same n h)
+
+  -- the same sums
+  subtotal-same : (category : ℕ → Bool) (n j : ℕ) → n ≤ rowsOf s → subtotal s' category n j ≡ subtotal s category n j
+  unfolding subtotal
+  subtotal-same category zero j h = refl
+  subtotal-same category (suc n) j h = cc (subtotal-same category n j (omega arith), words-same n h, a .row-same n h)
+
+  -- the six of a category
+  subtotals-same : (category : ℕ → Bool) → subtotals s' category ≡ subtotals s category
+  unfolding subtotals
+  subtotals-same category = rw (a .rows-same) (tab-ext 6 (λ j l. subtotal-same category (rowsOf s) j (omega arith)))
+
+  -- the grand total
+  grandTotal-same : (j : ℕ) → grandTotal s' j ≡ grandTotal s j
+  unfolding grandTotal
+  grandTotal-same j = rw (a .rows-same, subtotal-same _ (rowsOf s) j (omega arith), subtotal-same _ (rowsOf s) (2 + j) (omega arith), subtotal-same _ (rowsOf s) (4 + j) (omega arith))
+
+  -- all words of the report
+  pub report-alike : report s' ≡ report s
+  unfolding report
+  report-alike =
+      simp (a .rows-same, rowWords-same (rowsOf s) (omega arith), subtotals-same, grandTotal-same)
+
+-- the same answers from both calls, whatever is asked
+pub record SameAnswers (s s' : List ℕ) : Type 0 where
+  pub factor-same : (season row k : ℕ) → factorAnswer s' season row k ≡ factorAnswer s season row k
+  pub check-same : (room : ℕ) → reportCheck s' room ≡ reportCheck s room
+  pub words-same : report s' ≡ report s
+
+-- sheets that count alike have them
+same-answers : {s s' : List ℕ} → Alike s s' → SameAnswers s s'
+same-answers a = record { factor-same = factor-alike a; check-same = report-check-alike a; words-same = report-alike a }
+
+-- Row i, inside the sheet, whose class stands for canister c and tank t.
+module _ (s : List ℕ) (i : ℕ) {c : Canister} {t : ℕ} (fitted : equipmentAt s (rowPlace s i) ≡ Fitted c t) (inside : rowPlace s i + 24 ≤ length s) where
+  -- the class's canister written for 255
+  pub canister-answers : u8At s (rowPlace s i + 2) ≡ 255 → SameAnswers s (set s (rowPlace s i + 2) (codeOf c))
+  canister-answers h = same-answers (canister-alike s i fitted inside h)
+
+  -- its tank written for 0
+  pub tank-answers : u16At s (rowPlace s i + 6) ≡ 0 → SameAnswers s (set (set s (rowPlace s i + 6) (t % 256)) (rowPlace s i + 7) (t / 256))
+  tank-answers h = same-answers (tank-alike s i fitted inside h)
+
+  -- both
+  pub both-answers : u8At s (rowPlace s i + 2) ≡ 255 → u16At s (rowPlace s i + 6) ≡ 0
+      → SameAnswers s (set (set (set s (rowPlace s i + 2) (codeOf c)) (rowPlace s i + 6) (t % 256)) (rowPlace s i + 7) (t / 256))
+  both-answers h k = same-answers (both-alike s i fitted inside h k)

@@ -1,0 +1,40 @@
+-- What the factor call answers is what document 01 promises: a band around the exact factor, or a refusal.
+-- Assumes nothing.
+use mathlib.Core.List.{List}
+use mathlib.Core.Path.{_≡_, refl}
+use Prim.Native.Nat.{ℕ}
+use native.Mathlib.Omega.{arith}
+use Rattle.factors.specs.Factors.{lowMicrograms, highMicrograms}
+use Rattle.factors.proofs.FactorBound.{high-near-low}
+use Rattle.sheet.specs.declared.Check.{Check}
+use Rattle.sheet.specs.declared.Check.the-variants.{Pass, Refused}
+use Rattle.sheet.proofs.Accepted.{Bytes}
+use Rattle.inventory.specs.FactorCall.{numbered, factorCheck, unitsAt, answered, factorAnswer, FactorBand, FactorPromise}
+use Rattle.inventory.proofs.AcceptedRange.{enclosed}
+use Rattle.inventory.proofs.CallConditions.{factor-accepted}
+
+module _ (s : List ℕ) (season row k : ℕ) (bytes : Bytes s) where
+  -- "low and high micrograms, at most 1,000 apart", around the exact factor
+  factor-band : factorCheck s season row k ≡ Pass
+      → FactorBand s season row k (lowMicrograms (unitsAt s season row k)) (highMicrograms (unitsAt s season row k))
+  unfolding unitsAt
+  factor-band h =
+      let (a, season-there, row-there, least, most) = factor-accepted s season row k h in
+      let e = enclosed bytes a row-there season-there in
+      record {
+        above = e .above (numbered k);
+        below = e .below (numbered k);
+        narrow = omega (arith, high-near-low (unitsAt s season row k));
+        narrower = high-near-low (unitsAt s season row k);
+      }
+
+  -- for either outcome of the checks
+  promise-kept : (c : Check) → factorCheck s season row k ≡ c → FactorPromise s season row k (answered c (unitsAt s season row k))
+  unfolding answered FactorPromise
+  promise-kept Pass h = (h, factor-band h)
+  promise-kept (Refused number place) h = h
+
+  -- what is promised of the answer holds of it
+  pub factor-promise : FactorPromise s season row k (factorAnswer s season row k)
+  unfolding factorAnswer
+  factor-promise = promise-kept (factorCheck s season row k) refl

@@ -1,0 +1,11 @@
+pub mod Decimals
+pub mod MassBound
+pub mod MassWidth
+pub mod MassSizes
+pub mod CallConditions
+pub mod CallsAlike
+pub mod ReportPlaces
+pub mod AcceptedRange
+pub mod FactorPromise
+pub mod ReportPromise
+pub mod ReportSizes

@@ -1,0 +1,182 @@
+-- How large the figures and the words of a report can be: all fit 64 bits. A row's are bounded by its vehicles, and sums by the
+-- vehicles of all rows, so that a limit on these serves as well as one on each row.
+-- Assumes nothing.
+use mathlib.Core.Bool.{Bool, true, false}
+use mathlib.Core.Path.{_≡_, ap}
+use mathlib.Core.List.{List, [], _∷_}
+use Prim.Native.Nat.{ℕ, suc, zero, _+_, _*_, _-_, _/_, _%_, _^_, _≤_, _<_}
+use native.Mathlib.Nat.{mul-le-mul-left, mul-le-mul-right, mul-le-mul, div-add-mod'}
+use native.Mathlib.Omega.{arith}
+use lib.Dec.{lit<}
+use lib.ListN.{getD}
+use Rattle.bounds.specs.Lists.{sum}
+use Rattle.exact.specs.declared.Season.{Season}
+use Rattle.exact.specs.declared.Row.{Row}
+use Rattle.exact.specs.Factors.{Factor, F1, F2, F3, F4, F5, F6, F7}
+use Rattle.exact.specs.Masses.{Mechanism, diurnal, soak, running}
+use Rattle.factors.specs.Factors.{factorUnits, lowMicrograms, highMicrograms}
+use Rattle.factors.proofs.FactorBound.{low-below-high}
+use Rattle.factors.proofs.Sizes.{gramsLimit}
+use Rattle.sheet.specs.Limits.{rowsLimit, daysLimit, vehiclesLimit, tripsLimit}
+use Rattle.sheet.specs.Bytes.{rowsOf, cellsOf, seasonList, rowAt}
+use Rattle.inventory.specs.Figures.{µg, blended, dayFigure, yearFigure, lowFigure, highFigure, rowFigures, allDays}
+use Rattle.inventory.specs.Report.{wordsOf, counted, subtotal, grandTotal, anyClass}
+use Rattle.inventory.proofs.MassBound.{Shares, Every, every-map}
+
+-- how large factor k can be within the limits of a sheet, in micrograms
+abbrev pub factorMost : Factor → ℕ
+factorMost k = gramsLimit k * 10 ^ 6
+
+-- that is for each factor but the first
+abbrev pub tripMost : ℕ
+tripMost = factorMost F2
+
+-- every figure of a season and row is at most that
+pub record Sized (counts : List ℕ) (row : Row) (season : Season) : Type 0 where
+  pub most : (k : Factor) → highMicrograms (factorUnits season row counts k) ≤ factorMost k
+
+-- parts of at most B, with shares p and q of 100
+pub mixed-most : (p q B : ℕ) {h w : ℕ} → p + q ≡ 100 → h ≤ B → w ≤ B → p * h + q * w ≤ 100 * B
+mixed-most p q B e a b = omega (arith, mul-le-mul-left p a, mul-le-mul-left q b, ap (λ (t : ℕ). t * B) e)
+
+-- how large the figure of one vehicle on one day can be, in units of 10⁻¹² g
+abbrev pub dayMost : ℕ
+dayMost = tripsLimit * (10000 * tripMost)
+
+-- and that of a year
+abbrev pub yearMost : ℕ
+yearMost = dayMost * daysLimit
+
+-- a year's figure fits 64 bits
+pub year-fits : yearMost < 2 ^ 64
+year-fits = lit< tt
+
+-- the milligrams of a row for each of its vehicles
+abbrev pub vehicleMost : ℕ
+vehicleMost = yearMost / 10 ^ 9
+
+module _ {row : Row} (shares : Shares row) (trips-most : row .trips ≤ tripsLimit) (micrograms : ℕ → ℕ) (counts : List ℕ) where
+  -- a blend of parts of at most B
+  pub blended-most : (season : Season) (B : ℕ) {h w i : ℕ} → h ≤ B → w ≤ B → i ≤ B → blended micrograms counts season row h w i ≤ 10000 * B
+  unfolding blended
+  blended-most season B a b c =
+      let carburettor = mul-le-mul-left (row .carburettor) (mixed-most (row .hot) (100 - row .hot) B (omega (arith, shares .hot-most)) a b) in
+      let others = mul-le-mul-left ((100 - row .carburettor) * 100) c in
+      let all : row .carburettor + (100 - row .carburettor) ≡ 100 = omega (arith, shares .carburettor-most) in
+      omega (arith, ap (λ (t : ℕ). t * (100 * B)) all)
+
+  -- trips times a blend
+  trips-times : (season : Season) {h w i : ℕ} → h ≤ tripMost → w ≤ tripMost → i ≤ tripMost
+      → row .trips * blended micrograms counts season row h w i ≤ dayMost
+  trips-times season a b c = mul-le-mul trips-most (blended-most season tripMost a b c)
+
+  -- a day's figure
+  pub day-most : (season : Season) → ((k : Factor) → µg micrograms counts season row k ≤ factorMost k) → (mechanism : Mechanism)
+      → dayFigure micrograms counts season row mechanism ≤ dayMost
+  unfolding dayFigure
+  day-most season h diurnal = omega (arith, h F1)
+  day-most season h soak = trips-times season (h F4) (h F3) (h F2)
+  day-most season h running = trips-times season (h F7) (h F6) (h F5)
+
+  -- a year's figure grows with its days
+  pub year-most : (seasons : List Season) → Every (λ (season : Season). (k : Factor) → µg micrograms counts season row k ≤ factorMost k) seasons
+      → (mechanism : Mechanism) → yearFigure micrograms counts seasons row mechanism ≤ dayMost * allDays seasons
+  unfolding yearFigure allDays
+  year-most [] h mechanism = omega arith
+  year-most (season ∷ seasons) (h, hs) mechanism =
+      omega (arith, year-most seasons hs mechanism, mul-le-mul-left (season .days) (day-most season h mechanism))
+
+-- a row over seasons within the limits of a sheet
+pub record RowSized (counts : List ℕ) (seasons : List Season) (row : Row) : Type 0 where
+  pub shares : Shares row
+  pub trips-most : row .trips ≤ tripsLimit
+  pub days-most : allDays seasons ≤ daysLimit
+  pub sized : Every (Sized counts row) seasons
+
+-- milligrams for v vehicles, cut up, from a year's figure of each
+cut-most : (y v : ℕ) → y ≤ yearMost → (y * v + (10 ^ 9 - 1)) / 10 ^ 9 ≤ vehicleMost * v
+cut-most y v h = omega (arith, mul-le-mul-right v h)
+
+module _ {counts : List ℕ} {seasons : List Season} {row : Row} (r : RowSized counts seasons row) where
+  -- a year's high figure
+  pub high-year-most : (mechanism : Mechanism) → yearFigure highMicrograms counts seasons row mechanism ≤ yearMost
+  unfolding µg
+  high-year-most mechanism =
+      let y = year-most (r .shares) (r .trips-most) highMicrograms counts seasons (every-map (λ season e. e .most) seasons (r .sized)) mechanism in
+      omega (arith, r .days-most)
+
+  -- its low figure
+  pub low-year-most : (mechanism : Mechanism) → yearFigure lowMicrograms counts seasons row mechanism ≤ yearMost
+  unfolding µg
+  low-year-most mechanism =
+      let below : (season : Season) → Sized counts row season → (k : Factor) → lowMicrograms (factorUnits season row counts k) ≤ factorMost k
+      = λ season e k. omega (arith, low-below-high (factorUnits season row counts k), e .most k) in
+      let y = year-most (r .shares) (r .trips-most) lowMicrograms counts seasons (every-map below seasons (r .sized)) mechanism in
+      omega (arith, r .days-most)
+
+  -- the row's high figure in milligrams
+  pub high-most : (mechanism : Mechanism) → highFigure counts seasons row mechanism ≤ vehicleMost * row .vehicles
+  unfolding highFigure
+  high-most mechanism = cut-most _ (row .vehicles) (high-year-most mechanism)
+
+  -- its low figure
+  pub low-most : (mechanism : Mechanism) → lowFigure counts seasons row mechanism ≤ vehicleMost * row .vehicles
+  unfolding lowFigure
+  low-most mechanism =
+      omega (arith, cut-most (yearFigure lowMicrograms counts seasons row mechanism) (row .vehicles) (low-year-most mechanism))
+
+  -- each of the row's six words
+  pub word-most : (j : ℕ) → getD (rowFigures counts seasons row) j 0 ≤ vehicleMost * row .vehicles
+  unfolding rowFigures
+  word-most zero = low-most diurnal
+  word-most (suc zero) = high-most diurnal
+  word-most (suc (suc zero)) = low-most soak
+  word-most (suc (suc (suc zero))) = high-most soak
+  word-most (suc (suc (suc (suc zero)))) = low-most running
+  word-most (suc (suc (suc (suc (suc zero))))) = high-most running
+  word-most (suc (suc (suc (suc (suc (suc j)))))) = omega arith
+
+-- A year's figure times the vehicles, over 10⁹, in parts that fit 64 bits.
+
+-- ⌈y·v/10⁹⌉ in parts; ⌊y·v/10⁹⌋ is `cut-product` of bounds
+pub cut-up-parts : (y v : ℕ) → y / 10 ^ 9 * v + (y % 10 ^ 9 * v + (10 ^ 9 - 1)) / 10 ^ 9 ≡ (y * v + (10 ^ 9 - 1)) / 10 ^ 9
+cut-up-parts y v = omega (arith, ap (λ (t : ℕ). t * v) (div-add-mod' y (10 ^ 9)))
+
+-- the whole part
+pub whole-part-most : (y v : ℕ) → y ≤ yearMost → y / 10 ^ 9 * v ≤ vehicleMost * v
+whole-part-most y v h = let q : y / 10 ^ 9 ≤ vehicleMost = omega arith in mul-le-mul-right v q
+
+-- the rest, before it is cut
+pub rest-part-fits : (y v : ℕ) → v ≤ 10 ^ 10 → y % 10 ^ 9 * v + (10 ^ 9 - 1) < 2 ^ 64
+rest-part-fits y v h = let r : y % 10 ^ 9 ≤ 10 ^ 9 = omega arith in omega (arith, mul-le-mul r h)
+
+-- Sums over the rows.
+
+-- the vehicles of the first n rows
+abbrev pub vehiclesBefore : List ℕ → ℕ → ℕ
+vehiclesBefore s = sum (λ (i : ℕ). (rowAt s i) .vehicles)
+
+-- a word that counts or not
+counted-most : (b : Bool) {word most : ℕ} → word ≤ most → counted b word ≤ most
+unfolding counted
+counted-most true h = h
+counted-most false h = omega arith
+
+-- a word summed over the rows of a category
+pub subtotal-most : (s : List ℕ) (category : ℕ → Bool) (n j : ℕ) → ((i : ℕ) → i < n → RowSized (cellsOf s) (seasonList s) (rowAt s i))
+    → subtotal s category n j ≤ vehicleMost * vehiclesBefore s n
+unfolding subtotal wordsOf sum
+subtotal-most s category zero j r = omega arith
+subtotal-most s category (suc n) j r =
+    omega (arith, subtotal-most s category n j (λ i l. r i (omega arith)), counted-most (category ((rowAt s n) .class)) (word-most (r n (omega arith)) j))
+
+-- the grand total is three of the words for all rows
+pub grand-total-most : (s : List ℕ) (j : ℕ) → ((i : ℕ) → i < rowsOf s → RowSized (cellsOf s) (seasonList s) (rowAt s i))
+    → grandTotal s j ≤ 3 * vehicleMost * vehiclesBefore s (rowsOf s)
+unfolding grandTotal
+grand-total-most s j r =
+    omega (arith, subtotal-most s anyClass (rowsOf s) j r, subtotal-most s anyClass (rowsOf s) (2 + j) r, subtotal-most s anyClass (rowsOf s) (4 + j) r)
+
+-- all sums fit 64 bits with as many vehicles as 32 rows may have
+pub sums-fit : {vehicles : ℕ} → vehicles ≤ rowsLimit * vehiclesLimit → 3 * vehicleMost * vehicles < 2 ^ 64
+sums-fit h = omega arith

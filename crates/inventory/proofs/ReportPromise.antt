@@ -1,0 +1,41 @@
+-- What an accepted report holds is what document 01 promises of each row's words, and it has its length.
+-- Assumes nothing.
+use mathlib.Core.List.{List}
+use mathlib.Core.Path.{_≡_}
+use Prim.Native.Nat.{ℕ, _<_}
+use Rattle.exact.specs.declared.Season.{Season}
+use Rattle.exact.specs.Masses.{diurnal, soak, running}
+use Rattle.sheet.specs.declared.Check.the-variants.{Pass}
+use Rattle.sheet.specs.Bytes.{rowsOf, cellsOf, seasonList, rowAt}
+use Rattle.sheet.specs.Sheet.{sheetCheck}
+use Rattle.sheet.proofs.Checks.{then-pass}
+use Rattle.sheet.proofs.Accepted.{Bytes, Accepted, accepted}
+use Rattle.inventory.specs.Figures.{rowFigures}
+use Rattle.inventory.specs.Report.{reportCheck, wordsOf, RowPromise, ReportPromise}
+use Rattle.inventory.proofs.MassBound.{Enclosed, Every}
+use Rattle.inventory.proofs.MassWidth.{mass-band, no-vehicles}
+use Rattle.inventory.proofs.ReportPlaces.{report-length}
+use Rattle.inventory.proofs.AcceptedRange.{row-shares, enclosed, every-season}
+
+-- row i of an accepted sheet
+pub row-promise : {s : List ℕ} {i : ℕ} → Bytes s → Accepted s → i < rowsOf s → RowPromise s i
+unfolding wordsOf rowFigures
+row-promise {s} {i} bytes a row =
+    let each : Every (λ (season : Season). Enclosed (cellsOf s) season (rowAt s i)) (seasonList s) = every-season _ s (λ j l. enclosed bytes a row l) in
+    let band = mass-band (cellsOf s) (row-shares (a .row i row)) (seasonList s) each in
+    record {
+      diurnal-band = band diurnal;
+      soak-band = band soak;
+      running-band = band running;
+      no-vehicles = no-vehicles (cellsOf s) (seasonList s) (rowAt s i);
+    }
+
+-- what is promised of an accepted report holds of it
+pub report-promise : (s : List ℕ) → Bytes s → sheetCheck s ≡ Pass → ReportPromise s
+report-promise s bytes h =
+    record { each-row = λ i row. row-promise bytes (accepted s h) row; whole-length = report-length s }
+
+-- and so wherever the call answers
+pub answered-promise : (s : List ℕ) (room : ℕ) → Bytes s → reportCheck s room ≡ Pass → ReportPromise s
+unfolding reportCheck
+answered-promise s room bytes h = report-promise s bytes (then-pass _ _ h .0)

@@ -1,0 +1,57 @@
+-- What the factor call answers. Definitions only.
+use mathlib.Core.Path.{_≡_}
+use mathlib.Core.Bool.{Bool, true, false, _||_}
+use mathlib.Core.List.{List}
+use Prim.Native.Nat.{ℕ, suc, zero, _+_, _≤_}
+use lib.Dec.{leb}
+use Rattle.bounds.specs.Fraction.{_≤ᶠ_, _/10^_}
+use Rattle.exact.specs.Factors.{Factor, F1, F2, F3, F4, F5, F6, F7, factor}
+use Rattle.sheet.specs.declared.Check.{Check}
+use Rattle.sheet.specs.declared.Check.the-variants.{Pass, Refused}
+use Rattle.sheet.specs.Bytes.{seasonsOf, rowsOf, cellsOf, seasonAt, rowAt}
+use Rattle.sheet.specs.Check.{refuse, _then_}
+use Rattle.sheet.specs.Sheet.{outside, sheetCheck}
+use Rattle.factors.specs.Factors.{factorUnits, lowMicrograms, highMicrograms}
+use Rattle.inventory.specs.declared.FactorAnswer.{FactorAnswer}
+use Rattle.inventory.specs.declared.FactorAnswer.the-variants as answer
+
+-- "one factor, 1 to 7"
+unfoldable pub numbered : ℕ → Factor
+numbered zero = F1
+numbered (suc zero) = F1
+numbered (suc (suc zero)) = F2
+numbered (suc (suc (suc zero))) = F3
+numbered (suc (suc (suc (suc zero)))) = F4
+numbered (suc (suc (suc (suc (suc zero))))) = F5
+numbered (suc (suc (suc (suc (suc (suc zero)))))) = F6
+numbered (suc (suc (suc (suc (suc (suc (suc k))))))) = F7
+
+-- Call | 23 season, row or factor absent | 0: "it makes every check of the sheet first"
+unfoldable pub factorCheck : List ℕ → ℕ → ℕ → ℕ → Check
+factorCheck s season row k =
+    sheetCheck s then
+    refuse (leb (seasonsOf s) season || leb (rowsOf s) row || outside 1 7 k) 23 0
+
+-- the computed factor, in units of 2⁻²⁸ g
+unfoldable pub unitsAt : List ℕ → ℕ → ℕ → ℕ → ℕ
+unitsAt s season row k = factorUnits (seasonAt s season) (rowAt s row) (cellsOf s) (numbered k)
+
+unfoldable pub answered : Check → ℕ → FactorAnswer
+answered Pass units = answer.Band (lowMicrograms units) (highMicrograms units)
+answered (Refused number place) units = answer.Refused number place
+
+-- the answer, as a function of the bytes and the three numbers
+unfoldable pub factorAnswer : List ℕ → ℕ → ℕ → ℕ → FactorAnswer
+factorAnswer s season row k = answered (factorCheck s season row k) (unitsAt s season row k)
+
+-- "low and high micrograms, at most 1,000 apart", around the exact factor for every n from 40 upward; they are in fact at most 6 apart
+pub record FactorBand (s : List ℕ) (season row k low high : ℕ) : Type 0 where
+  pub above : (n : ℕ) → 40 ≤ n → low /10^ 6 ≤ᶠ factor n (cellsOf s) (seasonAt s season) (rowAt s row) (numbered k)
+  pub below : (n : ℕ) → 40 ≤ n → factor n (cellsOf s) (seasonAt s season) (rowAt s row) (numbered k) ≤ᶠ high /10^ 6
+  pub narrow : high ≤ low + 1000
+  pub narrower : high ≤ low + 6
+
+-- What is promised of an answer. Document 01 leaves low and high open within these bounds.
+unfoldable pub FactorPromise : List ℕ → ℕ → ℕ → ℕ → FactorAnswer → Type 0
+FactorPromise s season row k (answer.Refused number place) = factorCheck s season row k ≡ Refused number place
+FactorPromise s season row k (answer.Band low high) = (factorCheck s season row k ≡ Pass) × FactorBand s season row k low high

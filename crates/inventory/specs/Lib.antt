@@ -1,0 +1,3 @@
+pub mod FactorCall
+pub mod Figures
+pub mod Report
