@@ -1,0 +1,76 @@
+-- The cells of two lists of counts: which product stands in which, how many they are and what they sum to; and the marks that a cell names.
+use mathlib.Core.Bool.{Bool, true, false}
+use mathlib.Core.Path.{_≡_, sym, _∙_, ap, ap₂}
+use mathlib.Core.List.{List, [], _∷_, _++_, map}
+use Prim.Native.Nat.{ℕ, zero, suc, _+_, _*_, _/_, _%_, _<_}
+use native.Mathlib.Omega.{arith}
+use lib.ListN.{length, getD, length-append, length-map, List·getD-append, List·getD-map}
+use lib.Seq.{getD-append-add, ext-getD}
+use Rattle.bounds.specs.Lists.{tab}
+use Rattle.bounds.proofs.Lists.{tab-length, getD-tab}
+use Rattle.exact.specs.Day.{startMark}
+use Rattle.exact.specs.Factors.{total, products, endHour, duration}
+use Rattle.factors.specs.Factors.{startOf, endOf}
+use Rattle.factors.specs.Grid.{at, markOf}
+
+module _ (durations : List ℕ) where
+  -- as many as pairs of counts
+  pub products-length : (hours : List ℕ) → length (products durations hours) ≡ length hours * length durations
+  unfolding products
+  products-length [] = omega arith
+  products-length (q ∷ hours) =
+      length-append (map (λ (j : ℕ). j * q) durations) (products durations hours) ∙
+      omega (arith, length-map durations (λ (j : ℕ). j * q), products-length hours)
+
+  -- n durations times q
+  scaled-total : (q : ℕ) (js rest : List ℕ) → total (map (λ (j : ℕ). j * q) js ++ rest) ≡ total js * q + total rest
+  unfolding total
+  scaled-total q [] rest = omega arith
+  scaled-total q (j ∷ js) rest = omega (arith, scaled-total q js rest)
+
+  -- P·Q
+  pub products-total : (hours : List ℕ) → total (products durations hours) ≡ total durations * total hours
+  unfolding products total
+  products-total [] = omega arith
+  products-total (q ∷ hours) = omega (arith, scaled-total q durations (products durations hours), products-total hours)
+
+  -- the cell of an end hour and a duration holds the product of their counts
+  products-at : (hours : List ℕ) (n h k : ℕ) → length durations ≡ n → k < n → h < length hours
+      → at (products durations hours) (n * h + k) ≡ at durations k * at hours h
+  unfolding products
+  products-at [] n h k e l m = absurd (omega arith)
+  products-at (q ∷ hours) n zero k e l m =
+      ap (at (products durations (q ∷ hours))) {x = n * 0 + k} {y = k} (omega arith) ∙
+      List·getD-append (map (λ (j : ℕ). j * q) durations) (products durations hours) 0 k (rw (length-map durations (λ (j : ℕ). j * q)) (omega arith)) ∙
+      ap (getD (map (λ (j : ℕ). j * q) durations) k) {x = 0} {y = 0 * q} (omega arith) ∙ List·getD-map (λ (j : ℕ). j * q) durations k 0
+  products-at (q ∷ hours) n (suc h) k e l m =
+      let first = map (λ (j : ℕ). j * q) durations in
+      ap (at (products durations (q ∷ hours))) {x = n * suc h + k} {y = length first + (n * h + k)} (omega (arith, length-map durations (λ (j : ℕ). j * q))) ∙
+      getD-append-add first (products durations hours) (n * h + k) 0 ∙ products-at hours n h k e l (omega arith)
+
+-- 24 durations and 24 end hours, by cell
+pub products-tab : (durations hours : List ℕ) → length durations ≡ 24 → length hours ≡ 24
+    → tab (λ (cell : ℕ). at durations (cell % 24) * at hours (cell / 24)) 576 ≡ products durations hours
+products-tab durations hours d h =
+    let f : ℕ → ℕ = λ cell. at durations (cell % 24) * at hours (cell / 24) in
+    ext-getD 0 (tab f 576) (products durations hours)
+    (tab-length f 576 ∙ sym (products-length durations hours ∙ rw (d, h)))
+    (λ cell l.
+    let small : cell < 576 = omega (arith, tab-length f 576) in
+    getD-tab f 576 cell small ∙ sym (products-at durations hours 24 (cell / 24) (cell % 24) d (omega arith) (omega arith)) ∙
+    ap (at (products durations hours)) {x = 24 * (cell / 24) + cell % 24} {y = cell} (omega arith))
+
+-- a mark is below 48
+pub startMark-below : (hour d : ℕ) → startMark hour d < 48
+unfolding startMark
+startMark-below hour d = omega arith
+
+pub markOf-below : (ends : Bool) (cell : ℕ) → markOf ends cell < 48
+unfolding startOf endOf
+markOf-below true cell = startMark-below _ _
+markOf-below false cell = startMark-below _ _
+
+-- the mark at which a cell of an end hour starts
+pub start-of : (hour place : ℕ) → place < 24 → startOf (24 * hour + place) ≡ startMark (hour + 1) (place + 1)
+unfolding startOf endHour duration
+start-of hour place h = ap₂ startMark (omega arith) (omega arith)
