@@ -2,8 +2,9 @@
 use mathlib.Core.Bool.{Bool, true, false}
 use mathlib.Core.Path.{_≡_, sym, _∙_, ap, ap₂}
 use mathlib.Core.List.{List, [], _∷_, _++_, map}
-use Prim.Native.Nat.{ℕ, zero, suc, _+_, _*_, _/_, _%_, _<_}
+use Prim.Native.Nat.{ℕ, zero, suc, _+_, _*_, _/_, _%_, _≤_, _<_}
 use native.Mathlib.Omega.{arith}
+use native.Mathlib.Nat.{mul-le-mul}
 use lib.ListN.{length, getD, length-append, length-map, List·getD-append, List·getD-map}
 use lib.Seq.{getD-append-add, ext-getD}
 use Rattle.bounds.specs.Lists.{tab}
@@ -11,7 +12,7 @@ use Rattle.bounds.proofs.Lists.{tab-length, getD-tab}
 use Rattle.exact.specs.Day.{startMark}
 use Rattle.exact.specs.Factors.{total, products, endHour, duration}
 use Rattle.factors.specs.Factors.{startOf, endOf}
-use Rattle.factors.specs.Grid.{at, markOf}
+use Rattle.factors.specs.Grid.{CellsInRange, at, markOf}
 
 module _ (durations : List ℕ) where
   -- as many as pairs of counts
@@ -59,6 +60,16 @@ products-tab durations hours d h =
     let small : cell < 576 = omega (arith, tab-length f 576) in
     getD-tab f 576 cell small ∙ sym (products-at durations hours 24 (cell / 24) (cell % 24) d (omega arith) (omega arith)) ∙
     ap (at (products durations hours)) {x = 24 * (cell / 24) + cell % 24} {y = cell} (omega arith))
+
+-- the cells of two lists of 24 counts that each sum to 1 to 1,000
+pub products-in-range : (durations hours : List ℕ) → length durations ≡ 24 → length hours ≡ 24
+    → 1 ≤ total durations → total durations ≤ 1000 → 1 ≤ total hours → total hours ≤ 1000 → CellsInRange (products durations hours)
+products-in-range durations hours d h p P q Q =
+    record {
+      length-is = products-length durations hours ∙ rw (d, h);
+      total-least = rw (products-total durations hours) (omega (arith, mul-le-mul p q));
+      total-most = rw (products-total durations hours) (omega (arith, mul-le-mul P Q));
+    }
 
 -- a mark is below 48
 pub startMark-below : (hour d : ℕ) → startMark hour d < 48

@@ -94,7 +94,7 @@ module _ (season : Season) (row : Row) where
 
 -- how far factor k can be above `factorUnits`
 abbrev pub factorError : ℕ
-factorError = 1100
+factorError = 950
 
 -- micrograms, cut down, and cut up: 10⁶/2²⁸ is 15625/2²²
 unfoldable pub lowMicrograms : ℕ → ℕ

@@ -1,4 +1,4 @@
-// The seven computed emission factors of a season and a row.
+// The seven emission factors of a season and row, in whole numbers that enclose the exact ones.
 pub mod curve;
 pub mod fitted;
 pub mod grid;

@@ -37,6 +37,9 @@ const PRESSED: u64 = 205000000000;
 
 const ZERO: u64 = 1600000000000000;
 
+// How far a factor can be above the computed one, in units of 2^-28 g.
+const FACTOR_ERROR: u64 = 950;
+
 // Grams of vapour for a rise of 1 in E(0.0716 T).
 fn gain(highs: &[u64; 322], middles: &[u64; 256], season: Season, row: Row) -> u64
     requires { ⌜ (now highs ≡ high) × (now middles ≡ middle) × SeasonInRange season × RowInRange season row ⌝ }
@@ -376,5 +379,5 @@ pub fn high_micrograms(units: u64) -> u64
     requires { ⌜ units < 2 ^ 44 ⌝ }
     ensures { λ r. ⌜ r ≡ highMicrograms units ⌝ }
 {
-    (units + 1100) * 15625 / 4194304 + 1
+    (units + FACTOR_ERROR) * 15625 / 4194304 + 1
 }

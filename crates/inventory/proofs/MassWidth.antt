@@ -1,4 +1,4 @@
--- How far a row's low and high figures are apart, from factors whose two figures are at most 6 micrograms apart; and the six zeros of
+-- How far a row's low and high figures are apart, from factors whose two figures are at most 5 micrograms apart; and the six zeros of
 -- a row without vehicles.
 -- Assumes nothing.
 use mathlib.Core.Path.{_≡_}
@@ -15,17 +15,17 @@ use Rattle.factors.proofs.FactorBound.{high-near-low}
 use Rattle.inventory.specs.Figures.{µg, blended, dayFigure, yearFigure, lowFigure, highFigure, rowFigures, allDays, hundredths, MassBand}
 use Rattle.inventory.proofs.MassBound.{Shares, Enclosed, Every, low-above, high-below}
 
--- a blend of parts that are at most 6 apart, with shares c, d and p, q of all
-blend-apart : (c d p q h w i : ℕ) {h' w' i' : ℕ} → c + d ≡ 100 → p + q ≡ 100 → h' ≤ h + 6 → w' ≤ w + 6 → i' ≤ i + 6
-    → c * (p * h' + q * w') + d * 100 * i' ≤ c * (p * h + q * w) + d * 100 * i + 60000
+-- a blend of parts that are at most 5 apart, with shares c, d and p, q of all
+blend-apart : (c d p q h w i : ℕ) {h' w' i' : ℕ} → c + d ≡ 100 → p + q ≡ 100 → h' ≤ h + 5 → w' ≤ w + 5 → i' ≤ i + 5
+    → c * (p * h' + q * w') + d * 100 * i' ≤ c * (p * h + q * w) + d * 100 * i + 50000
 blend-apart c d p q h w i {h'} {w'} e f a b g =
-    let inner : p * h' + q * w' ≤ p * h + q * w + 600 = omega (arith, mul-le-mul-left p a, mul-le-mul-left q b) in
+    let inner : p * h' + q * w' ≤ p * h + q * w + 500 = omega (arith, mul-le-mul-left p a, mul-le-mul-left q b) in
     omega (arith, mul-le-mul-left c inner, mul-le-mul-left (d * 100) g)
 
 module _ (counts : List ℕ) {row : Row} (shares : Shares row) where
   -- the figures of a day's trips
   trips-apart : (season : Season) (h w i : ℕ)
-      → row .trips * blended highMicrograms counts season row (highMicrograms h) (highMicrograms w) (highMicrograms i) ≤ row .trips * blended lowMicrograms counts season row (lowMicrograms h) (lowMicrograms w) (lowMicrograms i) + 60000 * row .trips
+      → row .trips * blended highMicrograms counts season row (highMicrograms h) (highMicrograms w) (highMicrograms i) ≤ row .trips * blended lowMicrograms counts season row (lowMicrograms h) (lowMicrograms w) (lowMicrograms i) + 50000 * row .trips
   unfolding blended
   trips-apart season h w i =
       let c = row .carburettor in
@@ -36,7 +36,7 @@ module _ (counts : List ℕ) {row : Row} (shares : Shares row) where
 
   -- a day's figures
   day-apart : (season : Season) (mechanism : Mechanism)
-      → dayFigure highMicrograms counts season row mechanism ≤ dayFigure lowMicrograms counts season row mechanism + 60000 * hundredths row mechanism
+      → dayFigure highMicrograms counts season row mechanism ≤ dayFigure lowMicrograms counts season row mechanism + 50000 * hundredths row mechanism
   unfolding dayFigure hundredths µg
   day-apart season diurnal = omega (arith, high-near-low (factorUnits season row counts F1))
   day-apart season soak = trips-apart season _ _ _
@@ -44,7 +44,7 @@ module _ (counts : List ℕ) {row : Row} (shares : Shares row) where
 
   -- a year's figures
   pub year-apart : (seasons : List Season) (mechanism : Mechanism)
-      → yearFigure highMicrograms counts seasons row mechanism ≤ yearFigure lowMicrograms counts seasons row mechanism + 60000 * hundredths row mechanism * allDays seasons
+      → yearFigure highMicrograms counts seasons row mechanism ≤ yearFigure lowMicrograms counts seasons row mechanism + 50000 * hundredths row mechanism * allDays seasons
   unfolding yearFigure allDays
   year-apart [] mechanism = omega arith
   year-apart (season ∷ seasons) mechanism =

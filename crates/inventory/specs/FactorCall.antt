@@ -44,12 +44,12 @@ answered (Refused number place) units = answer.Refused number place
 unfoldable pub factorAnswer : List ℕ → ℕ → ℕ → ℕ → FactorAnswer
 factorAnswer s season row k = answered (factorCheck s season row k) (unitsAt s season row k)
 
--- "low and high micrograms, at most 1,000 apart", around the exact factor for every n from 40 upward; they are in fact at most 6 apart
+-- "low and high micrograms, at most 1,000 apart", around the exact factor for every n from 40 upward; they are in fact at most 5 apart
 pub record FactorBand (s : List ℕ) (season row k low high : ℕ) : Type 0 where
   pub above : (n : ℕ) → 40 ≤ n → low /10^ 6 ≤ᶠ factor n (cellsOf s) (seasonAt s season) (rowAt s row) (numbered k)
   pub below : (n : ℕ) → 40 ≤ n → factor n (cellsOf s) (seasonAt s season) (rowAt s row) (numbered k) ≤ᶠ high /10^ 6
   pub narrow : high ≤ low + 1000
-  pub narrower : high ≤ low + 6
+  pub narrower : high ≤ low + 5
 
 -- What is promised of an answer. Document 01 leaves low and high open within these bounds.
 unfoldable pub FactorPromise : List ℕ → ℕ → ℕ → ℕ → FactorAnswer → Type 0
