@@ -6,7 +6,7 @@ use native.Mathlib.Decide.{decLe}
 use native.Mathlib.Omega.{arith}
 use native.Mathlib.Nat.{pow-zero, pow-suc, mul-zero, mul-sub, mul-pos, mul-le-mul, mul-le-mul-left, mul-le-mul-right, le-of-mul-le-mul-left, le-of-mul-le-mul-right, le-trans, div-mul-le-self, lt-div-mul-add}
 use Rattle.bounds.specs.Enclosure.{Within}
-use Rattle.bounds.proofs.Order.{via}
+use Rattle.numbers.proofs.Order.{via}
 use Rattle.bounds.proofs.Within.{ratio-within}
 use Rattle.bounds.proofs.Product.{den, acc, num, den-pos, num-zero, num-scale, den-scale, product-above, product-below}
 use Rattle.bounds.proofs.Tail.{Near, top, tail}

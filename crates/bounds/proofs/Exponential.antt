@@ -6,9 +6,9 @@ use native.Mathlib.Decide.{decLe}
 use native.Mathlib.Omega.{arith}
 use native.Mathlib.Nat.{pow-zero, mul-comm, mul-pos, mul-le-mul-right, mul-le-mul-left, mul-le-mul, le-of-mul-le-mul-right, le-dest, le-of-lt, lt-of-not-le}
 use lib.Dec.{T}
-use Rattle.bounds.specs.Fraction.{Fraction, _≤ᶠ_, _≈ᶠ_, _+ᶠ_, negᶠ, _*ᶠ_, whole, _/10^_, ten-pos, _over_, inverse, _times_}
+use Rattle.numbers.specs.Fraction.{Fraction, _≤ᶠ_, _≈ᶠ_, _+ᶠ_, negᶠ, _*ᶠ_, whole, _/10^_, ten-pos, _over_, inverse, _times_}
 use Rattle.bounds.specs.Series.{S, E, term, factorial}
-use Rattle.bounds.proofs.Order.{NonNegative, Positive, sub-mul, ratio, ratio-≤, ratio-≈, ratio-positive, nonNegative-is, decimal-is, ≤-trans, ≤-by, ≈→≤, ≈→≥, ≈-refl, ≈-sym, ≈-trans, +-cong, *-cong, ^-cong, over-cong, neg-cong, inverse-cong, test-cases, test-cong, nonNegative, neg-positive, times-is, positive→nonNegative, nonNegative-up, positive-cong}
+use Rattle.numbers.proofs.Order.{NonNegative, Positive, sub-mul, ratio, ratio-≤, ratio-≈, ratio-positive, nonNegative-is, decimal-is, ≤-trans, ≤-by, ≈→≤, ≈→≥, ≈-refl, ≈-sym, ≈-trans, +-cong, *-cong, ^-cong, over-cong, neg-cong, inverse-cong, test-cases, test-cong, nonNegative, neg-positive, times-is, positive→nonNegative, nonNegative-up, positive-cong}
 use Rattle.bounds.proofs.Product.{den, acc, num, num-grow, num-mono, num-zero, num-pos, den-pos, product-above, product-below, term-is, series-is}
 use Rattle.bounds.proofs.Tail.{top, tail, belowTest, below}
 

@@ -6,11 +6,11 @@ use native.Mathlib.Omega.{arith}
 use native.Mathlib.Nat.{mul-le-mul, le-of-lt, div-add-mod, mod-lt}
 use lib.Dec.{lit<}
 use lib.ListN.{getD}
-use Rattle.bounds.specs.Fraction.{ten-pos}
+use Rattle.numbers.specs.Fraction.{ten-pos}
 use Rattle.bounds.specs.Series.{E}
 use Rattle.bounds.specs.Enclosure.{Within, WithinAll}
 use Rattle.bounds.specs.Exponential.{exponent, high, middle, rest, quadratic, fine, exponential, exponentLimit, exponentialError}
-use Rattle.bounds.proofs.Order.{≈-sym}
+use Rattle.numbers.proofs.Order.{≈-sym}
 use Rattle.bounds.proofs.Within.{within-≈, round-within, widen, div-mono}
 use Rattle.bounds.proofs.Tail.{Near}
 use Rattle.bounds.proofs.Exponential.{E-is}
@@ -100,7 +100,6 @@ fine-near d h =
 exponential-at : (n h d t lo : ℕ) → d < 6250000000000 → 40 ≤ n → lo < 2 ^ 41 → Near 16 (from 256 h) (2 ^ 40) (h - 256) (256 - h) t
     → Small (10 ^ 14) 10 (2 ^ 40) d lo 8
     → Within (2 ^ 40) (t * lo / 2 ^ 40) (8 * (t / 2 ^ 40 + 1) + 3) (E n (exponent (6250000000000 * h + d)))
-unfolding exponent
 exponential-at n h d t lo l n40 k e s =
     widen
     (round-within (2 ^ 40) (omega arith)

@@ -1,6 +1,5 @@
 pub mod Root
 pub mod Parts
-pub mod Order
 pub mod Within
 pub mod Table
 pub mod Product
@@ -11,4 +10,5 @@ pub mod Entries
 pub mod PowerBound
 pub mod Composition
 pub mod ExponentialBound
-pub mod Lists
+pub mod Ends
+pub mod Weights

@@ -9,7 +9,7 @@ use native.Mathlib.Numerals.{unary-clauses}
 use native.Mathlib.Nat.{sub-add-cancel, sub-eq-zero-of-le, mul-pos, mul-le-mul-right, mul-le-mul-left, mul-le-mul, le-of-mul-le-mul-right, lt-of-mul-lt-mul-right, le-trans, pow-zero, pow-suc, div-mul-le-self}
 use lib.Pow.{pow-add}
 use lib.Dec.{lit<}
-use Rattle.bounds.specs.Fraction.{Fraction, _≤ᶠ_, _*ᶠ_, _^ᶠ_, whole}
+use Rattle.numbers.specs.Fraction.{Fraction, _≤ᶠ_, _*ᶠ_, _^ᶠ_, whole}
 use Rattle.bounds.specs.Series.{rootFrom, root, cutRoot, power2·5, two-pos}
 use Rattle.bounds.specs.Enclosure.{Within, WithinAll}
 use Rattle.bounds.specs.Power.{degrees, halfPower, powerFrom, power, degreesLimit, powerError}
@@ -215,7 +215,7 @@ power-cold θ h = ap powerFrom (sub-eq-zero-of-le h)
 -- power θ ≤ 2²⁴·T^2.5 ≤ power θ + powerError, for every n
 pub power-within :
     (θ : ℕ) → θ ≤ degreesLimit → WithinAll (2 ^ 24) (power θ) powerError (λ n. power2·5 n (degrees θ))
-unfolding power degrees whole
+unfolding power whole
 power-within θ h = record {
   at = λ n m.
       elim (decLe (30 * 10 ^ 10) θ) [

@@ -9,7 +9,7 @@ use native.Mathlib.Decide.{decLe}
 use native.Mathlib.Nat.{mul-le-mul, mul-le-mul-right, div-mul-le-self, lt-div-mul-add, le-dest, add-sub-cancel-left, le-refl, le-antisymm}
 use lib.Dec.{leb}
 use borrow.Author.Tests.{leb-true, leb-false, le-leb, lt-leb}
-use Rattle.bounds.specs.Fraction.{Fraction, _≤ᶠ_, _<ᶠ_, _*ᶠ_, _^ᶠ_, whole, _≤?_}
+use Rattle.numbers.specs.Fraction.{Fraction, _≤ᶠ_, _<ᶠ_, _*ᶠ_, _^ᶠ_, whole, _≤?_}
 use Rattle.bounds.specs.Series.{rootFrom, root, cutRoot, power2·5, two-pos}
 
 -- the larger square has the larger root

@@ -4,9 +4,9 @@ use Prim.Native.Nat.{ℕ, suc, zero, _+_, _*_, _-_, _^_, _/_, _≤_, _<_}
 use native.Mathlib.Omega.{arith}
 use native.Mathlib.Nat.{mul-le-mul-right, mul-le-mul-left, mul-le-mul, mul-pos, le-of-mul-le-mul-right, lt-of-mul-lt-mul-right, le-dest, div-mul-le-self, lt-div-mul-add, le-div-iff-mul-le}
 use mathlib.Core.Path.{ap}
-use Rattle.bounds.specs.Fraction.{Fraction, _≤ᶠ_, _≈ᶠ_, _+ᶠ_, negᶠ, _-ᶠ_, _*ᶠ_, whole, _/10^_, ten-pos, _over_, _times_}
+use Rattle.numbers.specs.Fraction.{Fraction, _≤ᶠ_, _≈ᶠ_, _+ᶠ_, negᶠ, _-ᶠ_, _*ᶠ_, whole, _/10^_, ten-pos, _over_, _times_}
 use Rattle.bounds.specs.Enclosure.{Within, WithinAll}
-use Rattle.bounds.proofs.Order.{NonNegative, Positive, via, sub-mul, idle, ratio, ≈-refl, ≈-sym, *-cong, decimal-is}
+use Rattle.numbers.proofs.Order.{NonNegative, Positive, via, sub-mul, idle, ratio, ≈-refl, ≈-sym, *-cong, decimal-is}
 
 -- ⌊a/k⌋ grows with a
 pub div-mono : {a b : ℕ} (k : ℕ) → 0 < k → a ≤ b → a / k ≤ b / k

@@ -1,6 +1,6 @@
 -- What it means that a computed whole number encloses an exact value. Definitions only.
 use Prim.Native.Nat.{ℕ, _+_, _*_, _≤_}
-use Rattle.bounds.specs.Fraction.{Fraction}
+use Rattle.numbers.specs.Fraction.{Fraction}
 
 -- low / scale ≤ x ≤ (low + width) / scale, compared crosswise
 pub record Within (scale low width : ℕ) (x : Fraction) : Type 0 where

@@ -5,10 +5,10 @@ use mathlib.Core.List.{List, [], _∷_}
 use Prim.Native.Nat.{ℕ, _+_, _*_, _/_, _%_, _^_, _<_}
 use native.Mathlib.Omega.{arith}
 use lib.ListN.{getD}
-use Rattle.bounds.specs.Fraction.{Fraction, ten-pos}
+use Rattle.numbers.specs.Fraction.{Fraction, ten-pos}
 
 -- z = x·10⁻¹⁴ − 16
-unfoldable pub exponent : ℕ → Fraction
+abbrev pub exponent : ℕ → Fraction
 exponent x = record { up = x; down = 16 * 10 ^ 14; den = 10 ^ 14; pos = ten-pos 14 }
 
 -- just below 2⁴⁰·E((h − 256)/16), for h from 0 to 321

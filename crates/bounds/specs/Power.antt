@@ -1,11 +1,11 @@
 -- The computed T^2.5: which whole number the program's root is. Definitions only.
 -- A temperature T is held as the whole number θ = (T + 30 °C)·10¹⁰, and the result is in units of 2⁻²⁴.
 use Prim.Native.Nat.{ℕ, _+_, _*_, _-_, _/_, _^_}
-use Rattle.bounds.specs.Fraction.{Fraction, ten-pos}
+use Rattle.numbers.specs.Fraction.{Fraction, ten-pos}
 use Rattle.bounds.specs.Series.{root}
 
 -- T = θ·10⁻¹⁰ − 30, in °C
-unfoldable pub degrees : ℕ → Fraction
+abbrev pub degrees : ℕ → Fraction
 degrees θ = record { up = θ; down = 30 * 10 ^ 10; den = 10 ^ 10; pos = ten-pos 10 }
 
 -- N^2.5·2⁻⁶⁸, from N² and the root of N

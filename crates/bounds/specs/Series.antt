@@ -3,7 +3,7 @@ use mathlib.Core.Bool.{Bool, true, false}
 use Prim.Native.Nat.{ℕ, suc, zero, _+_, _*_, _-_, _^_, _/_, _<_}
 use native.Mathlib.Omega.{arith}
 use lib.Dec.{leb}
-use Rattle.bounds.specs.Fraction.{Fraction, _+ᶠ_, negᶠ, _^ᶠ_, whole, _over_, inverse, _≤?_}
+use Rattle.numbers.specs.Fraction.{Fraction, _+ᶠ_, negᶠ, _^ᶠ_, whole, _over_, inverse, _≤?_}
 
 unfoldable pub factorial : ℕ → ℕ
 factorial zero = 1

@@ -5,7 +5,7 @@ use Prim.Native.Nat.{ℕ, _%_, _^_}
 use lib.Dec.{ltb}
 use lib.ListN.{length, getD}
 use Rattle.bounds.specs.Exponential.{exponential, exponentLimit}
-use Rattle.bounds.specs.Lists.{sum}
+use Rattle.numbers.specs.Lists.{sum}
 
 -- the exponential of an exponent that is served, and 0 of any other
 unfoldable pub served : ℕ → ℕ

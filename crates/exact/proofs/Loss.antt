@@ -3,8 +3,8 @@
 use mathlib.Core.Path.{_≡_, ap}
 use mathlib.Core.Bool.{Bool, true, false}
 use Prim.Native.Nat.{ℕ}
-use Rattle.bounds.specs.Fraction.{Fraction, _≤ᶠ_, _+ᶠ_, _-ᶠ_}
-use Rattle.bounds.proofs.Order.{test-true, test-false}
+use Rattle.numbers.specs.Fraction.{Fraction, _≤ᶠ_, _+ᶠ_, _-ᶠ_}
+use Rattle.numbers.proofs.Order.{test-true, test-false}
 use Rattle.exact.specs.Canister.{curve, B}
 
 module _ (n : ℕ) (vp s saturation T m : Fraction) where

@@ -1,10 +1,11 @@
 -- Opens every definition of document 01, so that antt computes with them: `unfolding definitions`.
 -- Assumes nothing.
 use Prim.Native.Nat.{ℕ}
-use Rattle.bounds.specs.Fraction.{_≤?_, _+ᶠ_, negᶠ, _-ᶠ_, _*ᶠ_, whole, _^ᶠ_, _/10^_, _over_, inverse, _times_}
+use Rattle.numbers.specs.Fraction.{_≤?_, _+ᶠ_, negᶠ, _-ᶠ_, _*ᶠ_, whole, _^ᶠ_, _/10^_, _over_, inverse, _times_}
 use Rattle.bounds.specs.Series.{factorial, term, S, E, rootFrom, root, cutRoot, power2·5}
 use Rattle.exact.specs.Classes.{smallFirst, mediumFirst, without, alwaysSmall, classes, atTechnology, atClass, equipment}
-use Rattle.exact.specs.Day.{signedTenths, weights, w, weightExponent, temperature, startMark}
+use Rattle.bounds.specs.Weights.{weights, weightExponent}
+use Rattle.exact.specs.Day.{signedTenths, temperature, startMark}
 use Rattle.exact.specs.Vapour.{vapour, stepVapour, parkingVapour}
 use Rattle.exact.specs.Permeation.{bracket, permeation, markRates, parkingPermeation}
 use Rattle.exact.specs.Canister.{a, b, curve, B, breakthrough, escape}
@@ -12,5 +13,5 @@ use Rattle.exact.specs.Factors.{vp, rowVapour, rowEscape, escapeOver, op
 use Rattle.exact.specs.Masses.{blend, dayMass, mass}
 
 unfoldable pub definitions : ℕ
-unfolding _≤?_ _+ᶠ_ negᶠ _-ᶠ_ _*ᶠ_ whole _^ᶠ_ _/10^_ _over_ inverse _times_ factorial term S E rootFrom root cutRoot power2·5 smallFirst mediumFirst without alwaysSmall classes atTechnology atClass equipment signedTenths weights w weightExponent temperature startMark vapour stepVapour parkingVapour bracket permeation markRates parkingPermeation a b curve B breakthrough escape vp rowVapour rowEscape escapeOver openVapour hours T1 T2 diurnalFactor soakPermeation runningPermeation carFactor twoWheelerFactor parkingFactor endHour duration total weightedSum mean products factor blend dayMass mass
+unfolding _≤?_ _+ᶠ_ negᶠ _-ᶠ_ _*ᶠ_ whole _^ᶠ_ _/10^_ _over_ inverse _times_ factorial term S E rootFrom root cutRoot power2·5 smallFirst mediumFirst without alwaysSmall classes atTechnology atClass equipment signedTenths weights weightExponent temperature startMark vapour stepVapour parkingVapour bracket permeation markRates parkingPermeation a b curve B breakthrough escape vp rowVapour rowEscape escapeOver openVapour hours T1 T2 diurnalFactor soakPermeation runningPermeation carFactor twoWheelerFactor parkingFactor endHour duration total weightedSum mean products factor blend dayMass mass
 definitions = 0

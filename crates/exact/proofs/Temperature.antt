@@ -7,14 +7,14 @@ use native.Mathlib.Omega.{arith}
 use native.Mathlib.Nat.{le-dest, add-sub-cancel-left, mul-le-mul-left}
 use native.Mathlib.Decide.{decLe}
 use borrow.Author.Tests.{le-leb, lt-leb}
-use lib.Dec.{leb, leb→le}
-use lib.ListN.{getD, List·getD-eq-default}
-use Rattle.bounds.specs.Fraction.{Fraction, _≤ᶠ_, _≈ᶠ_, _+ᶠ_, _-ᶠ_, negᶠ, _*ᶠ_, _/10^_, _≤?_, ten-pos}
+use lib.Dec.{leb}
+use Rattle.numbers.specs.Fraction.{Fraction, _≤ᶠ_, _≈ᶠ_, _+ᶠ_, _-ᶠ_, negᶠ, _*ᶠ_, _/10^_, _≤?_, ten-pos}
 use Rattle.bounds.specs.Power.{degrees}
-use Rattle.bounds.proofs.Order.{≈-refl, ≈-trans, ≤-by, ≤-trans, ≈-sym, test-cases, test-cong, not-≤→<, +-cong, sub-cong, *-cong}
-use Rattle.bounds.proofs.Table.{at}
+use Rattle.numbers.proofs.Order.{≈-refl, ≈-trans, ≤-by, ≤-trans, ≈-sym, test-cases, test-cong, not-≤→<, +-cong, sub-cong, *-cong}
 use Rattle.exact.specs.declared.Season.{Season}
-use Rattle.exact.specs.Day.{signedTenths, weights, w, temperature}
+use Rattle.bounds.specs.Weights.{w}
+use Rattle.bounds.proofs.Weights.{w-most}
+use Rattle.exact.specs.Day.{signedTenths, temperature}
 
 -- tenths of °C above −30 °C, of a number of 16 bits (two's complement)
 abbrev pub shifted : ℕ → ℕ
@@ -100,7 +100,7 @@ abbrev pub markθ : Season → ℕ → ℕ
 markθ season i = shifted (season .lowest) * 10 ^ 9 + (shifted (season .highest) - shifted (season .lowest)) * w i
 
 between : (l d k : ℕ) → tenths l +ᶠ (tenths (l + d) -ᶠ tenths l) *ᶠ k /10^ 9 ≈ᶠ degrees (l * 10 ^ 9 + d * k)
-unfolding tenths degrees _+ᶠ_ _-ᶠ_ negᶠ _*ᶠ_ _/10^_
+unfolding tenths _+ᶠ_ _-ᶠ_ negᶠ _*ᶠ_ _/10^_
 between l d k = record { cross = omega arith }
 
 -- the same from the two ends
@@ -118,15 +118,6 @@ temperature-is {season} i t =
     ≈-trans (+-cong lo (*-cong (sub-cong hi lo) (≈-refl (w i /10^ 9))))
     (between-ends (shifted (season .lowest)) (shifted (season .highest)) (w i) (t .order))
 
--- w(i) ≤ 10⁹
-pub w-most : (i : ℕ) → w i ≤ 10 ^ 9
-unfolding w weights
-w-most i =
-    elim (decLe 48 i) [
-      | yes l ↦ rw (List·getD-eq-default weights 0 l) (omega arith)
-      | no l ↦ leb→le (getD weights i 0) (10 ^ 9) (at (λ (k x : ℕ). leb x (10 ^ 9)) weights tt i (omega arith))
-    ]
-
 -- θ ≤ (highest + 30)·10¹⁰, with highest + 30 in tenths
 pub markθ-below-highest : {season : Season} (i : ℕ) → Temperate season → markθ season i ≤ shifted (season .highest) * 10 ^ 9
 markθ-below-highest {season} i t =
@@ -139,11 +130,10 @@ markθ-most i t = omega (arith, markθ-below-highest i t, t .warm)
 
 -- θ ≤ θ' gives θ·10⁻¹⁰ − 30 ≤ θ'·10⁻¹⁰ − 30
 pub degrees-mono : {θ θ' : ℕ} → θ ≤ θ' → degrees θ ≤ᶠ degrees θ'
-unfolding degrees
 degrees-mono h = omega arith
 
 tenths-degrees : (k : ℕ) → tenths k ≈ᶠ degrees (k * 10 ^ 9)
-unfolding degrees tenths
+unfolding tenths
 tenths-degrees k = record { cross = omega arith }
 
 -- lowest ≤ T(i)
@@ -167,7 +157,6 @@ temperature-mono {season} i j t h =
 
 -- comparing two temperatures is comparing their whole numbers
 degrees-test : (θ θ' : ℕ) → (degrees θ ≤? degrees θ') ≡ leb θ θ'
-unfolding degrees
 degrees-test θ θ' =
     test-cases (λ (c : Bool). c ≡ leb θ θ') (degrees θ) (degrees θ') (λ h. sym (le-leb θ θ' (omega (arith, h .cross))))
     (λ n. sym (lt-leb θ θ' (omega (arith, not-≤→< n .cross))))

@@ -5,7 +5,7 @@ use mathlib.Core.Bool.{Bool, true, false, _&&_}
 use mathlib.Core.List.{List, [], _∷_, map}
 use Prim.Native.Nat.{ℕ, _+_, _*_}
 use lib.Dec.{T, eqb}
-use Rattle.bounds.specs.Fraction.{Fraction, whole, _over_}
+use Rattle.numbers.specs.Fraction.{Fraction, whole, _over_}
 use Rattle.exact.specs.declared.Canister.the-variants.{None, Small, Medium, Large}
 use Rattle.exact.specs.declared.Season.{Season}
 use Rattle.exact.specs.declared.Row.{Row}

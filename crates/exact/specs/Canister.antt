@@ -1,7 +1,7 @@
 -- The carbon canister: what it loses, and what breaks through. Definitions only.
 use mathlib.Core.Bool.{Bool, true, false}
 use Prim.Native.Nat.{ℕ}
-use Rattle.bounds.specs.Fraction.{Fraction, _+ᶠ_, _-ᶠ_, negᶠ, _*ᶠ_, whole, _/10^_, _≤?_}
+use Rattle.numbers.specs.Fraction.{Fraction, _+ᶠ_, _-ᶠ_, negᶠ, _*ᶠ_, whole, _/10^_, _≤?_}
 use Rattle.bounds.specs.Series.{E}
 use Rattle.exact.specs.declared.Canister.{Canister}
 use Rattle.exact.specs.declared.Canister.the-variants.{None, Small, Medium, Large}

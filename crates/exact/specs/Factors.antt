@@ -3,7 +3,7 @@ use mathlib.Core.Bool.{Bool, true, false}
 use mathlib.Core.List.{List, [], _∷_, map, _++_}
 use Prim.Native.Nat.{ℕ, suc, zero, _+_, _*_, _%_, _/_}
 use lib.Dec.{leb}
-use Rattle.bounds.specs.Fraction.{Fraction, _+ᶠ_, _*ᶠ_, whole, _/10^_, _over_, _times_}
+use Rattle.numbers.specs.Fraction.{Fraction, _+ᶠ_, _*ᶠ_, whole, _/10^_, _over_, _times_}
 use Rattle.exact.specs.declared.Canister.{Canister}
 use Rattle.exact.specs.declared.Canister.the-variants.{None, Small, Medium, Large}
 use Rattle.exact.specs.declared.Season.{Season}

@@ -1,7 +1,7 @@
 -- The exact masses of a row, in grams. Definitions only.
 use mathlib.Core.List.{List, [], _∷_}
 use Prim.Native.Nat.{ℕ, _*_}
-use Rattle.bounds.specs.Fraction.{Fraction, _+ᶠ_, _-ᶠ_, _*ᶠ_, whole, _/10^_, _times_}
+use Rattle.numbers.specs.Fraction.{Fraction, _+ᶠ_, _-ᶠ_, _*ᶠ_, whole, _/10^_, _times_}
 use Rattle.exact.specs.declared.Season.{Season}
 use Rattle.exact.specs.declared.Row.{Row}
 use Rattle.exact.specs.Factors.{Factor, F1, F2, F3, F4, F5, F6, F7, factor}

@@ -1,6 +1,6 @@
 -- What seeps through hoses and tank walls. Definitions only.
 use Prim.Native.Nat.{ℕ, suc, zero}
-use Rattle.bounds.specs.Fraction.{Fraction, _+ᶠ_, _*ᶠ_, whole, _/10^_}
+use Rattle.numbers.specs.Fraction.{Fraction, _+ᶠ_, _*ᶠ_, whole, _/10^_}
 use Rattle.bounds.specs.Series.{E, power2·5}
 use Rattle.exact.specs.Day.{startMark}
 

@@ -1,7 +1,7 @@
 -- The vapour that a warming tank drives out. Definitions only.
 use mathlib.Core.Bool.{Bool, true, false}
 use Prim.Native.Nat.{ℕ, suc, zero}
-use Rattle.bounds.specs.Fraction.{Fraction, _+ᶠ_, _-ᶠ_, _*ᶠ_, whole, _/10^_, _≤?_}
+use Rattle.numbers.specs.Fraction.{Fraction, _+ᶠ_, _-ᶠ_, _*ᶠ_, whole, _/10^_, _≤?_}
 use Rattle.bounds.specs.Series.{E}
 use Rattle.exact.specs.Day.{startMark}
 

@@ -4,8 +4,8 @@ use mathlib.Core.List.{List}
 use mathlib.Core.Path.{_≡_, refl, _∙_, ap}
 use Prim.Native.Nat.{ℕ, zero, suc, _+_, _/_, _^_, _≤_, _<_}
 use native.Mathlib.Omega.{arith}
-use Rattle.bounds.specs.Lists.{tab}
-use Rattle.bounds.proofs.Lists.{getD-tab, tab-all}
+use Rattle.numbers.specs.Lists.{tab}
+use Rattle.numbers.proofs.Lists.{getD-tab, tab-all}
 use Rattle.exact.specs.Day.{startMark}
 use Rattle.exact.specs.Factors.{total, endHour, duration}
 use Rattle.marks.specs.Marks.{passed}

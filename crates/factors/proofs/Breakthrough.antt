@@ -5,13 +5,12 @@ use Prim.Native.Nat.{ℕ, _+_, _*_, _-_, _^_, _/_, _≤_, _<_, min}
 use native.Mathlib.Omega.{arith}
 use native.Mathlib.Nat.{mul-le-mul-right, mul-le-mul-left, le-of-mul-le-mul-right}
 use lib.Dec.{T}
-use Rattle.bounds.specs.Fraction.{Fraction, _≤ᶠ_, _≈ᶠ_, _+ᶠ_, negᶠ, _-ᶠ_, _*ᶠ_, whole, _/10^_, ten-pos}
+use Rattle.numbers.specs.Fraction.{Fraction, _≤ᶠ_, _≈ᶠ_, _+ᶠ_, negᶠ, _-ᶠ_, _*ᶠ_, whole, _/10^_, ten-pos}
+use Rattle.bounds.proofs.Ends.{end-3}
 use Rattle.bounds.specs.Series.{E}
 use Rattle.bounds.specs.Enclosure.{Within}
 use Rattle.bounds.specs.Exponential.{exponential, exponent}
-use Rattle.bounds.proofs.Order.{NonNegative, positive→nonNegative, nonNegative-up, test-cases, ≤-refl, ≤-trans, ≤-by, ≈-refl, ≈-sym, ≈-trans, ≈→≤, ≈→≥, +-mono, +-cong, +-comm, +-assoc, +-zero, +-grows, sub-add, sub-nonNegative, ≤-sub, *-mono, *-mono-right, *-cong, ratio, ratio-≤, ratio-nonNegative}
-use Rattle.bounds.proofs.Product.{num, acc}
-use Rattle.bounds.proofs.Tail.{belowTest, top}
+use Rattle.numbers.proofs.Order.{NonNegative, positive→nonNegative, nonNegative-up, test-cases, ≤-refl, ≤-trans, ≤-by, ≈-refl, ≈-sym, ≈-trans, ≈→≤, ≈→≥, +-mono, +-cong, +-comm, +-assoc, +-zero, +-grows, sub-add, sub-nonNegative, ≤-sub, *-mono, *-mono-right, *-cong, ratio, ratio-≤, ratio-nonNegative}
 use Rattle.bounds.proofs.Exponential.{E-cong, E-mono, E-positive, E-below, E-tangent}
 use Rattle.bounds.proofs.ExponentialBound.{exponential-within, exponentialError-3}
 use Rattle.bounds.proofs.Within.{div-mono, widen, weaken, within-≈, within-nonNegative, within-above, within-below, within-from, +-within, sub-within}
@@ -49,14 +48,9 @@ module _ (n : ℕ) (vp s saturation T : Fraction) where
 
 -- The curve: its exponent a + b·s·m for a = A, 2·b·s = K and a load in units of 2⁻⁴⁰ g.
 
--- E(3) ≤ 20.1, as a test
-three-test : T (belowTest (10 ^ 0) 40 (10 ^ 1) 3 201 0)
-unfolding belowTest top num acc
-three-test = tt
-
 -- E up to an exponent of 3 is at most 20.1
 pub E-most : {z : Fraction} (n : ℕ) → 40 ≤ n → z ≤ᶠ 3 /10^ 0 → E n z ≤ᶠ 201 /10^ 1
-E-most = E-below 40 3 0 201 1 (omega arith) three-test
+E-most = E-below 40 3 0 201 1 (omega arith) end-3
 
 -- a value between two enclosed ones
 within-between : {s l w m v u : ℕ} {x y z : Fraction} (p : 0 < s) → Within s l w x → Within s m v z → x ≤ᶠ y → y ≤ᶠ z → m + v ≤ l + u
@@ -110,7 +104,7 @@ loaded A K m = exponent A +ᶠ ratio K (2 * 10 ^ 14) double-unit-pos *ᶠ m
 
 -- an exponent of at most 3 as it is held
 held-most : (x : ℕ) → exponent x ≤ᶠ 3 /10^ 0 → x ≤ 19 * 10 ^ 14
-unfolding exponent _/10^_
+unfolding _/10^_
 held-most x h = omega (arith, h .cross)
 
 -- 22 units of the exponent are 5 of E, at 20.1
@@ -126,7 +120,7 @@ loaded-mono A K h = +-mono (≤-refl (exponent A)) (*-mono-right (ratio-nonNegat
 module _ (A K : ℕ) {l w : ℕ} (m : Fraction) (a : Within (2 ^ 40) l w m) where
   -- the held exponent, from below
   loaded-above : exponent (A + K * l / 2 ^ 41) ≤ᶠ loaded A K m
-  unfolding loaded exponent
+  unfolding loaded
   loaded-above =
       exponent-above (10 ^ 14) (16 * 10 ^ 14) (2 ^ 40) (ten-pos 14) (omega arith) A (K * l / 2 ^ 41) K l w double-unit-pos m (cut (K * l)) a
     where
@@ -135,7 +129,7 @@ module _ (A K : ℕ) {l w : ℕ} (m : Fraction) (a : Within (2 ^ 40) l w m) wher
 
   -- and from above: for b·s ≤ 0.242 a unit of the load moves it by 22 units at most
   loaded-below : K ≤ 22 * 2 ^ 41 → loaded A K m ≤ᶠ exponent (A + K * l / 2 ^ 41) +ᶠ ratio (22 * w + 1) (10 ^ 14) (ten-pos 14)
-  unfolding loaded exponent
+  unfolding loaded
   loaded-below h =
       exponent-below (10 ^ 14) (16 * 10 ^ 14) (2 ^ 40) (ten-pos 14) (omega arith) A (K * l / 2 ^ 41) (22 * w + 1) K l w double-unit-pos m
       (wide K l w h) a

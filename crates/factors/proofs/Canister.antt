@@ -4,11 +4,11 @@ use Prim.Native.Nat.{ℕ, _+_, _*_, _-_, _^_, _≤_, _<_}
 use native.Mathlib.Omega.{arith}
 use native.Mathlib.Decide.{decLe}
 use native.Mathlib.Nat.{mul-le-mul-right, mul-le-mul-left, mul-le-mul}
-use Rattle.bounds.specs.Fraction.{Fraction, _≤ᶠ_, _≈ᶠ_, _+ᶠ_, negᶠ, _-ᶠ_, _*ᶠ_, whole, _/10^_, ten-pos}
+use Rattle.numbers.specs.Fraction.{Fraction, _≤ᶠ_, _≈ᶠ_, _+ᶠ_, negᶠ, _-ᶠ_, _*ᶠ_, whole, _/10^_, ten-pos}
 use Rattle.bounds.specs.Enclosure.{Within}
 use Rattle.bounds.specs.Exponential.{exponent}
 use Rattle.bounds.specs.Power.{degrees}
-use Rattle.bounds.proofs.Order.{≈-refl, ≈-trans, +-cong, *-cong, ratio}
+use Rattle.numbers.proofs.Order.{≈-refl, ≈-trans, +-cong, *-cong, ratio}
 use Rattle.bounds.proofs.Within.{decimal-cut}
 use Rattle.exact.specs.declared.Canister.{Canister}
 use Rattle.exact.specs.declared.Canister.the-variants.{None, Small, Medium, Large}
@@ -51,12 +51,12 @@ halves-most Large = omega arith
 
 -- a at a held temperature
 base-at : (vp θ : ℕ) → vp ≤ 1100 → a (vp /10^ 1) (degrees θ) ≈ᶠ exponent (base vp θ)
-unfolding a base degrees exponent whole _/10^_ negᶠ _-ᶠ_ _+ᶠ_ _*ᶠ_
+unfolding a base whole _/10^_ negᶠ _-ᶠ_ _+ᶠ_ _*ᶠ_
 base-at vp θ v = omega arith
 
 -- b at a held temperature
 slope-at : (vp θ : ℕ) → vp ≤ 1100 → b (vp /10^ 1) (degrees θ) ≈ᶠ ratio (112 * 10 ^ 11 + θ - 15 * 10 ^ 8 * vp) (10 ^ 14) (ten-pos 14)
-unfolding b degrees ratio _/10^_ negᶠ _-ᶠ_ _+ᶠ_ _*ᶠ_
+unfolding b ratio _/10^_ negᶠ _-ᶠ_ _+ᶠ_ _*ᶠ_
 slope-at vp θ v = omega arith
 
 -- (k/10¹⁴)·(h/2)
@@ -91,7 +91,7 @@ tenthGrams-within m = decimal-cut (2 ^ 40) m 1
 
 -- a + b·s·m ≤ 3 as a comparison of whole numbers
 loaded-≤ : (A K m : ℕ) → 20 * A + K * m ≤ 380 * 10 ^ 14 → loaded A K (m /10^ 1) ≤ᶠ 3 /10^ 0
-unfolding loaded exponent ratio _/10^_ _+ᶠ_ _*ᶠ_
+unfolding loaded ratio _/10^_ _+ᶠ_ _*ᶠ_
 loaded-≤ A K m h = omega arith
 
 -- check 20 at the highest temperature, carried to a lower one

@@ -7,8 +7,8 @@ use native.Mathlib.Omega.{arith}
 use native.Mathlib.Nat.{mul-le-mul}
 use lib.ListN.{length, getD, length-append, length-map, List·getD-append, List·getD-map}
 use lib.Seq.{getD-append-add, ext-getD}
-use Rattle.bounds.specs.Lists.{tab}
-use Rattle.bounds.proofs.Lists.{tab-length, getD-tab}
+use Rattle.numbers.specs.Lists.{tab}
+use Rattle.numbers.proofs.Lists.{tab-length, getD-tab}
 use Rattle.exact.specs.Day.{startMark}
 use Rattle.exact.specs.Factors.{total, products, endHour, duration}
 use Rattle.factors.specs.Factors.{startOf, endOf}

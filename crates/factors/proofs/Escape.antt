@@ -5,10 +5,10 @@ use mathlib.Core.List.{List}
 use Prim.Native.Nat.{ℕ, _+_, _*_, _^_, _/_, _≤_, _<_}
 use native.Mathlib.Omega.{arith}
 use native.Mathlib.Nat.{mul-comm}
-use Rattle.bounds.specs.Fraction.{Fraction, _≈ᶠ_, _*ᶠ_, _/10^_}
+use Rattle.numbers.specs.Fraction.{Fraction, _≈ᶠ_, _*ᶠ_, _/10^_}
 use Rattle.bounds.specs.Enclosure.{Within, WithinAll}
 use Rattle.bounds.specs.Power.{degrees}
-use Rattle.bounds.proofs.Order.{≈-sym, ≈-trans, *-comm, ratio}
+use Rattle.numbers.proofs.Order.{≈-sym, ≈-trans, *-comm, ratio}
 use Rattle.bounds.proofs.Within.{widen, within-≈, *-within-rounded, all-map}
 use Rattle.exact.specs.declared.Canister.{Canister}
 use Rattle.exact.specs.declared.Canister.the-variants.{None, Small, Medium, Large}

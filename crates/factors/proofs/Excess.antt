@@ -5,9 +5,9 @@ use Prim.Native.Nat.{ℕ, _+_, _-_, _≤_, _<_, min}
 use native.Mathlib.Omega.{arith}
 use native.Mathlib.Decide.{decLe}
 use native.Mathlib.Nat.{mul-le-mul-right}
-use Rattle.bounds.specs.Fraction.{Fraction, _≤ᶠ_, _≤?_, _-ᶠ_, whole}
+use Rattle.numbers.specs.Fraction.{Fraction, _≤ᶠ_, _≤?_, _-ᶠ_, whole}
 use Rattle.bounds.specs.Enclosure.{Within}
-use Rattle.bounds.proofs.Order.{nonNegative→≤, test-cases, not-≤→<, <→≤, ≤-refl, ≤-trans, ≈→≥, +-zero, sub-mono, sub-nonNegative, ≤-sub, ratio-≤}
+use Rattle.numbers.proofs.Order.{nonNegative→≤, test-cases, not-≤→<, <→≤, ≤-refl, ≤-trans, ≈→≥, +-zero, sub-mono, sub-nonNegative, ≤-sub, ratio-≤}
 use Rattle.bounds.proofs.Within.{weaken, within-above, within-below, within-from, within-cross, whole-within, sub-within}
 
 -- min(x, y)

@@ -6,9 +6,9 @@ use mathlib.Core.List.{List}
 use Prim.Native.Nat.{ℕ, _+_, _*_, _^_, _/_, _≤_, _<_}
 use native.Mathlib.Omega.{arith}
 use lib.Dec.{leb}
-use Rattle.bounds.specs.Fraction.{Fraction, _≤ᶠ_, _+ᶠ_, whole, _/10^_}
+use Rattle.numbers.specs.Fraction.{Fraction, _≤ᶠ_, _+ᶠ_, whole, _/10^_}
 use Rattle.bounds.specs.Enclosure.{Within, WithinAll}
-use Rattle.bounds.proofs.Order.{≈-sym}
+use Rattle.numbers.proofs.Order.{≈-sym}
 use Rattle.bounds.proofs.Within.{widen, within-≈, +-within, within-≤-decimal, decimal-≤-within, all-map, all-map₂}
 use Rattle.exact.specs.declared.Season.{Season}
 use Rattle.exact.specs.declared.Row.{Row}

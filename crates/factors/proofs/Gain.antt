@@ -4,13 +4,12 @@ use Prim.Native.Nat.{ℕ, _+_, _*_, _-_, _^_, _/_, _≤_, _<_}
 use native.Mathlib.Omega.{arith}
 use native.Mathlib.Nat.{mul-le-mul}
 use mathlib.Core.Path.{_≡_, ap}
-use Rattle.bounds.specs.Fraction.{Fraction, _≤ᶠ_, _≈ᶠ_, _+ᶠ_, negᶠ, _-ᶠ_, _*ᶠ_, whole, _/10^_}
+use Rattle.numbers.specs.Fraction.{Fraction, _≤ᶠ_, _≈ᶠ_, _+ᶠ_, negᶠ, _-ᶠ_, _*ᶠ_, whole, _/10^_}
+use Rattle.bounds.proofs.Ends.{end-2·255}
 use Rattle.bounds.specs.Series.{E}
 use Rattle.bounds.specs.Enclosure.{WithinAll}
 use Rattle.bounds.specs.Exponential.{exponential, exponent}
-use Rattle.bounds.proofs.Order.{ratio, ≈-sym}
-use Rattle.bounds.proofs.Product.{num, acc}
-use Rattle.bounds.proofs.Tail.{belowTest, top}
+use Rattle.numbers.proofs.Order.{ratio, ≈-sym}
 use Rattle.bounds.proofs.Exponential.{E-cong}
 use Rattle.bounds.proofs.ExponentialBound.{exponential-within, exponentialError-2·3}
 use Rattle.bounds.proofs.Within.{widen, within-≈, scaled-within, all-map, div-mono}
@@ -28,7 +27,7 @@ exactGain season row n = vapour.gain n (season .vp /10^ 1) (row .fill /10^ 2) (r
 
 -- 0.0205·vp, vp in tenths of kPa, as it is held
 pressure-is : (vp : ℕ) → 205 /10^ 4 *ᶠ vp /10^ 1 ≈ᶠ exponent (205 * vp * 10 ^ 9 + 16 * 10 ^ 14)
-unfolding _/10^_ _*ᶠ_ exponent
+unfolding _/10^_ _*ᶠ_
 pressure-is vp = omega arith
 
 -- 0.0205·vp ≤ 2.255
@@ -46,9 +45,8 @@ pressure-within vp h =
 
 -- E(2.255) ≤ 9.54
 pressure-size : (vp : ℕ) → vp ≤ 1100 → exponential (205 * vp * 10 ^ 9 + 16 * 10 ^ 14) ≤ 954 * 2 ^ 40 / 100
-unfolding belowTest top num acc
 pressure-size vp h =
-    omega (arith, exponential-most 2255 3 954 2 (pressure-within vp h) (pressure-most vp h) (omega arith) tt)
+    omega (arith, exponential-most 2255 3 954 2 (pressure-within vp h) (pressure-most vp h) (omega arith) end-2·255)
 
 forty-thousand-pos : 0 < 40000
 forty-thousand-pos = omega arith

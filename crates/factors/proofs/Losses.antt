@@ -5,11 +5,11 @@ use mathlib.Core.List.{List}
 use Prim.Native.Nat.{ℕ, _+_, _*_, _^_, _/_, _≤_, _<_}
 use native.Mathlib.Omega.{arith}
 use native.Mathlib.Nat.{mul-le-mul}
-use Rattle.bounds.specs.Fraction.{Fraction, _≈ᶠ_, _+ᶠ_, _-ᶠ_, _*ᶠ_, whole, _/10^_, _over_}
+use Rattle.numbers.specs.Fraction.{Fraction, _≈ᶠ_, _+ᶠ_, _-ᶠ_, _*ᶠ_, whole, _/10^_, _over_}
 use Rattle.bounds.specs.Series.{E}
 use Rattle.bounds.specs.Enclosure.{WithinAll}
 use Rattle.bounds.specs.Power.{degrees}
-use Rattle.bounds.proofs.Order.{≈-refl, ≈-sym, ≈-trans, *-cong, sub-cong, ratio}
+use Rattle.numbers.proofs.Order.{≈-refl, ≈-sym, ≈-trans, *-cong, sub-cong, ratio}
 use Rattle.bounds.proofs.Exponential.{E-cong}
 use Rattle.bounds.proofs.Within.{widen, weaken, within-≈, whole-within, scaled-within, all-map, all-constant}
 use Rattle.exact.specs.declared.Canister.{Canister}

@@ -7,9 +7,9 @@ use Prim.Native.Nat.{ℕ, suc, zero, _+_, _*_, _^_, _/_, _≤_, _<_}
 use native.Mathlib.Omega.{arith}
 use native.Mathlib.Numerals.{add-one}
 use native.Mathlib.Nat.{mul-le-mul-right, mul-le-mul-left, div-mul-le-self, lt-div-mul-add, le-of-mul-le-mul-right, div-le-of-le-mul, add-zero}
-use Rattle.bounds.specs.Fraction.{Fraction, _≈ᶠ_, _+ᶠ_, _*ᶠ_, whole, _over_, _times_}
+use Rattle.numbers.specs.Fraction.{Fraction, _≈ᶠ_, _+ᶠ_, _*ᶠ_, whole, _over_, _times_}
 use Rattle.bounds.specs.Enclosure.{Within, WithinAll}
-use Rattle.bounds.proofs.Order.{ring, ≈-refl, ≈-sym, ≈-trans, ≈-by, +-cong, *-cong, *-comm, *-assoc, *-distrib, *-zero, +-zero, over-cong, times-cong, times-is}
+use Rattle.numbers.proofs.Order.{ring, ≈-refl, ≈-sym, ≈-trans, ≈-by, +-cong, *-cong, *-comm, *-assoc, *-distrib, *-zero, +-zero, over-cong, times-cong, times-is}
 use Rattle.bounds.proofs.Within.{widen, weaken, whole-within, +-within, times-within, round-within, over-within-scaled}
 use Rattle.exact.specs.Factors.{total, weightedSum, mean}
 use Rattle.factors.specs.Means.{weighted, meanUnits}

@@ -7,7 +7,7 @@ use native.Mathlib.Omega.{arith}
 use native.Mathlib.Nat.{mul-le-mul, div-le-of-le-mul, le-of-lt}
 use lib.Dec.{leb}
 use lib.ListN.{take}
-use Rattle.bounds.specs.Fraction.{_≤ᶠ_, _/10^_}
+use Rattle.numbers.specs.Fraction.{_≤ᶠ_, _/10^_}
 use Rattle.bounds.specs.Exponential.{exponential, exponent}
 use Rattle.bounds.proofs.ExponentialBound.{exponential-within}
 use Rattle.exact.specs.declared.Canister.{Canister}
@@ -50,7 +50,7 @@ partial-size v h counts t i =
 
 -- exponents up to 3
 held-≤ : (x : ℕ) → x ≤ 19 * 10 ^ 14 → exponent x ≤ᶠ 3 /10^ 0
-unfolding exponent _/10^_
+unfolding _/10^_
 held-≤ x h = omega arith
 
 -- E(3) ≤ 20.1

@@ -9,8 +9,8 @@ use native.Mathlib.Decide.{ℕ-discrete}
 use native.Mathlib.Nat.{eq-or-lt-of-le, le-dest}
 use lib.ListN.{length, set, replicate, length-set, length-replicate}
 use lib.Seq.{getD-set-same, getD-set-other}
-use Rattle.bounds.specs.Lists.{sum}
-use Rattle.bounds.proofs.Lists.{sum-none, sum-ext, sum-le}
+use Rattle.numbers.specs.Lists.{sum}
+use Rattle.numbers.proofs.Lists.{sum-none, sum-ext, sum-le}
 use Rattle.exact.specs.Day.{startMark}
 use Rattle.exact.specs.Factors.{total, endHour, duration}
 use Rattle.marks.specs.Marks.{passed}

@@ -6,8 +6,8 @@ use Prim.Native.Nat.{ℕ, _+_, _*_, _-_, _/_, _^_, _≤_, _<_, min}
 use native.Mathlib.Omega.{arith}
 use native.Mathlib.Nat.{mul-le-mul-left}
 use Rattle.bounds.specs.Exponential.{exponentLimit}
-use Rattle.bounds.specs.Lists.{tab}
-use Rattle.bounds.proofs.Lists.{getD-tab, tab-ext}
+use Rattle.numbers.specs.Lists.{tab}
+use Rattle.numbers.proofs.Lists.{getD-tab, tab-ext}
 use Rattle.exact.specs.declared.Canister.{Canister}
 use Rattle.exact.specs.declared.Canister.the-variants.{None, Small, Medium, Large}
 use Rattle.exact.specs.declared.Season.{Season}

@@ -1,7 +1,7 @@
 -- What the values of a row's canister in a season are. Definitions only.
 use mathlib.Core.Path.{_≡_}
 use Prim.Native.Nat.{ℕ, _+_}
-use Rattle.bounds.specs.Lists.{tab}
+use Rattle.numbers.specs.Lists.{tab}
 use Rattle.exact.specs.declared.Season.{Season}
 use Rattle.exact.specs.declared.Row.{Row}
 use Rattle.marks.specs.Marks.{held}

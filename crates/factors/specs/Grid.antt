@@ -4,7 +4,7 @@ use mathlib.Core.Bool.{Bool, true, false}
 use mathlib.Core.List.{List}
 use Prim.Native.Nat.{ℕ, zero, suc, _+_, _*_, _^_, _≤_}
 use lib.ListN.{length, getD, set, replicate}
-use Rattle.bounds.specs.Lists.{sum}
+use Rattle.numbers.specs.Lists.{sum}
 use Rattle.exact.specs.Factors.{total, endHour, duration}
 use Rattle.marks.specs.Marks.{passed}
 use Rattle.factors.specs.Factors.{startOf, endOf}

@@ -4,7 +4,7 @@ use bounds::exp::exponential;
 use bounds::fixed::mul_shift;
 ghost use mathlib.Core.Path.{_≡_};
 ghost use Prim.Native.Nat.{ℕ, _+_, _/_, _-_, _*_, _^_, _<_, _≤_};
-ghost use Rattle.bounds.specs.Lists.{tab};
+ghost use Rattle.numbers.specs.Lists.{tab};
 ghost use Rattle.bounds.specs.Exponential.{high, middle};
 ghost use Rattle.factors.specs.Escape.{loss, lossError};
 ghost use Rattle.factors.specs.Grid.{AllAtMost, at, markSum, hourPart, gridPart};

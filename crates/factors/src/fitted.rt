@@ -6,7 +6,7 @@ use exact::Season;
 ghost use mathlib.Core.Path.{_≡_};
 ghost use Prim.Native.Nat.{ℕ, _+_, _*_, _-_, _^_, _<_, _≤_};
 ghost use Rattle.bounds.specs.Exponential.{high, middle};
-ghost use Rattle.bounds.specs.Lists.{tab};
+ghost use Rattle.numbers.specs.Lists.{tab};
 ghost use Rattle.marks.specs.Range.{SeasonInRange};
 ghost use Rattle.marks.specs.Marks.{held};
 ghost use Rattle.factors.specs.Range.{RowInRange};

@@ -7,8 +7,8 @@ use Prim.Native.Nat.{ℕ, suc, zero, _+_, _*_, _≤_, _<_}
 use native.Mathlib.Nat.{mul-le-mul, mul-pos}
 use native.Mathlib.Omega.{arith}
 use borrow.Author.Tests.{ltb-false}
-use Rattle.bounds.specs.Fraction.{Fraction, _≈ᶠ_, whole, _/10^_, _over_}
-use Rattle.bounds.proofs.Order.{test-true}
+use Rattle.numbers.specs.Fraction.{Fraction, _≈ᶠ_, whole, _/10^_, _over_}
+use Rattle.numbers.proofs.Order.{test-true}
 use Rattle.exact.specs.declared.Canister.{Canister}
 use Rattle.exact.specs.declared.Canister.the-variants.{None, Small, Medium, Large}
 use Rattle.exact.specs.declared.Season.{Season}

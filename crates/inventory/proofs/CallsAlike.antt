@@ -6,7 +6,7 @@ use mathlib.Core.Path.{_≡_, refl}
 use Prim.Native.Nat.{ℕ, suc, zero, _+_, _/_, _%_, _≤_, _<_}
 use native.Mathlib.Omega.{arith}
 use lib.ListN.{length, set}
-use Rattle.bounds.proofs.Lists.{tab-ext}
+use Rattle.numbers.proofs.Lists.{tab-ext}
 use Rattle.exact.specs.declared.Canister.{Canister}
 use Rattle.exact.specs.declared.Equipment.the-variants.{Fitted}
 use Rattle.sheet.specs.declared.Check.{Check}

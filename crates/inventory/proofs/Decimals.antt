@@ -3,7 +3,7 @@
 use Prim.Native.Nat.{ℕ, suc, zero, _+_, _*_, _-_, _^_, _≤_}
 use lib.Pow.{pow-add}
 use native.Mathlib.Omega.{arith}
-use Rattle.bounds.specs.Fraction.{_≈ᶠ_, _+ᶠ_, negᶠ, _-ᶠ_, _*ᶠ_, whole, _/10^_, _times_}
+use Rattle.numbers.specs.Fraction.{_≈ᶠ_, _+ᶠ_, negᶠ, _-ᶠ_, _*ᶠ_, whole, _/10^_, _times_}
 
 -- 0 in every number of places
 pub decimal-zero : (places : ℕ) → whole 0 ≈ᶠ 0 /10^ places

@@ -5,8 +5,8 @@ use mathlib.Core.List.{List, [], _∷_}
 use Prim.Native.Nat.{ℕ, _+_, _*_, _-_, _/_, _^_, _≤_}
 use native.Mathlib.Nat.{mul-comm, zero-mul}
 use native.Mathlib.Omega.{arith}
-use Rattle.bounds.specs.Fraction.{Fraction, _≤ᶠ_, _≈ᶠ_, _+ᶠ_, _-ᶠ_, _*ᶠ_, whole, _/10^_, _times_}
-use Rattle.bounds.proofs.Order.{≤-trans, ≈→≤, ≈→≥, ≈-refl, ≈-trans, nonNegative-up, decimal-nonNegative, whole-nonNegative, +-mono, +-cong, *-mono-left, *-mono-right, *-cong, times-mono}
+use Rattle.numbers.specs.Fraction.{Fraction, _≤ᶠ_, _≈ᶠ_, _+ᶠ_, _-ᶠ_, _*ᶠ_, whole, _/10^_, _times_}
+use Rattle.numbers.proofs.Order.{≤-trans, ≈→≤, ≈→≥, ≈-refl, ≈-trans, nonNegative-up, decimal-nonNegative, whole-nonNegative, +-mono, +-cong, *-mono-left, *-mono-right, *-cong, times-mono}
 use Rattle.exact.specs.declared.Season.{Season}
 use Rattle.exact.specs.declared.Row.{Row}
 use Rattle.exact.specs.Factors.{Factor, F1, F2, F3, F4, F5, F6, F7, factor}

@@ -9,7 +9,7 @@ use native.Mathlib.Nat.{mul-le-mul-left, mul-le-mul-right, mul-le-mul, div-add-m
 use native.Mathlib.Omega.{arith}
 use lib.Dec.{lit<}
 use lib.ListN.{getD}
-use Rattle.bounds.specs.Lists.{sum}
+use Rattle.numbers.specs.Lists.{sum}
 use Rattle.exact.specs.declared.Season.{Season}
 use Rattle.exact.specs.declared.Row.{Row}
 use Rattle.exact.specs.Factors.{Factor, F1, F2, F3, F4, F5, F6, F7}

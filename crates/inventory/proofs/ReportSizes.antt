@@ -6,7 +6,7 @@ use Prim.Native.Nat.{ℕ, suc, zero, _+_, _*_, _^_, _≤_, _<_}
 use native.Mathlib.Nat.{mul-le-mul-right}
 use native.Mathlib.Omega.{arith}
 use lib.ListN.{getD}
-use Rattle.bounds.proofs.Lists.{sum-le, tab-all}
+use Rattle.numbers.proofs.Lists.{sum-le, tab-all}
 use Rattle.sheet.specs.Limits.{rowsLimit, vehiclesLimit}
 use Rattle.sheet.specs.Bytes.{rowsOf, rowAt}
 use Rattle.sheet.proofs.Accepted.{Bytes, Accepted}

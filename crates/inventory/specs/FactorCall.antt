@@ -4,7 +4,7 @@ use mathlib.Core.Bool.{Bool, true, false, _||_}
 use mathlib.Core.List.{List}
 use Prim.Native.Nat.{ℕ, suc, zero, _+_, _≤_}
 use lib.Dec.{leb}
-use Rattle.bounds.specs.Fraction.{_≤ᶠ_, _/10^_}
+use Rattle.numbers.specs.Fraction.{_≤ᶠ_, _/10^_}
 use Rattle.exact.specs.Factors.{Factor, F1, F2, F3, F4, F5, F6, F7, factor}
 use Rattle.sheet.specs.declared.Check.{Check}
 use Rattle.sheet.specs.declared.Check.the-variants.{Pass, Refused}

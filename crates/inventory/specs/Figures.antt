@@ -1,7 +1,7 @@
 -- The six figures of a row, as a function of the grid, the seasons and the row. Definitions only.
 use mathlib.Core.List.{List, [], _∷_}
 use Prim.Native.Nat.{ℕ, _+_, _*_, _-_, _/_, _^_, _≤_}
-use Rattle.bounds.specs.Fraction.{_≤ᶠ_, _*ᶠ_, whole}
+use Rattle.numbers.specs.Fraction.{_≤ᶠ_, _*ᶠ_, whole}
 use Rattle.exact.specs.declared.Season.{Season}
 use Rattle.exact.specs.declared.Row.{Row}
 use Rattle.exact.specs.Factors.{Factor, F1, F2, F3, F4, F5, F6, F7}

@@ -5,7 +5,7 @@ use mathlib.Core.List.{List, [], _∷_, _++_}
 use Prim.Native.Nat.{ℕ, suc, zero, _+_, _*_, _<_}
 use lib.Dec.{leb, ltb, eqb}
 use lib.ListN.{length, getD, drop}
-use Rattle.bounds.specs.Lists.{tab}
+use Rattle.numbers.specs.Lists.{tab}
 use Rattle.exact.specs.declared.Row.{Row}
 use Rattle.exact.specs.Masses.{Mechanism, diurnal, soak, running}
 use Rattle.sheet.specs.declared.Check.{Check}

@@ -5,8 +5,8 @@ use Prim.Native.Nat.{ℕ, _+_, _*_, _-_, _/_, _%_, _^_, _<_}
 use native.Mathlib.Nat.{mod-lt}
 use native.Mathlib.Omega.{arith}
 use lib.ListN.{getD}
-use Rattle.bounds.specs.Lists.{tab}
-use Rattle.bounds.proofs.Lists.{tab-ext, getD-tab}
+use Rattle.numbers.specs.Lists.{tab}
+use Rattle.numbers.proofs.Lists.{tab-ext, getD-tab}
 use Rattle.marks.specs.Marks.{heat, heatError, raisedError, stepAt, raise, mild, bracketUnits, rate}
 
 module _ (θ : ℕ → ℕ) {held : List ℕ} (e : held ≡ tab θ 48) where

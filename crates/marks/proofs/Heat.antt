@@ -2,16 +2,15 @@
 use mathlib.Core.Path.{_≡_}
 use Prim.Native.Nat.{ℕ, _+_, _*_, _-_, _^_, _≤_, _<_}
 use native.Mathlib.Omega.{arith}
-use Rattle.bounds.specs.Fraction.{Fraction, _≤ᶠ_, _≈ᶠ_, _-ᶠ_, _*ᶠ_, _/10^_}
+use Rattle.numbers.specs.Fraction.{Fraction, _≤ᶠ_, _≈ᶠ_, _-ᶠ_, _*ᶠ_, _/10^_}
+use Rattle.bounds.proofs.Ends.{end-3·58, end-4·0096}
 use Rattle.bounds.specs.Series.{E}
 use Rattle.bounds.specs.Enclosure.{Within, WithinAll}
 use Rattle.bounds.specs.Exponential.{exponent, exponentialError, exponentLimit}
 use Rattle.bounds.specs.Power.{degrees}
-use Rattle.bounds.proofs.Order.{≈-sym, *-mono-right, decimal-nonNegative}
+use Rattle.numbers.proofs.Order.{≈-sym, *-mono-right, decimal-nonNegative}
 use Rattle.bounds.proofs.Within.{widen, weaken, within-≈, sub-within, all-map, all-map₂}
 use Rattle.bounds.proofs.Exponential.{E-cong, E-mono}
-use Rattle.bounds.proofs.Product.{num, acc}
-use Rattle.bounds.proofs.Tail.{belowTest, top}
 use Rattle.bounds.proofs.ExponentialBound.{exponential-within, exponentialError-3·6, exponentialError-4·1}
 use Rattle.exact.proofs.Temperature.{degrees-mono}
 use Rattle.marks.proofs.Most.{exponential-most}
@@ -23,7 +22,7 @@ difference-within h a b = weaken (sub-within h a b) (omega arith) (omega arith)
 
 -- 0.0716·T is the exponent that is computed with
 exponent-is : (θ : ℕ) → 716 /10^ 4 *ᶠ degrees θ ≈ᶠ exponent (716 * θ + 13852 * 10 ^ 11)
-unfolding degrees exponent _/10^_ _*ᶠ_
+unfolding _/10^_ _*ᶠ_
 exponent-is θ = omega arith
 
 -- E(0.0716·T) grows with T
@@ -32,7 +31,7 @@ heat-mono n h = E-mono n (*-mono-right (decimal-nonNegative 716 4) h)
 
 -- k °C above −30 and 0.0716 times it: 716·(k − 30)
 warm-≤ : {θ : ℕ} (k last : ℕ) → 716 * k ≡ last + 21480 → θ ≤ k * 10 ^ 10 → 716 /10^ 4 *ᶠ degrees θ ≤ᶠ last /10^ 4
-unfolding degrees _/10^_ _*ᶠ_
+unfolding _/10^_ _*ᶠ_
 warm-≤ k last e h = omega arith
 
 module _ (θ : ℕ) where
@@ -55,13 +54,11 @@ module _ (θ : ℕ) where
 
   -- E(0.0716·50) ≤ 36
   pub heat-most : θ ≤ 80 * 10 ^ 10 → heat θ ≤ 36 * 2 ^ 40
-  unfolding belowTest top num acc
-  heat-most h = omega (arith, exponential-most 35800 4 36 0 (heat-within h) (warm-≤ 80 35800 (omega arith) h) (omega arith) tt)
+  heat-most h = omega (arith, exponential-most 35800 4 36 0 (heat-within h) (warm-≤ 80 35800 (omega arith) h) (omega arith) end-3·58)
 
   -- E(0.0716·56) ≤ 56
   pub raised-most : θ ≤ 86 * 10 ^ 10 → heat θ ≤ 56 * 2 ^ 40
-  unfolding belowTest top num acc
-  raised-most h = omega (arith, exponential-most 40096 4 56 0 (raised-within h) (warm-≤ 86 40096 (omega arith) h) (omega arith) tt)
+  raised-most h = omega (arith, exponential-most 40096 4 56 0 (raised-within h) (warm-≤ 86 40096 (omega arith) h) (omega arith) end-4·0096)
 
 module _ (r θ : ℕ) (small : r ≤ 6 * 10 ^ 10) (h : θ ≤ 80 * 10 ^ 10) where
   -- the rise of E(0.0716·T) when T is raised by at most 6 °C

@@ -3,7 +3,7 @@ use Prim.Native.Nat.{ℕ, _*_, _^_, _≤_, _<_}
 use native.Mathlib.Omega.{arith}
 use native.Mathlib.Nat.{mul-le-mul-left, mul-le-mul-right, le-of-mul-le-mul-right}
 use lib.Dec.{T}
-use Rattle.bounds.specs.Fraction.{Fraction, _≤ᶠ_, _/10^_}
+use Rattle.numbers.specs.Fraction.{Fraction, _≤ᶠ_, _/10^_}
 use Rattle.bounds.specs.Series.{E}
 use Rattle.bounds.specs.Enclosure.{Within, WithinAll}
 use Rattle.bounds.proofs.Exponential.{E-below}

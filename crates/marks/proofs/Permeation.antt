@@ -4,16 +4,15 @@ use mathlib.Core.Path.{_≡_, ap, sym, _∙_}
 use Prim.Native.Nat.{ℕ, suc, zero, _+_, _*_, _^_, _/_, _≤_, _<_}
 use native.Mathlib.Omega.{arith}
 use native.Mathlib.Nat.{le-antisymm, le-of-lt, mul-comm, mul-le-mul}
-use Rattle.bounds.specs.Fraction.{Fraction, _≤ᶠ_, _≈ᶠ_, _*ᶠ_, whole, _/10^_}
+use Rattle.numbers.specs.Fraction.{Fraction, _≤ᶠ_, _≈ᶠ_, _*ᶠ_, whole, _/10^_}
+use Rattle.bounds.proofs.Ends.{end-0·44}
 use Rattle.bounds.specs.Series.{E, cutRoot, power2·5, two-pos}
 use Rattle.bounds.specs.Enclosure.{WithinAll}
 use Rattle.bounds.specs.Exponential.{exponent}
 use Rattle.bounds.specs.Power.{degrees, power}
-use Rattle.bounds.proofs.Order.{≈-refl, ≈-sym, ≤-by, test-cases, not-≤→<, +-cong, *-cong, ^-cong, ^-nonNegative, nonNegative, nonNegative→≤, ratio}
+use Rattle.numbers.proofs.Order.{≈-refl, ≈-sym, ≤-by, test-cases, not-≤→<, +-cong, *-cong, ^-cong, ^-nonNegative, nonNegative, nonNegative→≤, ratio}
 use Rattle.bounds.proofs.Within.{widen, weaken, within-≈, round-within, decimal-within, whole-within, +-within, *-within, *-within-rounded, scaled-within, all-map, all-map₂}
 use Rattle.bounds.proofs.Exponential.{E-cong}
-use Rattle.bounds.proofs.Product.{num, acc}
-use Rattle.bounds.proofs.Tail.{belowTest, top}
 use Rattle.bounds.proofs.ExponentialBound.{exponential-within, exponentialError-2·3}
 use Rattle.bounds.proofs.PowerBound.{power-within, power-size}
 use Rattle.bounds.proofs.Root.{multiple, LargestMultiple, cutRoot-is, cutRoot-multiple, power2·5-above, power2·5-below}
@@ -67,7 +66,7 @@ module _ (n : ℕ) (vp : Fraction) where
 module _ (vp : ℕ) (h : vp ≤ 1100) where
   -- 0.004·vp is the exponent that is computed with
   mild-exponent : 4 /10^ 3 *ᶠ vp /10^ 1 ≈ᶠ exponent (4 * vp * 10 ^ 10 + 16 * 10 ^ 14)
-  unfolding exponent _/10^_ _*ᶠ_
+  unfolding _/10^_ _*ᶠ_
   mild-exponent = omega arith
 
   -- E(0.004·vp)
@@ -85,8 +84,7 @@ module _ (vp : ℕ) (h : vp ≤ 1100) where
 
   -- E(0.44) ≤ 1.56
   pub mild-most : mild vp ≤ 156 * 2 ^ 40 / 100
-  unfolding belowTest top num acc
-  mild-most = omega (arith, exponential-most 44 2 156 2 mild-within mild-≤ (omega arith) tt)
+  mild-most = omega (arith, exponential-most 44 2 156 2 mild-within mild-≤ (omega arith) end-0·44)
 
 module _ (θ : ℕ) (h : θ ≤ 95 * 10 ^ 10) where
   -- 6.1656·10⁻⁶·T^2.5

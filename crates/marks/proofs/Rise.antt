@@ -4,11 +4,11 @@ use mathlib.Core.Bool.{Bool, true, false}
 use mathlib.Core.Path.{_≡_, subst}
 use Prim.Native.Nat.{ℕ, suc, zero, _+_, _*_, _-_, _^_, _%_, _≤_, _<_}
 use native.Mathlib.Omega.{arith}
-use Rattle.bounds.specs.Fraction.{Fraction, _≤ᶠ_, _≈ᶠ_, _≤?_, _+ᶠ_, _-ᶠ_, _*ᶠ_, whole, _/10^_}
+use Rattle.numbers.specs.Fraction.{Fraction, _≤ᶠ_, _≈ᶠ_, _≤?_, _+ᶠ_, _-ᶠ_, _*ᶠ_, whole, _/10^_}
 use Rattle.bounds.specs.Series.{E}
 use Rattle.bounds.specs.Enclosure.{Within, WithinAll}
 use Rattle.bounds.specs.Power.{degrees}
-use Rattle.bounds.proofs.Order.{NonNegative, ≈-refl, ≈-sym, ≈-trans, ≈-by, test-cases, test-cong, not-≤→<, <→≤, +-cong, +-nonNegative, sub-cong, sub-nonNegative, *-cong, *-zero, *-distrib, *-nonNegative, whole-nonNegative, decimal-nonNegative, positive→nonNegative, nonNegative-up, ≈→≥}
+use Rattle.numbers.proofs.Order.{NonNegative, ≈-refl, ≈-sym, ≈-trans, ≈-by, test-cases, test-cong, not-≤→<, <→≤, +-cong, +-nonNegative, sub-cong, sub-nonNegative, *-cong, *-zero, *-distrib, *-nonNegative, whole-nonNegative, decimal-nonNegative, positive→nonNegative, nonNegative-up, ≈→≥}
 use Rattle.bounds.proofs.Within.{widen, weaken, within-cross, whole-within, +-within, all-map₂}
 use Rattle.bounds.proofs.Exponential.{E-cong, E-positive}
 use Rattle.exact.specs.Day.{startMark}

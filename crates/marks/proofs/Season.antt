@@ -1,9 +1,9 @@
 -- A season's mark temperatures are those that are held, exactly, and the raised ones too.
 use Prim.Native.Nat.{ℕ, _+_, _*_, _^_, _≤_}
 use native.Mathlib.Omega.{arith}
-use Rattle.bounds.specs.Fraction.{_≈ᶠ_, _+ᶠ_, whole, _/10^_}
+use Rattle.numbers.specs.Fraction.{_≈ᶠ_, _+ᶠ_, whole, _/10^_}
 use Rattle.bounds.specs.Power.{degrees}
-use Rattle.bounds.proofs.Order.{≈-refl, ≈-trans, +-cong}
+use Rattle.numbers.proofs.Order.{≈-refl, ≈-trans, +-cong}
 use Rattle.exact.specs.declared.Season.{Season}
 use Rattle.exact.specs.Day.{temperature}
 use Rattle.exact.proofs.Temperature.{Temperate, markθ-most, temperature-is}
@@ -17,12 +17,12 @@ season-temperate s =
 
 -- degrees θ + k/10
 degrees-tenths : (θ k : ℕ) → degrees θ +ᶠ k /10^ 1 ≈ᶠ degrees (θ + tenths k)
-unfolding degrees _+ᶠ_ _/10^_
+unfolding _+ᶠ_ _/10^_
 degrees-tenths θ k = omega arith
 
 -- degrees θ + k
 degrees-whole : (θ k : ℕ) → degrees θ +ᶠ whole k ≈ᶠ degrees (θ + tenths (10 * k))
-unfolding degrees _+ᶠ_ whole
+unfolding _+ᶠ_ whole
 degrees-whole θ k = omega arith
 
 module _ {season : Season} (i : ℕ) (s : SeasonInRange season) where

@@ -1,7 +1,7 @@
 -- What the values of a season at its marks are. Definitions only.
 use mathlib.Core.Path.{_≡_}
 use Prim.Native.Nat.{ℕ, _+_}
-use Rattle.bounds.specs.Lists.{tab}
+use Rattle.numbers.specs.Lists.{tab}
 use Rattle.exact.specs.declared.Season.{Season}
 use Rattle.marks.specs.declared.Marks.{Marks}
 use Rattle.marks.specs.Marks.{held, stepAt, raise, tenths, rate}

@@ -4,7 +4,8 @@ use Prim.Native.Nat.{ℕ, suc, zero, _+_, _*_, _-_, _/_, _%_, _^_}
 use Rattle.bounds.specs.Exponential.{exponential}
 use Rattle.bounds.specs.Power.{power}
 use Rattle.exact.specs.declared.Season.{Season}
-use Rattle.exact.specs.Day.{w, startMark}
+use Rattle.bounds.specs.Weights.{w}
+use Rattle.exact.specs.Day.{startMark}
 use Rattle.marks.specs.Range.{shifted}
 
 -- T(i), exactly

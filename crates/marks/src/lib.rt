@@ -1,14 +1,15 @@
 // A season at its 48 marks: temperatures, exponentials and permeation as whole numbers.
 use bounds::exp::exponential;
 use bounds::fixed::mul_shift;
+use bounds::hours::weights_table;
 use bounds::power::power;
 use exact::Season;
 ghost use mathlib.Core.Path.{_≡_};
 ghost use Prim.Native.Nat.{ℕ, _+_, _*_, _-_, _/_, _%_, _^_, _<_, _≤_};
 ghost use lib.ListN.{getD};
 ghost use Rattle.bounds.specs.Exponential.{high, middle};
-ghost use Rattle.bounds.specs.Lists.{tab};
-ghost use Rattle.exact.specs.Day.{weights};
+ghost use Rattle.numbers.specs.Lists.{tab};
+ghost use Rattle.bounds.specs.Weights.{weights};
 ghost use Rattle.marks.specs.Range.{shifted, SeasonInRange};
 ghost use Rattle.marks.specs.AtMarks.{AtMarks};
 ghost use Rattle.marks.specs.Marks.{held, heat, heatError, raisedError, mild, bracketUnits};
@@ -33,58 +34,6 @@ pub struct Marks {
     pub raise60: [u64; 48],
 }
 
-// "The hourly weights are a constant table of 48 billionths", at marks 0 to 47.
-const WEIGHTS: [u64; 48] = [
-    7897571,
-    11091514,
-    15385958,
-    21081171,
-    28529975,
-    38136822,
-    50352853,
-    65665934,
-    84584859,
-    107617178,
-    135240582,
-    167868390,
-    205810384,
-    249231025,
-    298107834,
-    352193337,
-    410984409,
-    473702875,
-    539290981,
-    606424526,
-    673545317,
-    738913068,
-    800675126,
-    856950604,
-    905923875,
-    945941075,
-    975602549,
-    993844026,
-    1000000000,
-    993844026,
-    975602549,
-    945941075,
-    905923875,
-    856950604,
-    800675126,
-    738913068,
-    673545317,
-    606424526,
-    539290981,
-    473702875,
-    410984409,
-    352193337,
-    298107834,
-    249231025,
-    205810384,
-    167868390,
-    135240582,
-    107617178,
-];
-
 // A tenth of a degree, in units of 10^-10 °C.
 const TENTH: u64 = 1000000000;
 
@@ -105,13 +54,6 @@ const FLOOR: u64 = 22649939532;
 const HEAT_ERROR: u64 = 291;
 
 const RAISED_ERROR: u64 = 475;
-
-// The weights as a value, to be made once: the constant itself would be built anew wherever it is read.
-pub fn weights_table() -> [u64; 48]
-    ensures { λ r. ⌜ r ≡ weights ⌝ }
-{
-    WEIGHTS
-}
 
 // Tenths of °C above -30 °C, of a number of 16 bits in two's complement.
 fn shifted(v: u64) -> u64

@@ -9,8 +9,8 @@ use native.Mathlib.Decide.{decLe}
 use native.Mathlib.Omega.{arith}
 use borrow.Author.Tests.{ltb-true, ltb-false, lt-ltb, le-ltb, eqb-true, eqb-false, not-true, not-false}
 use lib.Dec.{ltb, eqb}
-use Rattle.bounds.specs.Fraction.{Fraction, _≤ᶠ_, _≤?_}
-use Rattle.bounds.proofs.Order.{test-cases}
+use Rattle.numbers.specs.Fraction.{Fraction, _≤ᶠ_, _≤?_}
+use Rattle.numbers.proofs.Order.{test-cases}
 use Rattle.sheet.specs.declared.Check.{Check}
 use Rattle.sheet.specs.declared.Check.the-variants.{Pass, Refused}
 use Rattle.sheet.specs.Check.{refuse, _then_, each}

@@ -4,8 +4,8 @@
 use mathlib.Core.List.{List}
 use Prim.Native.Nat.{ℕ, _≤_, _<_}
 use lib.Dec.{lit≤}
-use Rattle.bounds.specs.Fraction.{Fraction, _≤ᶠ_, _+ᶠ_, negᶠ, _-ᶠ_, _*ᶠ_, whole, _/10^_}
-use Rattle.bounds.proofs.Order.{≤-refl, ≤-trans, NonNegative, nonNegative-up, whole-nonNegative, decimal-nonNegative, decimal-mono, +-mono, sub-mono, *-mono, *-mono-left, *-mono-right, *-nonNegative}
+use Rattle.numbers.specs.Fraction.{Fraction, _≤ᶠ_, _+ᶠ_, negᶠ, _-ᶠ_, _*ᶠ_, whole, _/10^_}
+use Rattle.numbers.proofs.Order.{≤-refl, ≤-trans, NonNegative, nonNegative-up, whole-nonNegative, decimal-nonNegative, decimal-mono, +-mono, sub-mono, *-mono, *-mono-left, *-mono-right, *-nonNegative}
 use Rattle.exact.specs.declared.Canister.{Canister}
 use Rattle.exact.specs.declared.Canister.the-variants.{None, Small, Medium, Large}
 use Rattle.exact.specs.declared.Season.{Season}

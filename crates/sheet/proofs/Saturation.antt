@@ -6,8 +6,8 @@ use Prim.Native.Nat.{ℕ, _+_, _*_, _-_, _≤_, _<_}
 use native.Mathlib.Nat.{mul-le-mul}
 use native.Mathlib.Omega.{arith}
 use lib.Dec.{ltb, lit<}
-use Rattle.bounds.specs.Fraction.{Fraction, _≤ᶠ_, _≈ᶠ_, _+ᶠ_, _-ᶠ_, negᶠ, _*ᶠ_, whole, _/10^_, _over_}
-use Rattle.bounds.proofs.Order.{≈-refl, ≈-sym, ≈-trans, ≤-by, +-cong, *-cong}
+use Rattle.numbers.specs.Fraction.{Fraction, _≤ᶠ_, _≈ᶠ_, _+ᶠ_, _-ᶠ_, negᶠ, _*ᶠ_, whole, _/10^_, _over_}
+use Rattle.numbers.proofs.Order.{≈-refl, ≈-sym, ≈-trans, ≤-by, +-cong, *-cong}
 use Rattle.exact.specs.declared.Season.{Season}
 use Rattle.exact.specs.Day.{signedTenths}
 use Rattle.exact.specs.Canister.{a, b}

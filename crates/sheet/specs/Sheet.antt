@@ -4,7 +4,7 @@ use mathlib.Core.List.{List, [], _∷_}
 use Prim.Native.Nat.{ℕ, suc, zero, _+_, _*_}
 use lib.Dec.{leb, ltb, eqb}
 use lib.ListN.{length}
-use Rattle.bounds.specs.Fraction.{Fraction, _+ᶠ_, negᶠ, _*ᶠ_, whole, _/10^_, _≤?_}
+use Rattle.numbers.specs.Fraction.{Fraction, _+ᶠ_, negᶠ, _*ᶠ_, whole, _/10^_, _≤?_}
 use Rattle.exact.specs.declared.Canister.{Canister}
 use Rattle.exact.specs.declared.Canister.the-variants.{None, Small, Medium, Large}
 use Rattle.exact.specs.declared.Equipment.{Equipment}

@@ -3,22 +3,16 @@ use mathlib.Core.Path.{_≡_}
 use Prim.Native.Nat.{ℕ, _*_, _^_, _≤_}
 use native.Mathlib.Omega.{arith}
 use borrow.Author.Needs.{needs}
-use lib.ListN.{getD}
-use Rattle.bounds.specs.Lists.{tab}
-use Rattle.bounds.proofs.Lists.{tab-all}
-use Rattle.exact.specs.Day.{weights, w}
-use Rattle.exact.proofs.Temperature.{w-most}
+use Rattle.numbers.specs.Lists.{tab}
+use Rattle.numbers.proofs.Lists.{tab-all}
+use Rattle.bounds.proofs.Weights.{w-most}
 use Rattle.marks.specs.Marks.{held}
 use Rattle.marks.proofs.Season.{held-most}
 use Rattle.marks.proofs.season_temperatures.Statement.{statement}
 use Rattle.marks.proofs.season_temperatures.Tie as tie
 
-weight-most : (k : ℕ) → getD weights k 0 ≤ 10 ^ 9
-unfolding w
-weight-most k = w-most k
-
 same : (c : tie.After-temperatures) → c .temperatures .result ≡ tab (held (c .before .before .before .before .args .season)) 48
-unfolding held w
+unfolding held
 same c =
     rw (c .before .before .before .shifted .ensures, c .before .before .shifted2 .ensures, c .before .weights-table .ensures) at (c .temperatures .ensures)
 
@@ -34,5 +28,5 @@ season-temperatures-spec =
     (λ c κs. search needs)
     (λ c. search needs)
     (λ c κs. search needs)
-    (λ c κs. (search needs, search needs, λ k. rw (c .weights-table .ensures) (weight-most k)))
+    (λ c κs. (search needs, search needs, λ k. rw (c .weights-table .ensures) (w-most k)))
     returns)

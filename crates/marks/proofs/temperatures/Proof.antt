@@ -4,8 +4,8 @@ use Prim.Native.Nat.{ℕ, _+_, _*_, _-_, _^_, _≤_}
 use borrow.Author.Needs.{needs}
 use native.Mathlib.Omega.{arith}
 use lib.ListN.{length, take, getD, length-set, replicate}
-use Rattle.bounds.specs.Lists.{tab}
-use Rattle.bounds.proofs.Lists.{fill-none, fill-more, fill-all}
+use Rattle.numbers.specs.Lists.{tab}
+use Rattle.numbers.proofs.Lists.{fill-none, fill-more, fill-all}
 use Rattle.marks.proofs.temperatures.Statement.{statement}
 use Rattle.marks.proofs.temperatures.Tie as tie
 

@@ -6,9 +6,9 @@ use Prim.Native.Nat.{ℕ, _+_, _-_, _%_, _^_, _≤_}
 use native.Mathlib.Omega.{arith}
 use borrow.Author.Needs.{needs}
 use lib.ListN.{length, getD}
-use Rattle.bounds.specs.Lists.{sum}
+use Rattle.numbers.specs.Lists.{sum}
 use Rattle.bounds.specs.Total.{served, total}
-use Rattle.bounds.proofs.Lists.{sum-none, sum-more}
+use Rattle.numbers.proofs.Lists.{sum-none, sum-more}
 use Rattle.bounds.proofs.export.total.Statement.{statement}
 use Rattle.bounds.proofs.export.total.Tie as tie
 

@@ -3,7 +3,7 @@ use mathlib.Core.Path.{_≡_, sym, _∙_, ap, ap₂}
 use Prim.Native.Nat.{ℕ, _+_, _*_, _-_, _/_, _^_, _≤_, _<_}
 use native.Mathlib.Omega.{arith}
 use borrow.Author.Needs.{needs}
-use Rattle.bounds.proofs.Lists.{sum-none, sum-more}
+use Rattle.numbers.proofs.Lists.{sum-none, sum-more}
 use Rattle.marks.specs.Marks.{passed}
 use Rattle.marks.proofs.Permeation.{passed-most}
 use Rattle.factors.specs.Grid.{at, hourPart}

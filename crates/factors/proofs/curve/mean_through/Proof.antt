@@ -3,7 +3,7 @@ use mathlib.Core.Path.{_≡_, refl, ap}
 use Prim.Native.Nat.{ℕ, _+_, _-_, _/_, _^_, _≤_, _<_}
 use native.Mathlib.Omega.{arith}
 use borrow.Author.Needs.{needs}
-use Rattle.bounds.proofs.Lists.{sum-none, sum-more, sum-all}
+use Rattle.numbers.proofs.Lists.{sum-none, sum-more, sum-all}
 use Rattle.factors.specs.Grid.{hourPart, gridPart}
 use Rattle.factors.specs.Through.{throughCell}
 use Rattle.factors.proofs.Sums.{sum-fits}

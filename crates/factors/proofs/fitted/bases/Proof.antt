@@ -4,8 +4,8 @@ use Prim.Native.Nat.{ℕ, _-_, _≤_}
 use native.Mathlib.Omega.{arith}
 use borrow.Author.Needs.{needs}
 use lib.ListN.{length, take, length-set, replicate}
-use Rattle.bounds.specs.Lists.{tab}
-use Rattle.bounds.proofs.Lists.{fill-none, fill-more, fill-all}
+use Rattle.numbers.specs.Lists.{tab}
+use Rattle.numbers.proofs.Lists.{fill-none, fill-more, fill-all}
 use Rattle.factors.specs.Escape.{base}
 use Rattle.factors.specs.Grid.{at}
 use Rattle.factors.proofs.fitted.bases.Statement.{statement}

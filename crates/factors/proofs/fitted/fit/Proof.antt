@@ -3,8 +3,8 @@ use mathlib.Core.Path.{_≡_, _∙_, ap, ap₂}
 use Prim.Native.Nat.{ℕ, _+_, _*_, _-_, _^_, _<_}
 use native.Mathlib.Omega.{arith}
 use borrow.Author.Needs.{needs}
-use Rattle.bounds.specs.Lists.{tab}
-use Rattle.bounds.proofs.Lists.{tab-ext, getD-tab}
+use Rattle.numbers.specs.Lists.{tab}
+use Rattle.numbers.proofs.Lists.{tab-ext, getD-tab}
 use Rattle.marks.specs.Marks.{held}
 use Rattle.marks.proofs.Season.{held-most}
 use Rattle.factors.specs.Escape.{base, growth}

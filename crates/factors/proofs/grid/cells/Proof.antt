@@ -5,8 +5,8 @@ use native.Mathlib.Omega.{arith}
 use native.Mathlib.Nat.{mul-le-mul}
 use borrow.Author.Needs.{needs}
 use lib.ListN.{length, take, length-set, replicate}
-use Rattle.bounds.specs.Lists.{tab}
-use Rattle.bounds.proofs.Lists.{fill-none, fill-more, fill-all}
+use Rattle.numbers.specs.Lists.{tab}
+use Rattle.numbers.proofs.Lists.{fill-none, fill-more, fill-all}
 use Rattle.factors.specs.Grid.{at}
 use Rattle.factors.proofs.Sums.{at-le-total}
 use Rattle.factors.proofs.Cells.{products-tab}

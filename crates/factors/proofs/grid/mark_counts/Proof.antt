@@ -3,7 +3,7 @@ use mathlib.Core.Path.{_≡_, _∙_, ap}
 use Prim.Native.Nat.{_-_, _≤_}
 use native.Mathlib.Omega.{arith}
 use borrow.Author.Needs.{needs}
-use Rattle.bounds.specs.Lists.{sum}
+use Rattle.numbers.specs.Lists.{sum}
 use Rattle.factors.specs.Grid.{at, markOf, tally}
 use Rattle.factors.proofs.Sums.{total-is, sum-within, tally-le, tally-none, tally-more}
 use Rattle.factors.proofs.Cells.{markOf-below}

@@ -3,8 +3,8 @@ use mathlib.Core.Path.{_≡_, refl, sym, _∙_, ap}
 use Prim.Native.Nat.{_-_, _≤_}
 use native.Mathlib.Omega.{arith}
 use borrow.Author.Needs.{needs}
-use Rattle.bounds.specs.Lists as lists
-use Rattle.bounds.proofs.Lists.{sum-none, sum-more, sum-all}
+use Rattle.numbers.specs.Lists as lists
+use Rattle.numbers.proofs.Lists.{sum-none, sum-more, sum-all}
 use Rattle.factors.specs.Grid.{at}
 use Rattle.factors.proofs.Sums.{total-is, sum-within}
 use Rattle.factors.proofs.grid.total.Statement.{statement}

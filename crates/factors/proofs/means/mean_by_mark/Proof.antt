@@ -4,8 +4,8 @@ use mathlib.Core.Path.{_≡_, refl, ap}
 use Prim.Native.Nat.{ℕ, _+_, _*_, _-_, _/_, _^_, _≤_, _<_}
 use native.Mathlib.Omega.{arith}
 use borrow.Author.Needs.{needs}
-use Rattle.bounds.specs.Lists as lists
-use Rattle.bounds.proofs.Lists.{sum-none, sum-more, sum-all}
+use Rattle.numbers.specs.Lists as lists
+use Rattle.numbers.proofs.Lists.{sum-none, sum-more, sum-all}
 use Rattle.factors.specs.Grid.{at, markSum}
 use Rattle.factors.proofs.Sums.{sum-fits}
 use Rattle.factors.proofs.means.mean_by_mark.Statement.{statement}

@@ -5,7 +5,7 @@ use mathlib.Core.Path.{_≡_, refl, _∙_}
 use Prim.Native.Nat.{ℕ, _+_, _/_, _^_, _≤_, _<_}
 use native.Mathlib.Omega.{arith}
 use borrow.Author.Needs.{needs}
-use Rattle.bounds.specs.Lists.{tab}
+use Rattle.numbers.specs.Lists.{tab}
 use Rattle.exact.specs.Factors.{endHour, duration}
 use Rattle.marks.specs.Marks.{held, tenths}
 use Rattle.marks.specs.AtMarks.{raisesBy, ratesAt}

@@ -2,7 +2,7 @@
 -- Assumes nothing.
 use mathlib.Core.Path.{refl, _∙_}
 use borrow.Author.Needs.{needs}
-use Rattle.bounds.specs.Fraction.{whole, _/10^_, _over_}
+use Rattle.numbers.specs.Fraction.{whole, _/10^_, _over_}
 use Rattle.sheet.specs.Sheet.{saturationWrong}
 use Rattle.sheet.proofs.Saturation.{above3-is}
 use Rattle.sheet.proofs.rows.saturation_wrong.Statement.{statement}

@@ -6,15 +6,16 @@ use Prim.Native.Nat.{ℕ, _+_, _*_, _-_, _^_, _≤_, _<_}
 use native.Mathlib.Omega.{arith}
 use native.Mathlib.Decide.{decLe}
 use native.Mathlib.Nat.{mul-pos, mul-le-mul, mul-le-mul-right, lt-of-mul-lt-mul-right, zero-sub, sub-zero}
-use lib.Dec.{T, lit<}
-use Rattle.bounds.specs.Fraction.{Fraction, _<ᶠ_, _≈ᶠ_, _+ᶠ_, negᶠ, _-ᶠ_, _*ᶠ_, _^ᶠ_, whole, _/10^_, _over_}
+use lib.Dec.{T, lit<, leb, leb→le}
+use lib.ListN.{getD, List·getD-eq-default}
+use Rattle.numbers.specs.Fraction.{Fraction, _<ᶠ_, _≈ᶠ_, _+ᶠ_, negᶠ, _-ᶠ_, _*ᶠ_, _^ᶠ_, whole, _/10^_, _over_}
 use Rattle.bounds.specs.Series.{E}
-use Rattle.bounds.proofs.Order.{ratio, sub-mul}
+use Rattle.numbers.proofs.Order.{ratio, sub-mul}
 use Rattle.bounds.proofs.Product.{acc, num}
 use Rattle.bounds.proofs.Exponential.{quotient, E-at}
 use Rattle.bounds.proofs.Tail.{top, belowTest, below}
 use Rattle.bounds.proofs.Table.{both, both-left, both-right, every, at}
-use Rattle.exact.specs.Day.{weights, w, weightExponent}
+use Rattle.bounds.specs.Weights.{weights, w, weightExponent}
 
 -- "differs from 10⁹·E of that exponent by less than one half for every n ≥ 40"
 pub record Nearest (i weight : ℕ) : Type 0 where
@@ -114,3 +115,12 @@ passes→nearest i weight h t =
 pub weight-nearest : (i : ℕ) → i < 48 → Nearest i (w i)
 unfolding w weights
 weight-nearest i h = passes→nearest i (w i) h (at nearestTest weights all-pass i h)
+
+-- w(i) ≤ 10⁹
+pub w-most : (i : ℕ) → w i ≤ 10 ^ 9
+unfolding weights
+w-most i =
+    elim (decLe 48 i) [
+      | yes l ↦ rw (List·getD-eq-default weights 0 l) (omega arith)
+      | no l ↦ leb→le (getD weights i 0) (10 ^ 9) (at (λ (k x : ℕ). leb x (10 ^ 9)) weights tt i (omega arith))
+    ]

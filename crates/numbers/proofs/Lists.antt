@@ -8,7 +8,7 @@ use native.Mathlib.Omega.{arith}
 use native.Mathlib.Nat.{le-antisymm, suc-mul, eq-or-lt-of-le}
 use lib.ListN.{length, getD, set, take, length-append, List·getD-append}
 use lib.Seq.{take-suc-set, take-all, getD-at}
-use Rattle.bounds.specs.Lists.{tab, sum}
+use Rattle.numbers.specs.Lists.{tab, sum}
 
 -- A list that is filled from the front.
 

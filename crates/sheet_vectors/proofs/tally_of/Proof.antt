@@ -1,0 +1,29 @@
+-- `sheet_vectors::tally_of` is safe and ends. The loop's invariant: the next head lies within the input, and no more sheets are counted than were passed. The measure is what is left of the input.
+use Prim.Native.Nat.{_≤_, _-_}
+use borrow.Author.Needs.{needs}
+use lib.ListN.{length}
+use Rattle.sheet_vectors.proofs.tally_of.Statement.{statement}
+use Rattle.sheet_vectors.proofs.tally_of.Tie as tie
+
+abbrev Inv-loop : tie.InvT-loop
+Inv-loop s number tally₀ position₀ at₀ tally position at = (at ≤ length s) × (position ≤ at) × (tally .sheets ≤ position) × (tally .agree ≤ position)
+
+abbrev μ-loop : tie.MeasureT-loop
+μ-loop s number tally₀ position₀ at₀ tally position at = length s - at
+
+pub tally-of-spec : {M : Type 1} → statement M
+tally-of-spec =
+    tie.close
+    (tie.spec
+    Inv-loop
+    μ-loop
+    (λ c κs. search needs)
+    (λ c. search needs)
+    (λ c. search needs)
+    (λ c κs. search needs)
+    (λ c. search needs)
+    (λ c. search needs)
+    (λ c κs. search needs)
+    (λ c. search needs)
+    (λ c. search needs)
+    (λ c. search needs))

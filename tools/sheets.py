@@ -1,0 +1,665 @@
+#!/usr/bin/env python3
+"""Writes crates/sheet_vectors/stdin: sheets with the number and place at which
+evaporation.py stops them, for the program to hold the crate `sheet` against.
+
+  python3 tools/sheets.py            writes the file
+  python3 tools/sheets.py --check    says whether the file is up to date
+  python3 tools/sheets.py --list     prints a line for each sheet
+
+The file says in four bytes how many sheets there are. Each sheet follows its
+length in two bytes, the number in one (0 where it is accepted) and the place
+in two. Every number has its lowest byte first.
+
+A sheet that is made for a condition or a limit carries the answer that
+document 01's table gives it. Where evaporation.py gives another the run ends,
+so that a slip of either does not pass unseen. Where no answer is known
+beforehand, as for damage by chance, that of evaporation.py stands.
+"""
+
+import hashlib
+import sys
+from collections import Counter, namedtuple
+from dataclasses import dataclass, replace
+from itertools import chain, combinations, product
+from pathlib import Path
+
+import evaporation
+import sheet
+
+TARGET = Path(__file__).resolve().parent.parent / "crates" / "sheet_vectors" / "stdin"
+ROOM = 2 ** 18  # what the program can read
+
+# `answer` is (number, place), or None where only evaporation.py tells.
+Case = namedtuple("Case", "words data answer")
+ACCEPTED = (0, 0)
+
+LAST_NUMBER = 21
+LEAST_SHEETS = 420
+LEAST_OF_A_NUMBER = 5
+
+# ------------------------------------------------------------ making a sheet
+
+SEASON_FIELDS = sheet.SEASON_FIELDS
+ROW_FIELDS = sheet.ROW_FIELDS + (("spare", 4, False, 1),)
+
+BY_CLASS = 255
+
+# Table 3-11 as document 01 has it: tank in litres, and canister at each
+# technology from 0 on.
+CARS = (0, 1, 1, 2, 2, 2)
+LARGE_CARS = (0, 2, 2, 3, 3, 3)
+TWO_WHEELERS = (0, 0, 0, 0)
+CLASSES = {
+    1: (50, CARS), 2: (60, CARS), 3: (75, LARGE_CARS), 4: (60, CARS),
+    5: (5, TWO_WHEELERS), 6: (8, TWO_WHEELERS), 7: (10, TWO_WHEELERS), 8: (18, TWO_WHEELERS),
+    9: (20, (1, 1, 1)),
+}
+PAIRS = [(c, t) for c, (_, canisters) in CLASSES.items() for t in range(len(canisters))]
+
+# What a record holds where nothing else is said. The canister is small, and
+# its load passes check 20 in every season that is accepted.
+SEASON = {"days": 30, "lowest": 50, "highest": 200, "vp": 600}
+ROW = {
+    "class": 1, "technology": 1, "canister": BY_CLASS, "carburettor": 40, "hot": 30, "fill": 35,
+    "tank": 0, "vehicles": 1000, "trips": 250, "minutes": 20, "load": 300, "saturation": 450, "spare": 0,
+}
+EMPTY = {"load": 0, "saturation": 0}  # all that a row without canister may have
+
+
+def record(fields, values):
+    return b"".join(values[name].to_bytes(size, "little", signed=signed) for name, size, signed, _ in fields)
+
+
+def counted(counts):
+    return b"".join(count.to_bytes(2, "little") for count in counts)
+
+
+@dataclass(frozen=True)
+class Plan:
+    """The values of a sheet, in the units of its fields."""
+    seasons: tuple
+    rows: tuple
+    durations: tuple = tuple(range(24, 0, -1))
+    hours: tuple = tuple(range(1, 25))
+
+    def changed(self, kind, i, change):
+        """The same with some values of one record changed, `kind` being
+        "seasons" or "rows"."""
+        records = list(getattr(self, kind))
+        records[i] = {**records[i], **change}
+        return replace(self, **{kind: tuple(records)})
+
+    def place(self, kind, i):
+        return 104 + 8 * i if kind == "seasons" else 104 + 8 * len(self.seasons) + 24 * i
+
+    def data(self):
+        head = b"EVP" + bytes([1, 0, len(self.seasons), len(self.rows), 0])
+        seasons = [record(SEASON_FIELDS, season) for season in self.seasons]
+        rows = [record(ROW_FIELDS, row) for row in self.rows]
+        return head + counted(self.durations) + counted(self.hours) + b"".join(seasons + rows)
+
+
+def plain(seasons, rows):
+    """A plan of so many records that differ only where their neighbours are
+    to show: the first and the last row have a canister, one between has none."""
+    middle = {**ROW, "class": 5, "technology": 2, **EMPTY}
+    inner = [middle if i % 2 else {**ROW, "class": 3, "technology": 4} for i in range(rows - 2)]
+    return Plan((SEASON,) * seasons, tuple([ROW, *inner, ROW][:rows]))
+
+
+SMALLEST, BASE, LARGEST = plain(1, 1), plain(3, 4), plain(12, 32)
+
+# Document 01's example.
+EXAMPLE = Plan(
+    ({"days": 1, "lowest": 100, "highest": 100, "vp": 600},),
+    ({**dict.fromkeys(ROW, 0), "class": 1, "canister": BY_CLASS},),
+    (1,) + (0,) * 23, (1,) + (0,) * 23,
+)
+
+
+def said(change):
+    return ", ".join("%s %d" % item for item in change.items())
+
+
+def sized(plan):
+    return said({"seasons": len(plan.seasons), "rows": len(plan.rows)})
+
+
+def of_record(plan, kind, i, change, number):
+    """The sheet with one record changed, and its answer: number 0 passes."""
+    words = "%s %d of %d: %s" % (kind[:-1], i + 1, len(getattr(plan, kind)), said(change))
+    answer = (number, plan.place(kind, i)) if number else ACCEPTED
+    return Case(words, plan.changed(kind, i, change).data(), answer)
+
+
+def patched(data, at, values):
+    return data[:at] + values + data[at + len(values):]
+
+
+# ------------------------------------------------------------ head and length
+
+# Number, place, offset, bytes that do not pass there.
+HEAD_FAULTS = (
+    (2, 0, 0, (b"\0", b"e", b"EPV", b"PVE", b"VEP")), (2, 0, 1, (b"v", b"W")), (2, 0, 2, (b"p", b"\0", b"Q")),
+    (3, 3, 3, (b"\0\0", b"\2\0", b"\0\1", b"\1\1", b"\xff\xff")),
+    (4, 5, 5, (b"\0", b"\x0d", b"\xff")),
+    (5, 6, 6, (b"\0", b"\x21", b"\xff")),
+    (6, 7, 7, (b"\1", b"\x80", b"\xff")),
+)
+
+
+def head_cases():
+    """Each fault in a whole sheet, and in a head that nothing follows."""
+    faults = [(number, place, at, b) for number, place, at, all_b in HEAD_FAULTS for b in all_b]
+    for (number, place, at, b), data in product(faults, (BASE.data(), BASE.data()[:8])):
+        words = "head: %s at byte %d, %d bytes" % (b.hex(), at, len(data))
+        yield Case(words, patched(data, at, b), (number, place))
+
+
+def count_cases():
+    """No records, as many as there can be, and one more; all of them there."""
+    for seasons, rows, answer in (
+        (0, 1, (4, 5)), (12, 1, ACCEPTED), (13, 1, (4, 5)),
+        (1, 0, (5, 6)), (1, 32, ACCEPTED), (1, 33, (5, 6)),
+    ):
+        plan = Plan((SEASON,) * seasons, (ROW,) * rows)
+        yield Case("%s, all there" % sized(plan), plan.data(), answer)
+
+
+def starts(plan):
+    """The offsets at which a part or a record starts, and the end."""
+    seasons = [plan.place("seasons", i) for i in range(len(plan.seasons))]
+    rows = [plan.place("rows", i) for i in range(len(plan.rows) + 1)]
+    return [8, 56, *seasons, *rows]
+
+
+def cut_cases():
+    """Cut at every length of a head, and before, at and after each start."""
+    data = BASE.data()
+    lengths = {*range(10), *(start + more for start in starts(BASE) for more in (-1, 0, 1))}
+    for length in sorted(length for length in lengths if length < len(data)):
+        yield Case("cut to %d of %d bytes" % (length, len(data)), data[:length], (1, 0) if length < 8 else (7, 0))
+
+
+def shortened_cases():
+    """The smallest and the largest without a byte, a season or a row."""
+    for plan, less in product((SMALLEST, LARGEST), (1, 8, 24)):
+        data = plan.data()
+        yield Case("cut by %d of %d bytes" % (less, len(data)), data[:-less], (7, 0))
+
+
+def lengthened_cases():
+    tails = (b"\0", b"\xff", b"\n", record(SEASON_FIELDS, SEASON), record(ROW_FIELDS, ROW), BASE.data())
+    for plan, tail in (*product((SMALLEST, BASE), tails), (LARGEST, tails[0])):
+        yield Case("%d bytes and %d more" % (len(plan.data()), len(tail)), plan.data() + tail, (7, 0))
+
+
+def miscounted_cases():
+    """Counts in the head that are not those of the records. Three seasons have
+    the length of a row, and then the length is right all the same."""
+    seasons, rows = len(BASE.seasons), len(BASE.rows)
+    for more_seasons, more_rows in ((1, 0), (-1, 0), (0, 1), (0, -1), (1, -1), (-1, 1), (3, -1), (6, -2), (9, -3)):
+        counts = bytes([seasons + more_seasons, rows + more_rows])
+        fits = 8 * more_seasons + 24 * more_rows == 0
+        words = "%s: the head says %d and %d" % (sized(BASE), *counts)
+        yield Case(words, patched(BASE.data(), 5, counts), None if fits else (7, 0))
+
+
+# ------------------------------------------------------------------- parking
+
+NOTHING = (0,) * 23
+COUNTS = (
+    # words, counts, whether their sum passes
+    ("sum 0", (0, *NOTHING), False),
+    ("sum 1 in the first", (1, *NOTHING), True),
+    ("sum 1 in the last", (*NOTHING, 1), True),
+    ("sum 1000 in the first", (1000, *NOTHING), True),
+    ("sum 1000 in the last", (*NOTHING, 1000), True),
+    ("sum 1000 over all", (41,) * 23 + (57,), True),
+    ("sum 1001 in the first", (1001, *NOTHING), False),
+    ("sum 1001 in the last", (*NOTHING, 1001), False),
+    ("sum 1001 over all", (41,) * 23 + (58,), False),
+    ("sum 65535", (*NOTHING, 65535), False),
+    ("sum 65536, which 16 bits do not hold", (32768, 32768) + (0,) * 22, False),
+    ("sum 65537, which 16 bits do not hold", (32768, 1, 32768) + (0,) * 21, False),
+    ("sum 24 times 65535", (65535,) * 24, False),
+)
+
+
+def parking_cases():
+    for (number, place, name), (words, counts, passes) in product(((8, 8, "durations"), (9, 56, "hours")), COUNTS):
+        answer = ACCEPTED if passes else (number, place)
+        yield Case("%s: %s" % (name, words), replace(BASE, **{name: counts}).data(), answer)
+
+
+# ------------------------------------------------------------------- records
+
+# Number, changes that pass, changes that do not; the nearest to the limit
+# on both sides are among them.
+SEASON_LIMITS = (
+    (10, ({"days": 1},), ({"days": 0}, {"days": 367}, {"days": 65535})),
+    (
+        11,
+        (
+            {"lowest": -300}, {"highest": 500}, {"lowest": 200}, {"highest": 50},
+            {"lowest": -300, "highest": -300}, {"lowest": 500, "highest": 500}, {"lowest": -1, "highest": 0},
+        ),
+        (
+            {"lowest": -301}, {"highest": 501}, {"lowest": 201}, {"highest": 49},
+            {"lowest": -301, "highest": -301}, {"lowest": 501, "highest": 501}, {"lowest": 0, "highest": -1},
+            {"lowest": -32768}, {"highest": 32767}, {"highest": -32768},
+        ),
+    ),
+    (12, ({"vp": 300}, {"vp": 1100}), ({"vp": 299}, {"vp": 1101}, {"vp": 0}, {"vp": 65535})),
+)
+ROW_LIMITS = (
+    (13, (), ({"class": 0}, {"class": 10}, {"class": 255}, {"technology": 255})),
+    (
+        14,
+        ({"canister": 0, **EMPTY}, {"canister": 1}, {"canister": 2}, {"canister": 3}),
+        ({"canister": 4}, {"canister": 128}, {"canister": 254}),
+    ),
+    (
+        15,
+        ({"carburettor": 100}, {"hot": 100}, {"fill": 100}, {"carburettor": 0, "hot": 0, "fill": 0}),
+        ({"carburettor": 101}, {"hot": 101}, {"fill": 101}, {"carburettor": 255}, {"hot": 255}, {"fill": 255}),
+    ),
+    (
+        16,
+        ({"vehicles": 10_000_000}, {"vehicles": 0}),
+        ({"vehicles": 10_000_001}, {"vehicles": 2 ** 24}, {"vehicles": 2 ** 32 - 1}),
+    ),
+    (17, ({"tank": 1500}, {"tank": 1}), ({"tank": 1501}, {"tank": 65535})),
+    (
+        18,
+        ({"trips": 2000}, {"minutes": 1440}, {"trips": 0, "minutes": 0}),
+        ({"trips": 2001}, {"minutes": 1441}, {"trips": 65535}, {"minutes": 65535}),
+    ),
+    (
+        19,
+        (
+            {"load": 450}, {"canister": 2, "load": 450}, {"canister": 3, "load": 450},
+            {"load": 0}, EMPTY, {"technology": 0, **EMPTY},
+        ),
+        (
+            {"load": 451}, {"canister": 2, "load": 451}, {"canister": 3, "load": 451},
+            {"load": 1, "saturation": 0}, {"load": 65535},
+            {"canister": 0}, {"canister": 0, "load": 0}, {"canister": 0, "load": 0, "saturation": 1},
+            {"technology": 0}, {"technology": 0, "load": 0, "saturation": 1},
+        ),
+    ),
+    (21, (), ({"spare": 1}, {"spare": 2 ** 8}, {"spare": 2 ** 16}, {"spare": 2 ** 31}, {"spare": 2 ** 32 - 1})),
+)
+LIMITS = [("seasons", *limit) for limit in SEASON_LIMITS] + [("rows", *limit) for limit in ROW_LIMITS]
+
+
+def limit_cases():
+    """Each limit on both sides, in the first and in the last record."""
+    for kind, number, inside, outside in LIMITS:
+        changes = [(change, 0) for change in inside] + [(change, number) for change in outside]
+        ends = (0, len(getattr(BASE, kind)) - 1)
+        yield from (of_record(BASE, kind, i, change, n) for (change, n), i in product(changes, ends))
+
+
+def days_cases():
+    """The running sum, which stops at the season that takes it past 366."""
+    sums = (
+        # days of the seasons, and the season that stops, counted from 0
+        ((366,), None), ((367,), 0), ((365, 1), None), ((366, 1), 1), ((1, 366), 1),
+        ((100, 100, 166), None), ((100, 100, 167), 2), ((200, 167, 1), 1), ((200, 167, 0), 1), ((200, 0, 167), 1),
+        ((1, 65535, 1), 1), ((366, 65535, 1), 1), ((1, 1, 366), 2),
+        ((30,) * 11 + (36,), None), ((30,) * 11 + (37,), 11), ((33,) * 12, 11), ((36,) * 12, 10), ((1,) * 12, None),
+    )
+    for days, stop in sums:
+        plan = Plan(tuple({**SEASON, "days": n} for n in days), (ROW,))
+        answer = ACCEPTED if stop is None else (10, plan.place("seasons", stop))
+        yield Case("days %s" % " ".join(map(str, days)), plan.data(), answer)
+
+
+def far_cases():
+    """Each condition of a record in the last record of the largest sheet and
+    in the only one of the smallest."""
+    for kind, number, _, outside in LIMITS:
+        last = len(getattr(LARGEST, kind)) - 1
+        yield of_record(LARGEST, kind, last, outside[0], number)
+        yield of_record(SMALLEST, kind, 0, outside[0], number)
+
+
+# ----------------------------------------------- classes, canisters, check 20
+
+
+def most(canister, season):
+    """The largest saturating load of a canister that check 20 lets pass in a
+    season. In whole numbers, times 4,000,000, a + b.s.m <= 3 says
+    (23000 - 3 vp + 2 T).2s.m <= 56000000 + 6000 vp - 26000 T."""
+    T, vp = season["highest"], season["vp"]
+    twice_s = {1: 4, 2: 2, 3: 1}[canister]
+    return (56_000_000 + 6_000 * vp - 26_000 * T) // ((23_000 - 3 * vp + 2 * T) * twice_s)
+
+
+def class_pair(vehicle_class, technology):
+    """A pair of the table with canister and tank by class, and the same with
+    both written: alike in what passes and what is refused."""
+    litres, canisters = CLASSES[vehicle_class]
+    canister = canisters[technology]
+    top, number = (most(canister, SEASON), 20) if canister else (0, 19)
+    by_class, written = {"canister": BY_CLASS, "tank": 0}, {"canister": canister, "tank": 10 * litres}
+    for fitted, (saturation, n) in product((by_class, written), ((top, 0), (top + 1, number))):
+        change = {"class": vehicle_class, "technology": technology, **fitted, "load": 0, "saturation": saturation}
+        yield of_record(SMALLEST, "rows", 0, change, n)
+
+
+def class_cases():
+    return chain.from_iterable(class_pair(*pair) for pair in PAIRS)
+
+
+def table_cases():
+    """All pairs, as many to a sheet as there can be rows."""
+    for pairs in (PAIRS[:32], PAIRS[32:]):
+        rows = tuple({**ROW, "class": c, "technology": t, **EMPTY} for c, t in pairs)
+        yield Case("%d pairs of the table" % len(pairs), Plan((SEASON,), rows).data(), ACCEPTED)
+
+
+def absent_cases():
+    """The last technology of each class passes, the next does not."""
+    for vehicle_class, (_, canisters) in CLASSES.items():
+        last = {"class": vehicle_class, "technology": len(canisters) - 1, **EMPTY}
+        yield of_record(BASE, "rows", 0, last, 0)
+        yield of_record(BASE, "rows", 3, {**last, "technology": len(canisters)}, 13)
+
+
+def saturation_cases():
+    """Check 20 on both sides, for each size in cold and heat. At 0.0 C and
+    100.0 kPa a medium canister of 155.0 g stands at 3 exactly, and passes."""
+    weather = ((-300, 1100), (-300, 300), (-1, 600), (0, 1000), (200, 600), (300, 1000), (500, 300), (500, 1100))
+    for (highest, vp), canister, more in product(weather, (1, 2, 3), (0, 1)):
+        season = {"days": 366, "lowest": -300, "highest": highest, "vp": vp}
+        plan = SMALLEST.changed("seasons", 0, season)
+        row = {"canister": canister, "load": 0, "saturation": most(canister, season) + more}
+        case = of_record(plan, "rows", 0, row, 20 * more)
+        yield case._replace(words="%s, at %s" % (case.words, said({"highest": highest, "vp": vp})))
+
+
+def season_cases():
+    """Check 20 where one season alone decides, in the first and last row."""
+    hot = {"highest": 500, "vp": 300}
+    ends = [(BASE, 0), (BASE, len(BASE.rows) - 1), (LARGEST, len(LARGEST.rows) - 1)]
+    for (plan, j), part, more in product(ends, (0, 1, 2), (0, 1)):
+        i = part * (len(plan.seasons) - 1) // 2
+        row = {"canister": 2, "load": 0, "saturation": most(2, hot) + more}
+        case = of_record(plan.changed("seasons", i, hot), "rows", j, row, 20 * more)
+        yield case._replace(words="%s, hot in season %d" % (case.words, i + 1))
+
+
+# ----------------------------------------------------- conditions that compete
+
+# A change for each number of a record; any two of them apply together.
+SEASON_FAULTS = {10: {"days": 0}, 11: {"highest": 501}, 12: {"vp": 299}}
+ROW_FAULTS = {
+    13: {"class": 0}, 14: {"canister": 4}, 15: {"fill": 101}, 16: {"vehicles": 10_000_001}, 17: {"tank": 1501},
+    18: {"minutes": 1441}, 19: {"load": 65535}, 20: {"saturation": 60000}, 21: {"spare": 1},
+}
+
+# The pairs of numbers of a season and of a row, the lower first.
+RECORD_PAIRS = [
+    (kind, *pair)
+    for kind, faults in (("seasons", SEASON_FAULTS), ("rows", ROW_FAULTS))
+    for pair in combinations(faults, 2)
+]
+
+
+def fault(kind, i, number):
+    """What brings a number about in a record, as an edit of a plan."""
+    change = {**SEASON_FAULTS, **ROW_FAULTS}[number]
+    return lambda plan: plan.changed(kind, i, change)
+
+
+def two_faults(words, first, later, answer):
+    return Case(words, later(first(BASE)).data(), answer)
+
+
+def same_record_cases():
+    """Two conditions in the last record: the lower number is returned."""
+    for kind, a, b in RECORD_PAIRS:
+        last = len(getattr(BASE, kind)) - 1
+        words = "%d and %d in the last %s" % (a, b, kind[:-1])
+        yield two_faults(words, fault(kind, last, a), fault(kind, last, b), (a, BASE.place(kind, last)))
+
+
+def two_record_cases():
+    """The higher number in the first record, the lower in the last: the first
+    record's is returned."""
+    for kind, a, b in RECORD_PAIRS:
+        last = len(getattr(BASE, kind)) - 1
+        words = "%d in the first %s and %d in the last" % (b, kind[:-1], a)
+        yield two_faults(words, fault(kind, 0, b), fault(kind, last, a), (b, BASE.place(kind, 0)))
+
+
+def season_and_row_cases():
+    """The last season comes before the first row."""
+    for a, b in product(SEASON_FAULTS, ROW_FAULTS):
+        words = "%d in the last season and %d in the first row" % (a, b)
+        yield two_faults(words, fault("rows", 0, b), fault("seasons", 2, a), (a, BASE.place("seasons", 2)))
+
+
+# Faults of the parts that stand once, each as an edit of a sheet's bytes.
+PARTS = (
+    (2, 0, lambda data: patched(data, 2, b"Q")), (3, 3, lambda data: patched(data, 3, b"\2")),
+    (4, 5, lambda data: patched(data, 5, b"\0")), (5, 6, lambda data: patched(data, 6, b"\x21")),
+    (6, 7, lambda data: patched(data, 7, b"\1")), (7, 0, lambda data: data + b"\0"),
+    (8, 8, lambda data: patched(data, 8, b"\xff\xff")), (9, 56, lambda data: patched(data, 56, b"\xff\xff")),
+    (12, 104, lambda data: patched(data, 110, b"\0\0")), (21, 128, lambda data: patched(data, 148, b"\1")),
+)
+
+
+def part_cases():
+    """Any two parts at fault: the earlier in the table is returned."""
+    data = BASE.data()
+    for (a, place, first), (b, _, later) in combinations(PARTS, 2):
+        yield Case("%d and %d" % (a, b), later(first(data)), (a, place))
+
+
+def short_cases():
+    """Under 8 bytes nothing of the head is looked at."""
+    for number, _, edit in PARTS[:5]:
+        yield Case("1 and %d" % number, edit(BASE.data())[:7], (1, 0))
+
+
+# -------------------------------------------------------------------- by chance
+
+
+class Chance:
+    """Numbers with no order in them, the same in every run and on every
+    machine."""
+
+    def __init__(self, name):
+        self.name = name
+        self.drawn = 0
+
+    def below(self, n):
+        self.drawn += 1
+        digest = hashlib.sha256(f"{self.name} {self.drawn}".encode()).digest()
+        return int.from_bytes(digest, "little") % n
+
+    def between(self, first, last):
+        return first + self.below(last - first + 1)
+
+    def one_of(self, things):
+        return things[self.below(len(things))]
+
+
+def chance_season(chance, seasons):
+    lowest, highest = sorted(chance.between(-300, 500) for _ in range(2))
+    days = chance.between(1, 366 // seasons)
+    return {"days": days, "lowest": lowest, "highest": highest, "vp": chance.between(300, 1100)}
+
+
+def chance_row(chance, seasons):
+    vehicle_class, technology = chance.one_of(PAIRS)
+    code = chance.one_of((0, 1, 2, 3, BY_CLASS, BY_CLASS, BY_CLASS, BY_CLASS))
+    canister = CLASSES[vehicle_class][1][technology] if code == BY_CLASS else code
+    saturation = chance.between(0, min(most(canister, season) for season in seasons)) if canister else 0
+    return {
+        "class": vehicle_class, "technology": technology, "canister": code,
+        "carburettor": chance.between(0, 100), "hot": chance.between(0, 100), "fill": chance.between(0, 100),
+        "tank": chance.one_of((0, chance.between(1, 1500))), "vehicles": chance.between(0, 10_000_000),
+        "trips": chance.between(0, 2000), "minutes": chance.between(0, 1440),
+        "load": chance.one_of((saturation, chance.between(0, saturation))), "saturation": saturation, "spare": 0,
+    }
+
+
+def chance_counts(chance):
+    return tuple(chance.between(0, 40) for _ in range(23)) + (1,)
+
+
+def chance_plan(seasons, rows):
+    """An accepted sheet of this size with values all over their ranges."""
+    chance = Chance("sheet of %d seasons and %d rows" % (seasons, rows))
+    all_seasons = tuple(chance_season(chance, seasons) for _ in range(seasons))
+    all_rows = tuple(chance_row(chance, all_seasons) for _ in range(rows))
+    return Plan(all_seasons, all_rows, chance_counts(chance), chance_counts(chance))
+
+
+SIZES = (
+    (1, 1), (1, 2), (2, 1), (2, 3), (3, 2), (4, 4), (5, 9), (1, 32), (12, 1), (7, 5), (8, 16), (4, 22), (10, 27),
+    (12, 32),
+)
+
+
+def accepted_cases():
+    plans = [("values by chance", chance_plan(*size)) for size in SIZES]
+    plans += [("plain values", plan) for plan in (SMALLEST, BASE, LARGEST)]
+    for words, plan in [("document 01's example", EXAMPLE), *plans]:
+        yield Case("%s: %s" % (sized(plan), words), plan.data(), ACCEPTED)
+
+
+def byte_changed(chance, data):
+    at, value = chance.below(len(data)), chance.below(256)
+    return "byte %d becomes %d" % (at, value), patched(data, at, bytes([value]))
+
+
+def bit_changed(chance, data):
+    at, bit = chance.below(len(data)), chance.below(8)
+    return "bit %d of byte %d turned" % (bit, at), patched(data, at, bytes([data[at] ^ 1 << bit]))
+
+
+def record_byte_changed(chance, data):
+    at, value = chance.between(104, len(data) - 1), chance.below(256)
+    return "byte %d of the records becomes %d" % (at, value), patched(data, at, bytes([value]))
+
+
+def neighbours_exchanged(chance, data):
+    at = chance.below(len(data) - 1)
+    return "bytes %d and %d exchanged" % (at, at + 1), patched(data, at, data[at:at + 2][::-1])
+
+
+def part_overwritten(chance, data):
+    at, size = chance.between(104, len(data) - 8), chance.between(2, 8)
+    values = bytes(chance.below(256) for _ in range(size))
+    return "%d bytes from %d overwritten" % (size, at), patched(data, at, values)
+
+
+def byte_lost(chance, data):
+    at = chance.below(len(data))
+    return "byte %d lost" % at, data[:at] + data[at + 1:]
+
+
+DAMAGE = (
+    byte_changed, bit_changed, bit_changed, record_byte_changed, record_byte_changed, neighbours_exchanged,
+    part_overwritten, byte_lost,
+)
+
+
+def damaged_cases():
+    """Sheets of the smaller sizes, each damaged many times over."""
+    chance = Chance("damage")
+    for size, _, damage in product(SIZES[1:7], range(4), DAMAGE):
+        plan = chance_plan(*size)
+        words, data = damage(chance, plan.data())
+        yield Case("%s: %s" % (sized(plan), words), data, None)
+
+
+# -------------------------------------------------------------------- the file
+
+GROUPS = (
+    accepted_cases, head_cases, count_cases, cut_cases, shortened_cases, lengthened_cases, miscounted_cases,
+    parking_cases, limit_cases, days_cases, far_cases, class_cases, table_cases, absent_cases, saturation_cases,
+    season_cases, same_record_cases, two_record_cases, season_and_row_cases, part_cases, short_cases, damaged_cases,
+)
+
+
+def answered(case):
+    """The case with the answer that evaporation.py gives."""
+    answer = evaporation.check(case.data) or ACCEPTED
+    if case.answer not in (None, answer):
+        sys.exit("sheets: %s: %d at %d by the table, %d at %d by evaporation.py" % (
+            case.words, *case.answer, *answer))
+    return case._replace(answer=answer)
+
+
+def all_cases():
+    """No sheet twice."""
+    found = {}
+    for case in chain.from_iterable(group() for group in GROUPS):
+        found.setdefault(case.data, case)
+    return [answered(case) for case in found.values()]
+
+
+def end_of(case):
+    """The number with "first" or "last" where the place is that of the first
+    or last of several records."""
+    number, place = case.answer
+    if number < 10:
+        return None
+    seasons, rows = case.data[5], case.data[6]
+    count, index = (seasons, (place - 104) // 8) if number < 13 else (rows, (place - 104 - 8 * seasons) // 24)
+    return (number, {0: "first", count - 1: "last"}.get(index)) if count > 1 else None
+
+
+def missing(cases):
+    """What the sheets as a whole should show and do not."""
+    numbers = Counter(case.answer[0] for case in cases)
+    ends = {end_of(case) for case in cases}
+    if len(cases) < LEAST_SHEETS:
+        yield "%d sheets" % len(cases)
+    for number in range(1, LAST_NUMBER + 1):
+        if numbers[number] < LEAST_OF_A_NUMBER:
+            yield "number %d: %d sheets" % (number, numbers[number])
+        if number >= 10 and not {(number, "first"), (number, "last")} <= ends:
+            yield "number %d: not in the first and in the last record" % number
+
+
+def encoded(case):
+    number, place = case.answer
+    return len(case.data).to_bytes(2, "little") + bytes([number]) + place.to_bytes(2, "little") + case.data
+
+
+def made(cases):
+    """The bytes of the file."""
+    return len(cases).to_bytes(4, "little") + b"".join(encoded(case) for case in cases)
+
+
+def listed(cases):
+    for position, case in enumerate(cases, 1):
+        answer = "refused %d at %d" % case.answer if case.answer[0] else "accepted"
+        print("%4d  %-17s  %s" % (position, answer, case.words))
+
+
+def main():
+    if sys.argv[1:] not in ([], ["--check"], ["--list"]):
+        sys.exit(__doc__)
+    cases = all_cases()
+    data = made(cases)
+    faults = [*missing(cases), *(["more than %d bytes" % ROOM] if len(data) > ROOM else [])]
+    if faults:
+        sys.exit("sheets: " + "; ".join(faults))
+    if sys.argv[1:] == ["--list"]:
+        listed(cases)
+    elif not sys.argv[1:]:
+        TARGET.write_bytes(data)
+    elif not TARGET.exists() or TARGET.read_bytes() != data:
+        sys.exit("crates/sheet_vectors/stdin is not what tools/sheets.py writes")
+
+
+if __name__ == "__main__":
+    main()
