@@ -1,25 +1,28 @@
 -- The seasons, rows and counts of an accepted sheet are in range, so that all its factors are enclosed and of limited size.
 -- Assumes nothing.
 use mathlib.Core.Bool.{not}
-use mathlib.Core.List.{List, [], _∷_, _++_, map}
+use mathlib.Core.List.{List}
 use mathlib.Core.Path.{_≡_, refl, ap, _∙_}
 use Prim.Native.Nat.{ℕ, suc, zero, _+_, _*_, _≤_, _<_}
 use native.Mathlib.Nat.{mul-le-mul, mul-pos}
 use native.Mathlib.Omega.{arith}
 use borrow.Author.Tests.{ltb-false}
+use lib.ListN.{length}
 use Rattle.numbers.specs.Fraction.{Fraction, _≈ᶠ_, whole, _/10^_, _over_}
 use Rattle.numbers.proofs.Order.{test-true}
 use Rattle.exact.specs.declared.Canister.{Canister}
 use Rattle.exact.specs.declared.Canister.the-variants.{None, Small, Medium, Large}
 use Rattle.exact.specs.declared.Season.{Season}
-use Rattle.exact.specs.Factors.{total, products}
+use Rattle.exact.specs.Factors.{total}
 use Rattle.marks.specs.Range.{shifted, SeasonInRange}
 use Rattle.factors.specs.Escape.{halves}
 use Rattle.factors.specs.Range.{RowInRange}
+use Rattle.factors.specs.Grid.{CellsInRange}
+use Rattle.factors.proofs.Cells.{products-length, products-total}
 use Rattle.factors.proofs.FactorBound.{low-≤-factor, factor-≤-high}
 use Rattle.factors.proofs.Sizes.{highMicrograms-most}
 use Rattle.sheet.specs.Limits.{countsLimit}
-use Rattle.sheet.specs.Bytes.{seasonsOf, rowsOf, durationCounts, hourCounts, cellsOf, seasonAt, seasonsFrom, seasonList, rowAt}
+use Rattle.sheet.specs.Bytes.{seasonsOf, rowsOf, countsAt, durationCounts, hourCounts, cellsOf, seasonAt, seasonsFrom, seasonList, rowAt}
 use Rattle.sheet.specs.Sheet.{daysBefore, above3}
 use Rattle.sheet.proofs.Conditions.{Size, AtMost3}
 use Rattle.sheet.proofs.Accepted.{Bytes, AcceptedSeason, AcceptedRow, Accepted}
@@ -29,19 +32,6 @@ use Rattle.inventory.proofs.MassBound.{Shares, Enclosed, Every}
 use Rattle.inventory.proofs.MassSizes.{Sized, RowSized}
 
 -- The counts.
-
--- a list times q, and what follows it
-scaled-total : (q : ℕ) (js rest : List ℕ) → total (map (λ (j : ℕ). j * q) js ++ rest) ≡ total js * q + total rest
-unfolding total
-scaled-total q [] rest = omega arith
-scaled-total q (j ∷ js) rest = omega (arith, scaled-total q js rest)
-
--- the products of two lists sum to P·Q
-products-total : (durations hours : List ℕ) → total (products durations hours) ≡ total durations * total hours
-unfolding products total
-products-total durations [] = omega arith
-products-total durations (q ∷ hours) =
-    omega (arith, scaled-total q durations (products durations hours), products-total durations hours)
 
 -- the cells' counts sum to P·Q
 pub cells-total : (s : List ℕ) → total (cellsOf s) ≡ total (durationCounts s) * total (hourCounts s)
@@ -55,6 +45,24 @@ cells-least {s} a = rw (cells-total s) (mul-pos (a .durations-least) (a .hours-l
 -- and at most 1,000,000
 pub cells-most : {s : List ℕ} → Accepted s → total (cellsOf s) ≤ countsLimit * countsLimit
 cells-most {s} a = rw (cells-total s) (mul-le-mul (a .durations-most) (a .hours-most))
+
+-- 24 counts in each list
+pub durations-length : (s : List ℕ) → length (durationCounts s) ≡ 24
+unfolding durationCounts countsAt
+durations-length s = refl
+
+pub hours-length : (s : List ℕ) → length (hourCounts s) ≡ 24
+unfolding hourCounts countsAt
+hours-length s = refl
+
+-- so there are 576 cells
+pub cells-in-range : {s : List ℕ} → Accepted s → CellsInRange (cellsOf s)
+unfolding cellsOf
+cells-in-range {s} a = record {
+  length-is = products-length (durationCounts s) (hourCounts s) ∙ rw (durations-length s, hours-length s);
+  total-least = cells-least a;
+  total-most = omega (arith, cells-most a);
+}
 
 -- season i
 pub season-in-range : {s : List ℕ} {i : ℕ} → Bytes s → AcceptedSeason s i → SeasonInRange (seasonAt s i)

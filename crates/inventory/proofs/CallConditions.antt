@@ -1,15 +1,17 @@
 -- Numbers 22 and 23 of document 01 as demands in plain arithmetic, after those of the sheet: each call answers where all are met, and
 -- else returns the first that is not met, with its place.
 -- Assumes nothing.
+use mathlib.Core.Bool.{Bool, true, false}
 use mathlib.Core.List.{List}
 use mathlib.Core.Path.{_≡_}
 use Prim.Native.Nat.{ℕ, _≤_, _<_}
 use native.Mathlib.Omega.{arith}
 use borrow.Author.Tests.{leb-true, leb-false}
 use lib.Dec.{leb}
-use Rattle.sheet.specs.declared.Check.the-variants.{Pass}
+use Rattle.sheet.specs.declared.Check.the-variants.{Pass, Refused}
 use Rattle.sheet.specs.Bytes.{seasonsOf, rowsOf}
-use Rattle.sheet.specs.Sheet.{outside}
+use Rattle.sheet.specs.Check.{refuse}
+use Rattle.sheet.specs.Sheet.{outside, sheetCheck}
 use Rattle.sheet.proofs.Checks.{Demands, demand, _next_, Tests, Judges, judges-refuse, judges-then, ltb-tests, ||-tests, then-pass}
 use Rattle.sheet.proofs.Conditions.{demands, sheet-judged}
 use Rattle.sheet.proofs.Accepted.{Accepted, accepted}
@@ -54,3 +56,24 @@ unfolding factorCheck
 factor-accepted s season row k h =
     let ((season-there, row-there), (least, most)) = factor-judged s season row k .passes h .1 in
     (accepted s (then-pass _ _ h .0), season-there, row-there, least, most)
+
+-- every check of the sheet comes first
+pub factor-sheet : (s : List ℕ) (season row k : ℕ) → factorCheck s season row k ≡ Pass → sheetCheck s ≡ Pass
+unfolding factorCheck
+factor-sheet s season row k h = then-pass _ _ h .0
+
+pub report-sheet : (s : List ℕ) (room : ℕ) → reportCheck s room ≡ Pass → sheetCheck s ≡ Pass
+unfolding reportCheck
+report-sheet s room h = then-pass _ _ h .0
+
+-- How the code makes its last check.
+
+-- the condition holds
+pub refused : {b : Bool} (number place : ℕ) → b ≡ true → Refused number place ≡ refuse b number place
+unfolding refuse
+refused number place h = rw h
+
+-- it does not
+pub allowed : {b : Bool} (number place : ℕ) → b ≡ false → Pass ≡ refuse b number place
+unfolding refuse
+allowed number place h = rw h

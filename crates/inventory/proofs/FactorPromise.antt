@@ -9,6 +9,8 @@ use Rattle.factors.proofs.FactorBound.{high-near-low}
 use Rattle.sheet.specs.declared.Check.{Check}
 use Rattle.sheet.specs.declared.Check.the-variants.{Pass, Refused}
 use Rattle.sheet.proofs.Accepted.{Bytes}
+use Rattle.inventory.specs.declared.FactorAnswer.{FactorAnswer}
+use Rattle.inventory.specs.declared.FactorAnswer.the-variants as answer
 use Rattle.inventory.specs.FactorCall.{numbered, factorCheck, unitsAt, answered, factorAnswer, FactorBand, FactorPromise}
 use Rattle.inventory.proofs.AcceptedRange.{enclosed}
 use Rattle.inventory.proofs.CallConditions.{factor-accepted}
@@ -38,3 +40,17 @@ module _ (s : List ℕ) (season row k : ℕ) (bytes : Bytes s) where
   pub factor-promise : FactorPromise s season row k (factorAnswer s season row k)
   unfolding factorAnswer
   factor-promise = promise-kept (factorCheck s season row k) refl
+
+  -- Each outcome of the code is the answer.
+  pub refusal-is : {number place : ℕ} → factorCheck s season row k ≡ Refused number place → answer.Refused number place ≡ factorAnswer s season row k
+  unfolding factorAnswer answered
+  refusal-is h = rw h
+
+  pub band-is : {low high units : ℕ} → factorCheck s season row k ≡ Pass → units ≡ unitsAt s season row k → low ≡ lowMicrograms units → high ≡ highMicrograms units
+      → answer.Band low high ≡ factorAnswer s season row k
+  unfolding factorAnswer answered
+  band-is h u l g = rw (h, l, g, u)
+
+  -- and an outcome that is the answer is what is promised
+  pub promised : {r : FactorAnswer} → r ≡ factorAnswer s season row k → (r ≡ factorAnswer s season row k) × FactorPromise s season row k r
+  promised e = (e, rw e factor-promise)

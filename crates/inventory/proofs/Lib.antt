@@ -9,3 +9,11 @@ pub mod AcceptedRange
 pub mod FactorPromise
 pub mod ReportPromise
 pub mod ReportSizes
+pub mod Filled
+pub mod Places
+pub mod YearWords
+pub mod FigureSizes
+pub mod Totals
+pub mod SeasonWork
+pub mod SeasonWords
+pub mod ExportNumbers

@@ -39,6 +39,15 @@ pub record Sized (counts : List ℕ) (row : Row) (season : Season) : Type 0 wher
 pub mixed-most : (p q B : ℕ) {h w : ℕ} → p + q ≡ 100 → h ≤ B → w ≤ B → p * h + q * w ≤ 100 * B
 mixed-most p q B e a b = omega (arith, mul-le-mul-left p a, mul-le-mul-left q b, ap (λ (t : ℕ). t * B) e)
 
+-- all parts, with share c of those that are mixed with share p, in percent
+pub blend-most : (c p B : ℕ) {h w i : ℕ} → c ≤ 100 → p ≤ 100 → h ≤ B → w ≤ B → i ≤ B
+    → c * (p * h + (100 - p) * w) + (100 - c) * 100 * i ≤ 10000 * B
+blend-most c p B c-most p-most a b d =
+    let mixed = mul-le-mul-left c (mixed-most p (100 - p) B (omega arith) a b) in
+    let others = mul-le-mul-left ((100 - c) * 100) d in
+    let all : c + (100 - c) ≡ 100 = omega arith in
+    omega (arith, ap (λ (t : ℕ). t * (100 * B)) all)
+
 -- how large the figure of one vehicle on one day can be, in units of 10⁻¹² g
 abbrev pub dayMost : ℕ
 dayMost = tripsLimit * (10000 * tripMost)
@@ -59,11 +68,7 @@ module _ {row : Row} (shares : Shares row) (trips-most : row .trips ≤ tripsLim
   -- a blend of parts of at most B
   pub blended-most : (season : Season) (B : ℕ) {h w i : ℕ} → h ≤ B → w ≤ B → i ≤ B → blended micrograms counts season row h w i ≤ 10000 * B
   unfolding blended
-  blended-most season B a b c =
-      let carburettor = mul-le-mul-left (row .carburettor) (mixed-most (row .hot) (100 - row .hot) B (omega (arith, shares .hot-most)) a b) in
-      let others = mul-le-mul-left ((100 - row .carburettor) * 100) c in
-      let all : row .carburettor + (100 - row .carburettor) ≡ 100 = omega (arith, shares .carburettor-most) in
-      omega (arith, ap (λ (t : ℕ). t * (100 * B)) all)
+  blended-most season B a b c = blend-most (row .carburettor) (row .hot) B (shares .carburettor-most) (shares .hot-most) a b c
 
   -- trips times a blend
   trips-times : (season : Season) {h w i : ℕ} → h ≤ tripMost → w ≤ tripMost → i ≤ tripMost
@@ -138,17 +143,17 @@ module _ {counts : List ℕ} {seasons : List Season} {row : Row} (r : RowSized c
 
 -- A year's figure times the vehicles, over 10⁹, in parts that fit 64 bits.
 
--- ⌈y·v/10⁹⌉ in parts; ⌊y·v/10⁹⌋ is `cut-product` of bounds
-pub cut-up-parts : (y v : ℕ) → y / 10 ^ 9 * v + (y % 10 ^ 9 * v + (10 ^ 9 - 1)) / 10 ^ 9 ≡ (y * v + (10 ^ 9 - 1)) / 10 ^ 9
-cut-up-parts y v = omega (arith, ap (λ (t : ℕ). t * v) (div-add-mod' y (10 ^ 9)))
+-- ⌊(y·v + r)/10⁹⌋ in parts: r = 0 for a low, 10⁹ − 1 for a high
+pub cut-parts : (y v r : ℕ) → y / 10 ^ 9 * v + (y % 10 ^ 9 * v + r) / 10 ^ 9 ≡ (y * v + r) / 10 ^ 9
+cut-parts y v r = omega (arith, ap (λ (t : ℕ). t * v) (div-add-mod' y (10 ^ 9)))
 
--- the whole part
-pub whole-part-most : (y v : ℕ) → y ≤ yearMost → y / 10 ^ 9 * v ≤ vehicleMost * v
-whole-part-most y v h = let q : y / 10 ^ 9 ≤ vehicleMost = omega arith in mul-le-mul-right v q
+-- the whole part, with so many vehicles as 1,000 rows may have
+pub whole-part-most : (y v : ℕ) → y < 2 ^ 64 → v ≤ 10 ^ 8 → y / 10 ^ 9 * v ≤ 2 ^ 35 * 10 ^ 8
+whole-part-most y v h l = let q : y / 10 ^ 9 ≤ 2 ^ 35 = omega arith in mul-le-mul q l
 
 -- the rest, before it is cut
-pub rest-part-fits : (y v : ℕ) → v ≤ 10 ^ 10 → y % 10 ^ 9 * v + (10 ^ 9 - 1) < 2 ^ 64
-rest-part-fits y v h = let r : y % 10 ^ 9 ≤ 10 ^ 9 = omega arith in omega (arith, mul-le-mul r h)
+pub rest-part-most : (y v : ℕ) → v ≤ 10 ^ 8 → y % 10 ^ 9 * v ≤ 10 ^ 9 * 10 ^ 8
+rest-part-most y v h = let r : y % 10 ^ 9 ≤ 10 ^ 9 = omega arith in mul-le-mul r h
 
 -- Sums over the rows.
 

@@ -1,6 +1,6 @@
 -- How many words the report has, where each stands, and what the buffer keeps.
 -- Assumes nothing.
-use mathlib.Core.Bool.{Bool}
+use mathlib.Core.Bool.{Bool, true}
 use mathlib.Core.List.{List, [], _∷_, _++_, append-assoc}
 use mathlib.Core.Logic.{⊎-elim}
 use mathlib.Core.Path.{_≡_, refl, _∙_}
@@ -15,6 +15,7 @@ use Rattle.sheet.specs.declared.Check.the-variants.{Pass, Refused}
 use Rattle.sheet.specs.Bytes.{rowsOf}
 use Rattle.inventory.specs.Figures.{rowFigures}
 use Rattle.inventory.specs.Report.{reportLength, wordsOf, rowWords, car, lightDuty, twoWheeler, anyClass, subtotal, subtotals, grandTotal, report, written}
+use Rattle.inventory.specs.Years.{category}
 
 -- six words for each row
 pub rowWords-length : (s : List ℕ) (n : ℕ) → length (rowWords s n) ≡ 6 * n
@@ -55,12 +56,13 @@ row-word-at s i j h l =
     let inside : 6 * i + j < length (rowWords s (rowsOf s)) = omega (arith, rowWords-length s (rowsOf s)) in
     simp append-assoc (List·getD-append (rowWords s (rowsOf s)) _ 0 (6 * i + j) inside ∙ rows-at s (rowsOf s) i j h l)
 
--- the categories in their order: "cars (1 to 3), light-duty (4), two-wheelers (5 to 9); .. all rows"
-abbrev pub category : ℕ → ℕ → Bool
-category zero = car
-category (suc zero) = lightDuty
-category (suc (suc zero)) = twoWheeler
-category (suc (suc (suc c))) = anyClass
+-- past the first three, every class belongs
+pub category-rest : (c class : ℕ) → ¬ (c ≡ 0) → ¬ (c ≡ 1) → ¬ (c ≡ 2) → category c class ≡ true
+unfolding category anyClass
+category-rest zero class a b c = absurd (a refl)
+category-rest (suc zero) class a b c = absurd (b refl)
+category-rest (suc (suc zero)) class a b c = absurd (c refl)
+category-rest (suc (suc (suc n))) class a b c = refl
 
 module _ (s : List ℕ) where
   -- word j of a category, before what follows
@@ -79,7 +81,7 @@ module _ (s : List ℕ) where
 
   -- "six words each for cars, light-duty, two-wheelers; six for all rows"
   pub category-word-at : (c j : ℕ) → c < 4 → j < 6 → getD (report s) (6 * (rowsOf s + c) + j) 0 ≡ subtotal s (category c) (rowsOf s) j
-  unfolding report
+  unfolding report category
   category-word-at zero j h l = simp append-assoc (after-rows _ j _ (omega arith) ∙ first car _ j l)
   category-word-at (suc zero) j h l = simp append-assoc (after-rows _ (6 + j) _ (omega arith) ∙ next car _ j ∙ first lightDuty _ j l)
   category-word-at (suc (suc zero)) j h l =

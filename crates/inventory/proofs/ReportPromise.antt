@@ -1,8 +1,9 @@
 -- What an accepted report holds is what document 01 promises of each row's words, and it has its length.
 -- Assumes nothing.
-use mathlib.Core.List.{List}
-use mathlib.Core.Path.{_≡_}
-use Prim.Native.Nat.{ℕ, _<_}
+use mathlib.Core.List.{List, _++_}
+use mathlib.Core.Path.{_≡_, ap}
+use Prim.Native.Nat.{ℕ, _+_, _*_, _<_}
+use lib.ListN.{length, drop}
 use Rattle.exact.specs.declared.Season.{Season}
 use Rattle.exact.specs.Masses.{diurnal, soak, running}
 use Rattle.sheet.specs.declared.Check.the-variants.{Pass}
@@ -11,7 +12,9 @@ use Rattle.sheet.specs.Sheet.{sheetCheck}
 use Rattle.sheet.proofs.Checks.{then-pass}
 use Rattle.sheet.proofs.Accepted.{Bytes, Accepted, accepted}
 use Rattle.inventory.specs.Figures.{rowFigures}
-use Rattle.inventory.specs.Report.{reportCheck, wordsOf, RowPromise, ReportPromise}
+use Rattle.inventory.specs.Report.{reportLength, reportCheck, wordsOf, report, written, RowPromise, ReportPromise}
+use Rattle.inventory.specs.Years.{filled, reportWord}
+use Rattle.inventory.proofs.Filled.{tab-getD}
 use Rattle.inventory.proofs.MassBound.{Enclosed, Every}
 use Rattle.inventory.proofs.MassWidth.{mass-band, no-vehicles}
 use Rattle.inventory.proofs.ReportPlaces.{report-length}
@@ -39,3 +42,10 @@ report-promise s bytes h =
 pub answered-promise : (s : List ℕ) (room : ℕ) → Bytes s → reportCheck s room ≡ Pass → ReportPromise s
 unfolding reportCheck
 answered-promise s room bytes h = report-promise s bytes (then-pass _ _ h .0)
+
+-- words replaced by those of the report
+pub report-written : (s old : List ℕ) → filled (reportWord s) (6 * rowsOf s + 26) old ≡ written Pass (report s) old
+unfolding written reportLength
+report-written s old =
+    let long : length (report s) ≡ 6 * rowsOf s + 26 = report-length s in
+    rw (← long) (ap (λ (r : List ℕ). r ++ drop (length (report s)) old) (tab-getD (report s)))

@@ -1,3 +1,5 @@
 pub mod FactorCall
 pub mod Figures
 pub mod Report
+pub mod Years
+pub mod Export

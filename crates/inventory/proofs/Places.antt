@@ -1,0 +1,24 @@
+-- Where the parts of an accepted sheet stand: each is there to be read.
+-- Assumes nothing.
+use mathlib.Core.List.{List}
+use mathlib.Core.Path.{_≡_}
+use Prim.Native.Nat.{ℕ, _+_, _≤_, _<_}
+use native.Mathlib.Omega.{arith}
+use lib.ListN.{length}
+use Rattle.sheet.specs.declared.Check.the-variants.{Pass}
+use Rattle.sheet.specs.Bytes.{seasonsOf, rowsOf, seasonPlace, rowPlace}
+use Rattle.sheet.specs.Sheet.{sheetCheck}
+use Rattle.sheet.proofs.Accepted.{accepted}
+
+module _ (s : List ℕ) (h : sheetCheck s ≡ Pass) where
+  -- the head and the parking counts
+  pub parking-there : 104 ≤ length s
+  parking-there = omega (arith, accepted s h .length-is)
+
+  -- season j
+  pub season-there : {j : ℕ} → j < seasonsOf s → seasonPlace s j + 8 ≤ length s
+  season-there l = omega (arith, accepted s h .length-is)
+
+  -- row i
+  pub row-there : {i : ℕ} → i < rowsOf s → rowPlace s i + 24 ≤ length s
+  row-there l = omega (arith, accepted s h .length-is)

@@ -1,0 +1,17 @@
+-- `inventory::export::check_numbers` meets its contract.
+-- Assumes nothing.
+use borrow.Author.Needs.{needs}
+use Rattle.inventory.specs.Export.{checkNumbers}
+use Rattle.inventory.proofs.export.check_numbers.Statement.{statement}
+use Rattle.inventory.proofs.export.check_numbers.Tie as tie
+
+returns : tie.Need-returns
+unfolding checkNumbers
+returns c = cc
+
+returns-2 : tie.Need-returns-2
+unfolding checkNumbers
+returns-2 c = cc
+
+pub check-numbers-spec : {M : Type 1} → statement M
+check-numbers-spec = tie.close (tie.spec (λ c. search needs) (λ c. search needs) returns returns-2)

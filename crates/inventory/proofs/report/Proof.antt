@@ -1,0 +1,46 @@
+-- `inventory::report` meets its contract: a refusal leaves the buffer, and an accepted report is what document 01 promises.
+-- Assumes nothing.
+use mathlib.Core.Path.{_≡_, refl, sym, _∙_}
+use borrow.Author.Needs.{needs}
+use Rattle.sheet.specs.declared.Check.the-variants.{Pass}
+use Rattle.sheet.proofs.Accepted.{Bytes}
+use Rattle.inventory.specs.Report.{reportLength, written, ReportPromise}
+use Rattle.inventory.proofs.CallConditions.{report-accepted, report-sheet}
+use Rattle.inventory.proofs.ReportPromise.{answered-promise, report-written}
+use Rattle.inventory.proofs.report.Statement.{statement}
+use Rattle.inventory.proofs.report.Tie as tie
+
+-- what is promised wherever the checks have passed
+promise : (c : tie.After-report-check) → let x = c .before .before .before .args in c .report-check .result ≡ Pass → ReportPromise (x .s .now)
+promise c e =
+    let known = c .before .before in
+    let bytes : Bytes (known .before .args .s .now) = record { byte = λ k. known .shared-slice-known .given k .fits } in
+    answered-promise _ _ bytes (sym (c .report-check .ensures) ∙ e)
+
+returns : tie.Need-returns
+unfolding written
+returns c = let check = c .before .before in (check .report-check .ensures, rw (c .enum-told .given .1) refl, promise check)
+
+write-report-requires : tie.Need-write-report-requires
+unfolding reportLength
+write-report-requires c κs =
+    let check = c .before .before .before in
+    let passes = sym (check .report-check .ensures) ∙ c .before .enum-told2 .given .1 in
+    (report-sheet _ _ passes, report-accepted _ _ passes .1)
+
+returns-2 : tie.Need-returns-2
+returns-2 c =
+    let check = c .before .before .before .before .before .before in
+    (check .report-check .ensures, rw (c .before .before .before .before .enum-told2 .given .1) (c .before .before .write-report .ensures ∙ report-written _ _), promise check)
+
+pub report-spec : {M : Type 1} → statement M
+report-spec =
+    tie.close
+    (tie.spec
+    (λ c κs. search needs)
+    (λ c. search needs)
+    returns
+    (λ c. search needs)
+    write-report-requires
+    (λ c. search needs)
+    returns-2)
