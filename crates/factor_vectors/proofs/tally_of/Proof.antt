@@ -1,0 +1,35 @@
+-- `factor_vectors::tally_of` is safe and ends. The loop's invariant: the next head lies within the input, and no more sheets and calls are counted than bytes were passed. The measure is what is left of the input.
+use Prim.Native.Nat.{_≤_, _-_}
+use borrow.Author.Needs.{needs}
+use lib.ListN.{length}
+use Rattle.factor_vectors.proofs.tally_of.Statement.{statement}
+use Rattle.factor_vectors.proofs.tally_of.Tie as tie
+
+abbrev Inv-loop : tie.InvT-loop
+Inv-loop s kind tally₀ sheet₀ at₀ tally sheet at = (at ≤ length s) × (sheet ≤ at) × (tally .calls ≤ at) × (tally .right ≤ at)
+
+abbrev μ-loop : tie.MeasureT-loop
+μ-loop s kind tally₀ sheet₀ at₀ tally sheet at = length s - at
+
+pub tally-of-spec : {M : Type 1} → statement M
+tally-of-spec =
+    tie.close
+    (tie.spec
+    Inv-loop
+    μ-loop
+    (λ c κs. search needs)
+    (λ c. search needs)
+    (λ c. search needs)
+    (λ c κs. search needs)
+    (λ c. search needs)
+    (λ c. search needs)
+    (λ c. search needs)
+    (λ c. search needs)
+    (λ c. search needs)
+    (λ c. search needs)
+    (λ c. search needs)
+    (λ c. search needs)
+    (λ c κs. search needs)
+    (λ c. search needs)
+    (λ c. search needs)
+    (λ c. search needs))

@@ -1,0 +1,85 @@
+/* The two calls of the evaporation workbook for a program in C: the report of a sheet, and one emission factor.
+ *
+ * They stand in the static library target/staticlib/libinventory.a, which `rt staticlib inventory` makes from the proved
+ * crate (x86-64 Linux); it needs only the C library. c/example.c is a program over them.
+ *
+ * A sheet and a report are passed as a pointer and a number of elements. A pointer is never null, also where the number is 0,
+ * and points to that many elements; those of the sheet are not written, and sheet and words do not overlap. Neither call keeps
+ * a pointer, takes memory, reads or writes a file or holds state: two threads may call at once with words of their own.
+ */
+#ifndef EVAPORATION_H
+#define EVAPORATION_H
+
+#include <stddef.h>
+#include <stdint.h>
+
+#ifdef __cplusplus
+extern "C" {
+#endif
+
+/* The longest sheet, of 12 seasons and 32 rows, in bytes; and its report, in words. */
+#define EVP_SHEET_BYTES 968
+#define EVP_REPORT_WORDS 218
+
+/* The words of the report of a sheet with this many rows. */
+#define EVP_WORDS_OF(rows) (6 * (size_t)(rows) + 26)
+
+/* Why a call answers nothing else. 0 stands for a sheet that is accepted. The first that applies is returned, in this order,
+ * with its place: a byte of the head, the first byte of a list, or the first byte of the season or row at fault. */
+enum evp_number {
+    EVP_ACCEPTED = 0,
+    EVP_HEAD_SHORT = 1,      /* the input has fewer than 8 bytes; place 0 */
+    EVP_MARK = 2,            /* it does not start with the letters EVP; place 0 */
+    EVP_VERSION = 3,         /* the version is not 1; place 3 */
+    EVP_SEASONS = 4,         /* the number of seasons is not 1 to 12; place 5 */
+    EVP_ROWS = 5,            /* the number of rows is not 1 to 32; place 6 */
+    EVP_HEAD_ZERO = 6,       /* the last byte of the head is not zero; place 7 */
+    EVP_LENGTH = 7,          /* the length is not 104 + 8 * seasons + 24 * rows; place 0 */
+    EVP_DURATIONS = 8,       /* the 24 counts of durations do not sum to 1 to 1,000; place 8 */
+    EVP_HOURS = 9,           /* the 24 counts of end hours do not sum to 1 to 1,000; place 56 */
+    EVP_DAYS = 10,           /* the days of a season, or of all seasons up to it, are not 1 to 366 */
+    EVP_TEMPERATURES = 11,   /* a temperature is not -30.0 to 50.0 degrees C, or the lowest is above the highest */
+    EVP_VAPOUR_PRESSURE = 12,/* the vapour pressure is not 30.0 to 110.0 kPa */
+    EVP_CLASS = 13,          /* the table has no such pair of class and technology */
+    EVP_CANISTER = 14,       /* the canister code is none of 0, 1, 2, 3 and 255 */
+    EVP_PERCENT = 15,        /* a share or the fill level is above 100 percent */
+    EVP_VEHICLES = 16,       /* there are more than 10,000,000 vehicles */
+    EVP_TANK = 17,           /* the tank is above 150.0 litres */
+    EVP_TRIPS = 18,          /* more than 20.00 trips a day, or more than 1,440 minutes a trip */
+    EVP_LOAD = 19,           /* the load is above the saturating load, or one is given without a canister */
+    EVP_EXPONENT = 20,       /* the saturating load is too large for the canister: its exponent is above 3 in some season */
+    EVP_ROW_ZEROS = 21,      /* the last four bytes of a row are not zero */
+    EVP_ROOM = 22,           /* the report call: fewer words than the report has; place 0 */
+    EVP_ABSENT = 23          /* the factor call: the sheet has no such season or row, or the factor is not 1 to 7; place 0 */
+};
+
+/* The answer of the report call. */
+struct evp_check {
+    uint64_t number; /* of enum evp_number */
+    uint64_t place;  /* the byte of the sheet where it stops; 0 where it is accepted */
+};
+
+/* The answer of the factor call. */
+struct evp_factor_band {
+    uint64_t number; /* of enum evp_number */
+    uint64_t place;  /* as above */
+    uint64_t low;    /* micrograms, at most the exact factor; 0 where the sheet is refused */
+    uint64_t high;   /* micrograms, at least the exact factor, at most low + 1,000; 0 where the sheet is refused */
+};
+
+/* The report: masses of the year in milligrams, each a low and a high with the exact mass between them.
+ *
+ * Accepted: the first EVP_WORDS_OF(rows) words are written, those beyond keep what they had. In this order: for each row six words,
+ * diurnal low and high, soak low and high, running low and high; six words likewise for cars, for light-duty vehicles, for
+ * two-wheelers and for all rows; low and high of the grand total. Refused: all words keep what they had. */
+struct evp_check evp_report(const uint8_t *sheet, size_t sheet_bytes, uint64_t *words, size_t words_count);
+
+/* One factor of a season and a row, both counted from 0. 1 is diurnal (a day); hot soak (a parking): 2 injection, 3 carburettor
+ * warm, 4 carburettor hot; running (a trip): 5 injection, 6 carburettor warm, 7 carburettor hot. */
+struct evp_factor_band evp_factor(const uint8_t *sheet, size_t sheet_bytes, uint64_t season, uint64_t row, uint64_t factor);
+
+#ifdef __cplusplus
+}
+#endif
+
+#endif

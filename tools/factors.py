@@ -1,0 +1,279 @@
+#!/usr/bin/env python3
+"""Writes crates/factor_vectors/stdin: sheets with calls of single factors and
+the exact factor of each, calculated by evaporation.py at n = 40 and n = 60,
+for the program to hold the factor call of the crate `inventory` against.
+
+  python3 tools/factors.py            writes the file
+  python3 tools/factors.py --check    says whether the file is up to date
+  python3 tools/factors.py --list     prints a line for each call
+
+The file says in four bytes how many calls there are. Each sheet follows its
+length and the number of its calls, two bytes each; then come its calls, of
+seven numbers with eight bytes each: season, row, factor; the number and the
+place at which the call is refused, 0 and 0 where it is accepted; and the whole
+nanograms below and above the exact factor, for both n together. A factor that
+is a whole number of nanograms, as 0, has the same twice. Every number has its
+lowest byte first.
+"""
+
+import math
+import sys
+from collections import Counter, namedtuple
+from fractions import Fraction
+from itertools import product
+from pathlib import Path
+
+import evaporation
+import sheets
+from sheets import BY_CLASS, EMPTY, PAIRS, ROW, SEASON, Chance, Plan, chance_plan, most
+
+TOP = Path(__file__).resolve().parent.parent
+TARGET = TOP / "crates" / "factor_vectors" / "stdin"
+ROOM = 65536  # what the program can read
+TERMS = (40, 60)
+NANOGRAMS = 10 ** 9
+
+# How far a value must lie from a whole number that it is not, so that
+# evaporation.py's decimals (good to 10^-84 g) leave its whole part in no doubt.
+CLEAR = Fraction(1, 10 ** 40)
+
+LEAST_FACTORS = 260
+LEAST_OF_A_FACTOR = 30
+ALL = range(1, 8)
+
+# A sheet and the calls on it, each (season, row, factor).
+Group = namedtuple("Group", "words data calls")
+
+# ------------------------------------------------------------------ parkings
+
+
+def one_cell(half_hours, hour):
+    """The two lists of counts of a single parking."""
+    return (
+        tuple(int(d == half_hours) for d in range(1, 25)),
+        tuple(int(t == hour) for t in range(1, 25)),
+    )
+
+
+def few_cells(*cells):
+    """Parkings of few lengths and end hours, weighed unlike."""
+    durations, hours = [0] * 24, [0] * 24
+    for i, (half_hours, hour) in enumerate(cells):
+        durations[half_hours - 1] += 3 + i
+        hours[hour - 1] += 7 - i
+    return tuple(durations), tuple(hours)
+
+
+FEW = few_cells((1, 3), (9, 8), (24, 14), (2, 19), (17, 24))
+
+# A car without canister.
+PLAIN = {**ROW, "class": 1, "technology": 0, **EMPTY}
+
+
+def single_groups():
+    """Single parkings, round midnight most of them: each factor of a car
+    without canister and of one with, on a day that crosses 0 C."""
+    season = {**SEASON, "lowest": -42, "highest": 63, "vp": 905}
+    rows = (PLAIN, {**ROW, "class": 9, "technology": 0, "load": 250, "fill": 12})
+    for cell in ((1, 1), (2, 1), (3, 1), (24, 1), (1, 24), (24, 24), (24, 12), (24, 14)):
+        plan = Plan((season,), rows, *one_cell(*cell))
+        calls = [*product((0,), (0,), ALL), (0, 1, 1), (0, 1, 3)]
+        yield Group("parking of %d half-hours to hour %d" % cell, plan.data(), calls)
+
+
+# --------------------------------------------------------------- the limits
+
+WEATHER = tuple(
+    {"days": 30, "lowest": lowest, "highest": highest, "vp": vp}
+    for (lowest, highest), vp in product(
+        ((-300, -300), (500, 500), (-300, 500), (0, 0), (-1, 1), (-55, 60)), (300, 1100))
+)
+
+ROW_LIMITS = (
+    {**PLAIN, "fill": 0}, {**PLAIN, "fill": 100}, {**PLAIN, "tank": 1}, {**PLAIN, "tank": 1500},
+    {**PLAIN, "tank": 1500, "fill": 0, "minutes": 1440}, {**PLAIN, "minutes": 0}, {**PLAIN, "minutes": 1440},
+    {**PLAIN, "class": 5, "fill": 0}, {**PLAIN, "class": 5, "fill": 100}, {**PLAIN, "class": 6, "tank": 1500},
+    {**PLAIN, "class": 7, "tank": 1}, {**PLAIN, "class": 8, "fill": 99},
+)
+
+
+def limit_group():
+    """Every limit of a season with every limit of a row, factor by factor in
+    turn."""
+    calls = [(i, j, 1 + (i + j) % 7) for i in range(len(WEATHER)) for j in range(len(ROW_LIMITS))]
+    return Group("limits of every field", Plan(WEATHER, ROW_LIMITS, *FEW).data(), calls)
+
+
+def loads(canister, season):
+    """A canister empty, loaded and full, one that holds nothing, and the
+    largest that check 20 lets pass."""
+    top = most(canister, season)
+    for load, saturation in ((0, 0), (0, top), (top // 2, top), (top, top), (min(300, top), min(450, top))):
+        yield {**ROW, "canister": canister, "tank": 1500, "fill": 0, "load": load, "saturation": saturation}
+
+
+def load_groups():
+    """Each canister at each of its loads, in cold and heat; a season for each
+    sheet, since the largest load depends on it."""
+    for season in WEATHER[4:6] + WEATHER[10:] + (WEATHER[1], WEATHER[2]):
+        rows = tuple(row for canister in (1, 2, 3) for row in loads(canister, season))
+        calls = [(0, j, (1, 3, 4)[j % 3]) for j in range(len(rows))]
+        yield Group("loads, %s" % sheets.said(season), Plan((season,), rows, *FEW).data(), calls)
+
+
+def pair_groups():
+    """Every class and technology, canister and tank by class, and each
+    canister written for each class."""
+    season = {**SEASON, "lowest": 118, "highest": 274, "vp": 640}
+    rows = [{**ROW, "class": c, "technology": t, **EMPTY} for c, t in PAIRS]
+    for c, canister in product(range(1, 10), range(4)):
+        row = {**ROW, "class": c, "technology": 0, "canister": canister, "fill": 20}
+        rows.append(row if canister else {**row, **EMPTY})
+    for start in range(0, len(rows), 32):
+        part = tuple(rows[start:start + 32])
+        calls = [(0, j, 1 + (start + j) % 7) for j in range(len(part))]
+        yield Group("classes and canisters", Plan((season,), part, *FEW).data(), calls)
+
+
+# --------------------------------------------------- samples and by chance
+
+
+def sample_groups():
+    """Tables 3-12 and 3-13 as parkings: Table 3-5, and the region."""
+    data = (TOP / "samples" / "table-3-5.evp").read_bytes()
+    yield Group("Table 3-5", data, [*product(range(4), (0,), ALL)])
+    data = (TOP / "samples" / "region.evp").read_bytes()
+    yield Group("region", data, [(j % 4, j, 1 + j % 7) for j in range(data[6])])
+
+
+def chance_groups():
+    """Values and parkings all over their ranges."""
+    chance = Chance("factor calls")
+    for seasons, rows in ((4, 4), (12, 32)):
+        data = chance_plan(seasons, rows).data()
+        calls = [(chance.below(seasons), j % rows, 1 + chance.below(7)) for j in range(16)]
+        yield Group("values by chance", data, sorted(set(calls)))
+
+
+# ------------------------------------------------------------------ refused
+
+LARGEST = 2 ** 64 - 1
+
+
+def absent_group():
+    """A season, a row or a factor that is not there, number 23."""
+    plan = sheets.BASE
+    seasons, rows = len(plan.seasons), len(plan.rows)
+    calls = [
+        (seasons, 0, 1), (0, rows, 1), (0, 0, 0), (0, 0, 8), (seasons, rows, 8), (seasons - 1, rows, 7),
+        (LARGEST, 0, 1), (0, LARGEST, 1), (0, 0, LARGEST), (256, 0, 1), (0, 256, 1), (0, 0, 257), (2 ** 32, 0, 1),
+        (0, 2 ** 32, 1), (0, 0, 2 ** 32 + 1),
+    ]
+    return Group("absent", plan.data(), calls)
+
+
+def refused_groups():
+    """A sheet for each number, which is returned whether the call's season,
+    row and factor are there or not."""
+    found = {}
+    for case in sheets.all_cases():
+        found.setdefault(case.answer[0], case)
+    for number in range(1, sheets.LAST_NUMBER + 1):
+        yield Group(found[number].words, found[number].data, [(0, 0, 1), (LARGEST, LARGEST, 0)])
+
+
+# ------------------------------------------------------------------ the file
+
+Call = namedtuple("Call", "season row factor number place below above")
+
+
+def whole(value):
+    """The whole numbers below and above a value, one where it is whole."""
+    below, above = math.floor(value), math.ceil(value)
+    if below != above and not below + CLEAR < value < above - CLEAR:
+        sys.exit("factors: a value too near to a whole number")
+    return below, above
+
+
+def answered(data, call):
+    refusal = evaporation.check(data, call=call)
+    if refusal is not None:
+        return Call(*call, *refusal, 0, 0)
+    read = evaporation.read(data)
+    ends = [whole(evaporation.factor(read, *call, n) * NANOGRAMS) for n in TERMS]
+    return Call(*call, 0, 0, min(below for below, _ in ends), max(above for _, above in ends))
+
+
+def groups():
+    yield from sample_groups()
+    yield from single_groups()
+    yield limit_group()
+    yield from load_groups()
+    yield from pair_groups()
+    yield from chance_groups()
+    yield absent_group()
+    yield from refused_groups()
+
+
+def all_groups():
+    return [group._replace(calls=[answered(group.data, call) for call in group.calls]) for group in groups()]
+
+
+def missing(found):
+    """What the calls as a whole should show and do not."""
+    calls = [(group, call) for group in found for call in group.calls]
+    accepted = [(evaporation.read(group.data), call) for group, call in calls if not call.number]
+    rows = [sheet.rows[call.row] for sheet, call in accepted]
+    factors = Counter(call.factor for _, call in accepted)
+    if len(accepted) < LEAST_FACTORS:
+        yield "%d factors" % len(accepted)
+    for k in ALL:
+        if factors[k] < LEAST_OF_A_FACTOR:
+            yield "factor %d: %d calls" % (k, factors[k])
+    if {(row.vehicle_class, row.technology) for row in rows} < set(PAIRS):
+        yield "not every class and technology"
+    if {(row.vehicle_class, evaporation.canister_of(row)) for row in rows} != set(product(range(1, 10), range(4))):
+        yield "not every class with every canister"
+    if {row.canister for row in rows} != {0, 1, 2, 3, BY_CLASS}:
+        yield "not every canister code"
+    if {call.number for _, call in calls} != {0, 23, *range(1, sheets.LAST_NUMBER + 1)}:
+        yield "not every number"
+
+
+def encoded(group):
+    numbers = b"".join(number.to_bytes(8, "little") for call in group.calls for number in call)
+    return len(group.data).to_bytes(2, "little") + len(group.calls).to_bytes(2, "little") + group.data + numbers
+
+
+def made(found):
+    """The bytes of the file."""
+    count = sum(len(group.calls) for group in found)
+    return count.to_bytes(4, "little") + b"".join(encoded(group) for group in found)
+
+
+def listed(found):
+    for sheet, group in enumerate(found, 1):
+        for position, call in enumerate(group.calls, 1):
+            answer = "refused %d at %d" % (call.number, call.place) if call.number else "%d ng" % call.below
+            print("sheet %d call %d: season %d row %d factor %d  %s  %s" % (
+                sheet, position, *call[:3], answer, group.words))
+
+
+def main():
+    if sys.argv[1:] not in ([], ["--check"], ["--list"]):
+        sys.exit(__doc__)
+    found = all_groups()
+    data = made(found)
+    faults = [*missing(found), *(["more than %d bytes" % ROOM] if len(data) > ROOM else [])]
+    if faults:
+        sys.exit("factors: " + "; ".join(faults))
+    if sys.argv[1:] == ["--list"]:
+        listed(found)
+    elif not sys.argv[1:]:
+        TARGET.write_bytes(data)
+    elif not TARGET.exists() or TARGET.read_bytes() != data:
+        sys.exit("crates/factor_vectors/stdin is not what tools/factors.py writes")
+
+
+if __name__ == "__main__":
+    main()

@@ -1,0 +1,227 @@
+#!/usr/bin/env python3
+"""Writes crates/report_vectors/stdin: sheets with the exact masses of their
+rows, calculated by evaporation.py, and sheets and buffers that are refused,
+for the program to hold the report of the crate `inventory` against.
+
+  python3 tools/reports.py            writes the file
+  python3 tools/reports.py --check    says whether the file is up to date
+  python3 tools/reports.py --list     prints a line for each sheet
+
+The file says in four bytes how many sheets there are. Each sheet follows five
+numbers of two bytes: its length, how many rows are given behind it (none where
+it is refused), the words of the buffer, and the number and place of a refusal,
+0 and 0 where it is accepted. A row is nine numbers of eight bytes: the
+category (1 cars, 2 light-duty, 3 two-wheelers), vehicles times days, vehicles
+times days times trips cut to a whole number, and for diurnal, soak and running
+the whole milligrams below and above the exact mass, at n = 40 and for most
+sheets at n = 60 too. Every number has its lowest byte first.
+"""
+
+import sys
+from collections import namedtuple
+from dataclasses import replace
+from pathlib import Path
+
+import evaporation
+import sheets
+from factors import few_cells, one_cell, whole
+from sheets import EMPTY, PAIRS, ROW, SEASON, Chance, Plan, chance_plan
+
+TOP = Path(__file__).resolve().parent.parent
+TARGET = TOP / "crates" / "report_vectors" / "stdin"
+ROOM = 2 ** 18  # what the program can read
+WORDS = 256  # the words of its buffer
+MILLIGRAMS = 1000
+
+LEAST_ACCEPTED = 60
+MOST_AT_60 = 40  # seasons times rows up to which n = 60 is calculated too
+
+# A sheet and the words of the buffer.
+Case = namedtuple("Case", "words data room")
+
+# ------------------------------------------------------------------- accepted
+
+
+def length(data):
+    """The words of a sheet's report."""
+    return 6 * data[6] + 26
+
+
+def exactly(words, plan):
+    """A buffer without a word more than the report."""
+    data = plan.data()
+    return Case(words, data, length(data))
+
+
+def roomy(words, plan):
+    return Case(words, plan.data(), WORDS)
+
+
+def sample_cases():
+    for name in ("example", "table-3-5", "table-3-5-day", "region"):
+        data = (TOP / "samples" / (name + ".evp")).read_bytes()
+        yield Case(name, data, length(data))
+
+
+def thinned(chance, plan):
+    """The same with few parkings."""
+    cells = [(chance.between(1, 24), chance.between(1, 24)) for _ in range(3)]
+    return replace(plan, **dict(zip(("durations", "hours"), few_cells(*cells))))
+
+
+def whole_year(plan):
+    """The last season takes the days that are left of 366."""
+    days = sum(season["days"] for season in plan.seasons[:-1])
+    return plan.changed("seasons", len(plan.seasons) - 1, {"days": 366 - days})
+
+
+def chance_cases():
+    """Values all over their ranges, of many sizes: every second with 366 days
+    in all, and in turn a row without vehicles, one without trips, and one with
+    all the vehicles and trips that there can be."""
+    chance = Chance("reports")
+    edges = ({"vehicles": 0}, {"trips": 0}, {"vehicles": 10_000_000, "trips": 2000}, {"vehicles": 1, "trips": 1})
+    sizes = [(1 + i % 12, 1 + (i * 5) % 7) for i in range(48)] + [(12, 32), (3, 32), (1, 32), (12, 1)]
+    for i, (seasons, rows) in enumerate(dict.fromkeys(sizes)):
+        plan = thinned(chance, chance_plan(seasons, rows)).changed("rows", i % rows, edges[i % len(edges)])
+        yield (exactly, roomy)[i % 2]("values by chance, %s" % sheets.sized(plan), whole_year(plan) if i % 2 else plan)
+
+
+def full_cases():
+    """No parking is without weight."""
+    for size in ((1, 1), (2, 3), (4, 4)):
+        yield exactly("all parkings, %d seasons and %d rows" % size, whole_year(chance_plan(*size)))
+
+
+def category_cases():
+    """Rows of one category alone, and each class once."""
+    season = {**SEASON, "days": 366, "lowest": -31, "highest": 187}
+    for classes in ((1, 2, 3), (4,), (5, 6, 7, 8, 9), range(1, 10), (9, 4, 1), (3, 4), (4, 5)):
+        rows = tuple({**ROW, "class": c, "technology": 0, "vehicles": 10 ** c, **EMPTY} for c in classes if c < 8)
+        rows += tuple({**ROW, "class": c, "technology": 0, **EMPTY} for c in classes if c >= 8)
+        yield exactly("classes %s" % " ".join(map(str, classes)), Plan((season,), rows, *one_cell(24, 3)))
+
+
+def limit_cases():
+    """The largest masses, and rows of which none has vehicles."""
+    hot = {"days": 366, "lowest": -300, "highest": 500, "vp": 1100}
+    largest = {
+        **ROW, "technology": 0, **EMPTY, "carburettor": 100, "hot": 100, "fill": 0, "tank": 1500,
+        "vehicles": 10_000_000, "trips": 2000, "minutes": 1440,
+    }
+    rows = tuple({**largest, "class": 1 + i % 8} for i in range(32))
+    yield exactly("32 rows of the largest masses", Plan((hot,), rows, *one_cell(24, 14)))
+    yield exactly("the largest masses in 12 seasons", Plan(({**hot, "days": 30},) * 12, rows[:2], *one_cell(24, 14)))
+    none = tuple({**ROW, "class": c, "technology": t, **EMPTY, "vehicles": 0} for c, t in PAIRS[:32])
+    yield roomy("32 rows without vehicles", Plan((hot,), none))
+    yield roomy("trips of no minutes", Plan((hot,), ({**largest, "minutes": 0, "carburettor": 0},), *one_cell(1, 24)))
+
+
+# -------------------------------------------------------------------- refused
+
+
+def short_cases():
+    """Buffers of no word, one word and a word too few, number 22."""
+    for plan in (sheets.SMALLEST, sheets.BASE, sheets.LARGEST):
+        data = plan.data()
+        for room in (0, 1, 6 * data[6], length(data) - 1):
+            yield Case("room for %d words, %s" % (room, sheets.sized(plan)), data, room)
+
+
+def refused_cases():
+    """A sheet for each number, with room for any report and with none."""
+    found = {}
+    for case in sheets.all_cases():
+        found.setdefault(case.answer[0], case)
+    for number in range(1, sheets.LAST_NUMBER + 1):
+        for room in (WORDS, 0):
+            yield Case(found[number].words, found[number].data, room)
+
+
+# ------------------------------------------------------------------- the file
+
+Vector = namedtuple("Vector", "case answer rows")
+
+
+def category(row):
+    return 1 if row.vehicle_class <= 3 else 2 if row.vehicle_class == 4 else 3
+
+
+def row_numbers(sheet, i, terms):
+    row = sheet.rows[i]
+    many = row.vehicles * sum(season.days for season in sheet.seasons)
+    numbers = [category(row), many, many * row.trips // 100]
+    for values in zip(*(evaporation.masses(sheet, i, n) for n in terms)):
+        ends = [whole(value * MILLIGRAMS) for value in values]
+        numbers += [min(below for below, _ in ends), max(above for _, above in ends)]
+    return numbers
+
+
+def vector(case):
+    refusal = evaporation.check(case.data, words=case.room)
+    if refusal is not None:
+        return Vector(case, refusal, [])
+    sheet = evaporation.read(case.data)
+    terms = (40, 60) if len(sheet.seasons) * len(sheet.rows) <= MOST_AT_60 else (40,)
+    return Vector(case, (0, 0), [row_numbers(sheet, i, terms) for i in range(len(sheet.rows))])
+
+
+def all_vectors():
+    groups = (sample_cases, chance_cases, full_cases, category_cases, limit_cases, short_cases, refused_cases)
+    return [vector(case) for group in groups for case in group()]
+
+
+def missing(vectors):
+    """What the sheets as a whole should show and do not."""
+    accepted = [evaporation.read(v.case.data) for v in vectors if v.rows]
+    if len(accepted) < LEAST_ACCEPTED:
+        yield "%d accepted sheets" % len(accepted)
+    if {v.answer[0] for v in vectors} != {*range(sheets.LAST_NUMBER + 2)}:
+        yield "not every number"
+    for words, found, wanted in (
+        ("rows", {len(sheet.rows) for sheet in accepted}, {1, 32}),
+        ("seasons", {len(sheet.seasons) for sheet in accepted}, {1, 12}),
+        ("vehicles", {row.vehicles for sheet in accepted for row in sheet.rows}, {0, 1, 10_000_000}),
+        ("trips", {row.trips for sheet in accepted for row in sheet.rows if row.vehicles}, {0, 2000}),
+        ("days", {sum(season.days for season in sheet.seasons) for sheet in accepted}, {366}),
+        ("classes", {row.vehicle_class for sheet in accepted for row in sheet.rows}, set(range(1, 10))),
+    ):
+        if not wanted <= found:
+            yield "not all %s" % words
+
+
+def encoded(v):
+    head = (len(v.case.data), len(v.rows), v.case.room, *v.answer)
+    numbers = b"".join(number.to_bytes(8, "little") for row in v.rows for number in row)
+    return b"".join(number.to_bytes(2, "little") for number in head) + v.case.data + numbers
+
+
+def made(vectors):
+    """The bytes of the file."""
+    return len(vectors).to_bytes(4, "little") + b"".join(encoded(v) for v in vectors)
+
+
+def listed(vectors):
+    for position, v in enumerate(vectors, 1):
+        answer = "refused %d at %d" % v.answer if v.answer[0] else "accepted"
+        print("%4d  %-17s  %s" % (position, answer, v.case.words))
+
+
+def main():
+    if sys.argv[1:] not in ([], ["--check"], ["--list"]):
+        sys.exit(__doc__)
+    vectors = all_vectors()
+    data = made(vectors)
+    faults = [*missing(vectors), *(["more than %d bytes" % ROOM] if len(data) > ROOM else [])]
+    if faults:
+        sys.exit("reports: " + "; ".join(faults))
+    if sys.argv[1:] == ["--list"]:
+        listed(vectors)
+    elif not sys.argv[1:]:
+        TARGET.write_bytes(data)
+    elif not TARGET.exists() or TARGET.read_bytes() != data:
+        sys.exit("crates/report_vectors/stdin is not what tools/reports.py writes")
+
+
+if __name__ == "__main__":
+    main()
