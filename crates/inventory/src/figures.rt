@@ -14,8 +14,9 @@ fn trip_figure(row: Row, hot: u64, warm: u64, injection: u64) -> u64
     requires { ⌜ UseInRange row × (hot ≤ tripLimit) × (warm ≤ tripLimit) × (injection ≤ tripLimit) ⌝ }
     ensures { λ r. ⌜ r ≡ tripFigure row hot warm injection ⌝ }
 {
+    let trips = row.trips;
     let carburettor = row.carburettor * (row.hot * hot + (100 - row.hot) * warm);
-    row.trips * (carburettor + (100 - row.carburettor) * 100 * injection)
+    trips * (carburettor + (100 - row.carburettor) * 100 * injection)
 }
 
 // Diurnal, soak and running, from the seven factors.

@@ -19,5 +19,5 @@ trip-figure-spec =
     (λ c. search needs)
     (λ c. let p = c .before .before .before .before .pre in record { fits = omega (arith, blend-fits (p .0) (p .1) (p .2) (p .3)) })
     (λ c. let p = c .before .before .before .before .pre in record { fits = omega (arith, blend-fits (p .0) (p .1) (p .2) (p .3)) })
-    (λ c. let p = c .before .before .before .before .before .pre in record { fits = omega (arith, trips-fit (p .0) (p .1) (p .2) (p .3)) })
+    (λ c. let p = c .before .before .before .before .pre in record { fits = omega (arith, trips-fit (p .0) (p .1) (p .2) (p .3)) })
     (λ c. search needs))
