@@ -5,10 +5,10 @@ use Rattle.inventory.proofs.figures.three_figures.Statement.{statement}
 use Rattle.inventory.proofs.figures.three_figures.Tie as tie
 
 trip-figure-requires : tie.Need-trip-figure-requires
-trip-figure-requires c κs = let p = c .pre in (p .1, p .0 .trip-most 2, p .0 .trip-most 1, p .0 .trip-most 0)
+trip-figure-requires c κs = let p = c .pre in (p .1, p .0 .trip-most _, p .0 .trip-most _, p .0 .trip-most _)
 
 trip-figure-requires-2 : tie.Need-trip-figure-requires-2
-trip-figure-requires-2 c κs = let p = c .before .pre in (p .1, p .0 .trip-most 5, p .0 .trip-most 4, p .0 .trip-most 3)
+trip-figure-requires-2 c κs = let p = c .before .pre in (p .1, p .0 .trip-most _, p .0 .trip-most _, p .0 .trip-most _)
 
 pub three-figures-spec : {M : Type 1} → statement M
 three-figures-spec =
