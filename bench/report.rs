@@ -1,0 +1,247 @@
+//! The time of one report of a full sheet (12 seasons, 32 rows with canister and without in turn, no empty cell): the proved call from
+//! its static library, and a plain program of the same formulas in f64. The masses of both are compared first.
+use std::hint::black_box;
+
+#[repr(C)]
+struct Check {
+    number: u64,
+    place: u64,
+}
+
+#[link(name = "inventory", kind = "static")]
+extern "C" {
+    fn evp_report(sheet: *const u8, bytes: usize, words: *mut u64, count: usize) -> Check;
+}
+
+// The time that this thread had a processor for, so that other work on the machine does not count.
+const CLOCK_THREAD_CPUTIME_ID: i32 = 3;
+
+#[repr(C)]
+struct Timespec {
+    seconds: i64,
+    nanoseconds: i64,
+}
+
+extern "C" {
+    fn clock_gettime(clock: i32, time: *mut Timespec) -> i32;
+}
+
+fn processor_time() -> f64 {
+    let mut time = Timespec { seconds: 0, nanoseconds: 0 };
+    // The call fails for an unknown clock only.
+    unsafe { clock_gettime(CLOCK_THREAD_CPUTIME_ID, &mut time) };
+    time.seconds as f64 * 1e9 + time.nanoseconds as f64
+}
+
+const SEASONS: usize = 12;
+const ROWS: usize = 32;
+const ROUNDS: usize = 10;
+const CALLS: usize = 20;
+
+struct Season {
+    days: f64,
+    lowest: f64,
+    highest: f64,
+    vp: f64,
+}
+
+struct Row {
+    class: u8,
+    // s, and 0 without canister
+    size: f64,
+    carburettor: f64,
+    hot: f64,
+    fill: f64,
+    tank: f64,
+    vehicles: f64,
+    trips: f64,
+    hours: f64,
+    load: f64,
+    saturation: f64,
+}
+
+fn u16_bytes(out: &mut Vec<u8>, x: i32) {
+    out.extend_from_slice(&(x as u16).to_le_bytes());
+}
+
+// the sheet's bytes, and the same values in units
+fn full_sheet() -> (Vec<u8>, Vec<f64>, Vec<Season>, Vec<Row>) {
+    let mut bytes = b"EVP\x01\x00".to_vec();
+    bytes.extend_from_slice(&[SEASONS as u8, ROWS as u8, 0]);
+    let durations: Vec<i32> = (0..24).map(|i| 30 + i % 7).collect();
+    let hours: Vec<i32> = (0..24).map(|i| 25 + i % 11).collect();
+    durations.iter().chain(&hours).for_each(|&c| u16_bytes(&mut bytes, c));
+    let sum = (durations.iter().sum::<i32>() * hours.iter().sum::<i32>()) as f64;
+    let cells = (0..576).map(|c| (durations[c % 24] * hours[c / 24]) as f64 / sum).collect();
+    let mut seasons = Vec::new();
+    for j in 0..SEASONS as i32 {
+        let (days, lowest, highest, vp) = (30, -50 + 20 * j, 90 + 22 * j, 600 + 15 * j);
+        [days, lowest, highest, vp].iter().for_each(|&x| u16_bytes(&mut bytes, x));
+        seasons.push(Season { days: days as f64, lowest: lowest as f64 / 10.0, highest: highest as f64 / 10.0, vp: vp as f64 / 10.0 });
+    }
+    let mut rows = Vec::new();
+    for i in 0..ROWS as i32 {
+        let class = 1 + i % 9;
+        let canister = if i % 2 == 0 { 1 + i / 2 % 3 } else { 0 };
+        let saturation = [0, 500, 1000, 2000][canister as usize];
+        let load = saturation * (i % 5) / 5;
+        let (carburettor, hot, fill, tank, vehicles, trips, minutes) = (40, 30, 35 + i, 400 + 10 * i, 1000 + i, 450, 15);
+        bytes.extend_from_slice(&[class as u8, 0, canister as u8, carburettor as u8, hot as u8, fill as u8]);
+        u16_bytes(&mut bytes, tank);
+        bytes.extend_from_slice(&(vehicles as u32).to_le_bytes());
+        [trips, minutes, load, saturation, 0, 0].iter().for_each(|&x| u16_bytes(&mut bytes, x));
+        rows.push(Row {
+            class: class as u8,
+            size: [0.0, 2.0, 1.0, 0.5][canister as usize],
+            carburettor: carburettor as f64 / 100.0,
+            hot: hot as f64 / 100.0,
+            fill: fill as f64 / 100.0,
+            tank: tank as f64 / 10.0,
+            vehicles: vehicles as f64,
+            trips: trips as f64 / 100.0,
+            hours: minutes as f64 / 60.0,
+            load: load as f64 / 10.0,
+            saturation: saturation as f64 / 10.0,
+        });
+    }
+    (bytes, cells, seasons, rows)
+}
+
+fn start_mark(hour: usize, d: usize) -> usize {
+    (2 * hour + 48 - d) % 48
+}
+
+fn permeation(vp: f64, t: f64) -> f64 {
+    let power = if t < 0.0 { 0.0 } else { t * t * t.sqrt() };
+    (0.004 * vp).exp() * (6.1656e-6 * power + 0.0206)
+}
+
+// a season at its marks
+struct Marks {
+    t: [f64; 48],
+    heat: [f64; 48],
+    rate: [f64; 48],
+}
+
+fn marks(season: &Season) -> Marks {
+    let t = std::array::from_fn(|i| {
+        let apart = i as f64 / 2.0 - 14.0;
+        season.lowest + (season.highest - season.lowest) * (-0.0247 * apart * apart).exp()
+    });
+    Marks { t, heat: t.map(|t| (0.0716 * t).exp()), rate: t.map(|t| permeation(season.vp, t)) }
+}
+
+// B(m) of the row's canister at temperature t
+fn lost(row: &Row, vp: f64, t: f64, m: f64) -> f64 {
+    let a = -11.0 - 0.015 * vp + 0.065 * t;
+    let b = 0.115 - 0.00015 * vp + 0.0001 * t;
+    (a + b * row.size * m.min(row.saturation)).exp() + (m - row.saturation).max(0.0)
+}
+
+// what escapes of vapour v: what breaks through the canister, where `first` is B at the load, or all of it
+fn escape(row: &Row, vp: f64, t: f64, first: f64, v: f64) -> f64 {
+    if row.size == 0.0 { v } else { lost(row, vp, t, row.load + v) - first }
+}
+
+// the mean of values by start mark (back) or by end mark
+fn mean_by_mark(cells: &[f64], back: bool, value: impl Fn(usize) -> f64) -> f64 {
+    let values: [f64; 48] = std::array::from_fn(value);
+    let mut sum = 0.0;
+    for (c, weight) in cells.iter().enumerate() {
+        sum += weight * values[start_mark(c / 24 + 1, if back { c % 24 + 1 } else { 0 })];
+    }
+    sum
+}
+
+fn factors(cells: &[f64], season: &Season, m: &Marks, row: &Row) -> [f64; 7] {
+    let vp = season.vp;
+    let gain = (1.0 - row.fill) * row.tank * 0.025 * (0.0205 * vp).exp();
+    let first: [f64; 48] = std::array::from_fn(|i| if row.size == 0.0 { 0.0 } else { lost(row, vp, m.t[i], row.load) });
+    let mut diurnal = 0.0;
+    for hour in 1..=24 {
+        let (mut rise, mut seep) = (0.0, 0.0);
+        for d in 1..=24 {
+            let mark = start_mark(hour, d);
+            rise += (m.heat[(mark + 1) % 48] - m.heat[mark]).max(0.0);
+            seep += m.rate[mark];
+            diurnal += cells[24 * (hour - 1) + d - 1] * (escape(row, vp, m.t[mark], first[mark], gain * rise) + seep / 2.0);
+        }
+    }
+    let raised = |mark: usize, by: f64| gain * ((0.0716 * (m.t[mark] + by)).exp() - m.heat[mark]);
+    let escape_over = |back: bool, by: f64| mean_by_mark(cells, back, |i| escape(row, vp, m.t[i], first[i], raised(i, by)));
+    if row.class >= 5 {
+        let (soak, run) = (escape_over(true, 3.5), escape_over(false, 2.5));
+        return [diurnal, escape_over(true, 1.5), soak, soak, escape_over(false, 1.0), run, run];
+    }
+    let soak = mean_by_mark(cells, true, |i| permeation(vp, m.t[i] + 11.0));
+    let run = row.hours * mean_by_mark(cells, false, |i| permeation(vp, m.t[i] + 15.0));
+    let open = |by: f64| if row.size == 0.0 { mean_by_mark(cells, false, |i| raised(i, by)) } else { 0.0 };
+    [diurnal, soak, escape_over(true, 4.5) + soak, escape_over(true, 6.0) + soak, run, run + open(1.0), run + open(5.0)]
+}
+
+// milligrams of each row: diurnal, soak, running
+fn plain_report(cells: &[f64], seasons: &[Season], rows: &[Row]) -> Vec<[f64; 3]> {
+    let at: Vec<Marks> = seasons.iter().map(marks).collect();
+    rows.iter()
+        .map(|row| {
+            let mut mass = [0.0; 3];
+            for (season, m) in seasons.iter().zip(&at) {
+                let f = factors(cells, season, m, row);
+                let blend = |hot: f64, warm: f64, injection: f64| {
+                    row.trips * (row.carburettor * (row.hot * hot + (1.0 - row.hot) * warm) + (1.0 - row.carburettor) * injection)
+                };
+                let many = 1000.0 * season.days * row.vehicles;
+                mass[0] += many * f[0];
+                mass[1] += many * blend(f[3], f[2], f[1]);
+                mass[2] += many * blend(f[6], f[5], f[4]);
+            }
+            mass
+        })
+        .collect()
+}
+
+fn proved_report(sheet: &[u8], words: &mut [u64]) {
+    let check = unsafe { evp_report(sheet.as_ptr(), sheet.len(), words.as_mut_ptr(), words.len()) };
+    assert_eq!((check.number, check.place), (0, 0), "the sheet is refused");
+}
+
+// microseconds of one call
+fn measured(mut call: impl FnMut()) -> f64 {
+    let start = processor_time();
+    for _ in 0..CALLS {
+        call();
+    }
+    (processor_time() - start) / CALLS as f64 / 1e3
+}
+
+fn median(mut times: Vec<f64>) -> f64 {
+    times.sort_by(f64::total_cmp);
+    (times[ROUNDS / 2 - 1] + times[ROUNDS / 2]) / 2.0
+}
+
+fn main() {
+    let (sheet, cells, seasons, rows) = full_sheet();
+    let mut words = [0u64; 6 * ROWS + 26];
+    proved_report(&sheet, &mut words);
+    let plain = plain_report(&cells, &seasons, &rows);
+    for (i, mass) in plain.iter().enumerate() {
+        for k in 0..3 {
+            let (low, high) = (words[6 * i + 2 * k] as f64, words[6 * i + 2 * k + 1] as f64);
+            // the weights of document 01 are rounded to billionths, so the plain masses differ in the ninth digit
+            let slack = 1e-7 * high + 1.0;
+            assert!(low - slack <= mass[k] && mass[k] <= high + slack, "row {} mass {}: {} {} {}", i + 1, k + 1, low, mass[k], high);
+        }
+    }
+    let (mut ours, mut theirs) = (Vec::new(), Vec::new());
+    for _ in 0..ROUNDS {
+        ours.push(measured(|| proved_report(black_box(&sheet), black_box(&mut words))));
+        theirs.push(measured(|| {
+            black_box(plain_report(black_box(&cells), black_box(&seasons), black_box(&rows)));
+        }));
+    }
+    let (ours, theirs) = (median(ours), median(theirs));
+    println!("report of {} bytes, {} seasons, {} rows: median of {} rounds of {} calls", sheet.len(), SEASONS, ROWS, ROUNDS, CALLS);
+    println!("the proved call      {:8.0} us", ours);
+    println!("plain f64 in Rust    {:8.0} us", theirs);
+    println!("ours takes {:.2} times the plain program", ours / theirs);
+}
