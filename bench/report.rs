@@ -143,17 +143,21 @@ fn escape(row: &Row, vp: f64, t: f64, first: f64, v: f64) -> f64 {
     if row.size == 0.0 { v } else { lost(row, vp, t, row.load + v) - first }
 }
 
-// the mean of values by start mark (back) or by end mark
-fn mean_by_mark(cells: &[f64], back: bool, value: impl Fn(usize) -> f64) -> f64 {
-    let values: [f64; 48] = std::array::from_fn(value);
-    let mut sum = 0.0;
+// how much each mark counts, as the start of a parking (back) or as its end
+fn gathered(cells: &[f64], back: bool) -> [f64; 48] {
+    let mut counts = [0.0; 48];
     for (c, weight) in cells.iter().enumerate() {
-        sum += weight * values[start_mark(c / 24 + 1, if back { c % 24 + 1 } else { 0 })];
+        counts[start_mark(c / 24 + 1, if back { c % 24 + 1 } else { 0 })] += weight;
     }
-    sum
+    counts
 }
 
-fn factors(cells: &[f64], season: &Season, m: &Marks, row: &Row) -> [f64; 7] {
+// the mean of values by mark
+fn mean_by_mark(counts: &[f64; 48], value: impl Fn(usize) -> f64) -> f64 {
+    counts.iter().enumerate().map(|(i, count)| count * value(i)).sum()
+}
+
+fn factors(cells: &[f64], starts: &[f64; 48], ends: &[f64; 48], season: &Season, m: &Marks, row: &Row) -> [f64; 7] {
     let vp = season.vp;
     let gain = (1.0 - row.fill) * row.tank * 0.025 * (0.0205 * vp).exp();
     let first: [f64; 48] = std::array::from_fn(|i| if row.size == 0.0 { 0.0 } else { lost(row, vp, m.t[i], row.load) });
@@ -168,25 +172,26 @@ fn factors(cells: &[f64], season: &Season, m: &Marks, row: &Row) -> [f64; 7] {
         }
     }
     let raised = |mark: usize, by: f64| gain * ((0.0716 * (m.t[mark] + by)).exp() - m.heat[mark]);
-    let escape_over = |back: bool, by: f64| mean_by_mark(cells, back, |i| escape(row, vp, m.t[i], first[i], raised(i, by)));
+    let escape_over = |back: bool, by: f64| mean_by_mark(if back { starts } else { ends }, |i| escape(row, vp, m.t[i], first[i], raised(i, by)));
     if row.class >= 5 {
         let (soak, run) = (escape_over(true, 3.5), escape_over(false, 2.5));
         return [diurnal, escape_over(true, 1.5), soak, soak, escape_over(false, 1.0), run, run];
     }
-    let soak = mean_by_mark(cells, true, |i| permeation(vp, m.t[i] + 11.0));
-    let run = row.hours * mean_by_mark(cells, false, |i| permeation(vp, m.t[i] + 15.0));
-    let open = |by: f64| if row.size == 0.0 { mean_by_mark(cells, false, |i| raised(i, by)) } else { 0.0 };
+    let soak = mean_by_mark(starts, |i| permeation(vp, m.t[i] + 11.0));
+    let run = row.hours * mean_by_mark(ends, |i| permeation(vp, m.t[i] + 15.0));
+    let open = |by: f64| if row.size == 0.0 { mean_by_mark(ends, |i| raised(i, by)) } else { 0.0 };
     [diurnal, soak, escape_over(true, 4.5) + soak, escape_over(true, 6.0) + soak, run, run + open(1.0), run + open(5.0)]
 }
 
 // milligrams of each row: diurnal, soak, running
 fn plain_report(cells: &[f64], seasons: &[Season], rows: &[Row]) -> Vec<[f64; 3]> {
     let at: Vec<Marks> = seasons.iter().map(marks).collect();
+    let (starts, ends) = (gathered(cells, true), gathered(cells, false));
     rows.iter()
         .map(|row| {
             let mut mass = [0.0; 3];
             for (season, m) in seasons.iter().zip(&at) {
-                let f = factors(cells, season, m, row);
+                let f = factors(cells, &starts, &ends, season, m, row);
                 let blend = |hot: f64, warm: f64, injection: f64| {
                     row.trips * (row.carburettor * (row.hot * hot + (1.0 - row.hot) * warm) + (1.0 - row.carburettor) * injection)
                 };
