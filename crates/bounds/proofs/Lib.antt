@@ -2,6 +2,7 @@ pub mod Root
 pub mod Parts
 pub mod Within
 pub mod Table
+pub mod Tables
 pub mod Product
 pub mod Tail
 pub mod Sizes

@@ -1,7 +1,7 @@
 -- The computed exponential: which whole number the program's exponential is. Definitions only.
 -- An exponent z is held as the whole number x = (z + 16)·10¹⁴, and the result is in units of 2⁻⁴⁰. With
 -- z = (h − 256)/16 + m/4096 + ρ and ρ below 2⁻¹², E(z) is close to high(h)·middle(m)·(1 + ρ + ρ²/2); every step cuts downwards.
-use mathlib.Core.List.{List, [], _∷_}
+use mathlib.Core.List.{List, [], _∷_, _++_}
 use Prim.Native.Nat.{ℕ, _+_, _*_, _/_, _%_, _^_, _<_}
 use native.Mathlib.Omega.{arith}
 use lib.ListN.{getD}
@@ -91,6 +91,10 @@ middle =
     1163586134427 ∷ 1163870247754 ∷ 1164154430452 ∷ 1164438682540 ∷ 1164723004033 ∷ 1165007394950 ∷ 1165291855306 ∷ 1165576385119 ∷
     1165860984406 ∷ 1166145653184 ∷ 1166430391469 ∷ 1166715199279 ∷ 1167000076630 ∷ 1167285023541 ∷ 1167570040026 ∷ 1167855126105 ∷
     1168140281793 ∷ 1168425507108 ∷ 1168710802066 ∷ 1168996166685 ∷ 1169281600981 ∷ 1169567104972 ∷ 1169852678675 ∷ 1170138322106 ∷ []
+
+-- both, as the program holds them
+unfoldable pub entries : List ℕ
+entries = high ++ middle
 
 -- ρ in 2⁻⁴⁰, for the rest r = ρ·10¹⁴ below 10¹⁴/4096: 2⁴⁰/10¹⁴ is 2²⁶/5¹⁴
 unfoldable pub rest : ℕ → ℕ

@@ -5,13 +5,16 @@ ghost use mathlib.Core.Path.{_≡_};
 ghost use Prim.Native.Nat.{_*_, _^_, _<_, _≤_};
 ghost use Rattle.bounds.specs.Series.{E};
 ghost use Rattle.bounds.specs.Enclosure.{WithinAll};
-ghost use Rattle.bounds.specs.Exponential.{exponent, high, middle, rest, quadratic, fine, exponential, exponentLimit, exponentialError};
+ghost use Rattle.bounds.specs.Exponential.{exponent, entries, rest, quadratic, fine, exponential, exponentLimit, exponentialError};
 
 // 1 / 16, the step of the first table, in units of 10^-14
 const COARSE_STEP: u64 = 6250000000000;
 
 // 1 / 4096, the step of the second table, in units of 10^-14
 const FINE_STEP: u64 = 24414062500;
+
+// Where the second table starts.
+const MIDDLE: usize = 322;
 
 // 2^26 and 5^14: 2^40 / 10^14 is 2^26 / 5^14
 const TWO_26: u64 = 67108864;
@@ -41,48 +44,41 @@ fn quadratic(r: u64) -> u64
 }
 
 // E(m / 4096 + p), for d = (m / 4096 + p) * 10^14 below 10^14 / 16
-fn fine(middles: &[u64; 256], d: u64) -> u64
-    requires { ⌜ (now middles ≡ middle) × (d < 6250000000000) ⌝ }
+fn fine(tables: &[u64; 578], d: u64) -> u64
+    requires { ⌜ (now tables ≡ entries) × (d < 6250000000000) ⌝ }
     ensures { λ f. ⌜ (f ≡ fine d) × (f < 12 * 10 ^ 11) ⌝ }
 {
     let m = (d / FINE_STEP) as usize;
-    mul_shift(middles[m], quadratic(d % FINE_STEP))
+    mul_shift(tables[MIDDLE + m], quadratic(d % FINE_STEP))
 }
 
-// E(z) for z below 4.1. The tables are those that `high_table` and `middle_table` give.
-pub fn exponential(highs: &[u64; 322], middles: &[u64; 256], x: u64) -> u64
-    requires { ⌜ (now highs ≡ high) × (now middles ≡ middle) × (x < exponentLimit) ⌝ }
+// E(z) for z below 4.1. The tables are those that `tables` gives.
+pub fn exponential(tables: &[u64; 578], x: u64) -> u64
+    requires { ⌜ (now tables ≡ entries) × (x < exponentLimit) ⌝ }
     ensures { λ r. ⌜ (r ≡ exponential x) × (r < 2 ^ 46) × WithinAll (2 ^ 40) r (exponentialError x) (λ n. E n (exponent x)) ⌝ }
 {
     let h = (x / COARSE_STEP) as usize;
-    mul_shift(highs[h], fine(middles, x % COARSE_STEP))
+    mul_shift(tables[h], fine(tables, x % COARSE_STEP))
 }
 
 // How far 2^40 E(z) can be above what `exponential` gives for the same x
-pub fn exponential_error(highs: &[u64; 322], x: u64) -> u64
-    requires { ⌜ (now highs ≡ high) × (x < exponentLimit) ⌝ }
+pub fn exponential_error(tables: &[u64; 578], x: u64) -> u64
+    requires { ⌜ (now tables ≡ entries) × (x < exponentLimit) ⌝ }
     ensures { λ r. ⌜ (r ≡ exponentialError x) × (r ≤ 475) ⌝ }
 {
     let h = (x / COARSE_STEP) as usize;
-    8 * (highs[h] / ONE + 1) + 3
+    8 * (tables[h] / ONE + 1) + 3
 }
 
-// The first table as a value. A caller makes it once and lends it: the constant itself would be built anew wherever it is read.
-pub fn high_table() -> [u64; 322]
-    ensures { λ r. ⌜ r ≡ high ⌝ }
+// The two tables as one value. A caller makes it once and lends it: the constant itself would be built anew wherever it is read.
+pub fn tables() -> [u64; 578]
+    ensures { λ r. ⌜ r ≡ entries ⌝ }
 {
-    HIGH_TABLE
+    TABLES
 }
 
-// The second table as a value, to be made once and lent.
-pub fn middle_table() -> [u64; 256]
-    ensures { λ r. ⌜ r ≡ middle ⌝ }
-{
-    MIDDLE_TABLE
-}
-
-// just below 2^40 E((h - 256) / 16), for h from 0 to 321
-const HIGH_TABLE: [u64; 322] = [
+// just below 2^40 E((h - 256) / 16), for h from 0 to 321; then just below 2^40 E(m / 4096), for m from 0 to 255
+const TABLES: [u64; 578] = [
     123733,
     131713,
     140208,
@@ -405,10 +401,6 @@ const HIGH_TABLE: [u64; 322] = [
     56394188164706,
     60031300816500,
     63902987080796,
-];
-
-// just below 2^40 E(m / 4096), for m from 0 to 255
-const MIDDLE_TABLE: [u64; 256] = [
     1099511627776,
     1099780096002,
     1100048629781,

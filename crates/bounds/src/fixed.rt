@@ -1,11 +1,9 @@
 // Products that would not fit 64 bits, each taken in parts that do, and cut once at the end.
 ghost use mathlib.Core.Path.{_≡_};
-ghost use Prim.Native.Nat.{_*_, _/_, _^_, _<_, _≤_};
+ghost use Prim.Native.Nat.{_*_, _/_, _^_, _<_};
 
 // Half of the 40 binary places: a number is cut into parts here.
 const HALF: u64 = 1048576;
-
-const BILLION: u64 = 1000000000;
 
 // The product of two numbers with 40 binary places, cut to 40 places.
 pub fn mul_shift(a: u64, b: u64) -> u64
@@ -17,12 +15,4 @@ pub fn mul_shift(a: u64, b: u64) -> u64
     let b1 = b / HALF;
     let b0 = b % HALF;
     a1 * b1 + (a1 * b0 + a0 * b1 + a0 * b0 / HALF) / HALF
-}
-
-// a times v billionths, cut to a whole number. Since v is at most a billion, the result is at most a, and no part overflows.
-pub fn per_billion(a: u64, v: u64) -> u64
-    requires { ⌜ v ≤ 10 ^ 9 ⌝ }
-    ensures { λ r. ⌜ (r ≡ a * v / 10 ^ 9) × (r ≤ a) ⌝ }
-{
-    a / BILLION * v + a % BILLION * v / BILLION
 }

@@ -13,7 +13,7 @@ use read::vector_at;
 use tally::Tally;
 ghost use mathlib.Core.Path.{_≡_};
 ghost use Prim.Native.Nat.{_+_, _^_, _<_, _≤_};
-ghost use Rattle.bounds.specs.Exponential.{high, middle, exponentLimit};
+ghost use Rattle.bounds.specs.Exponential.{entries, exponentLimit};
 ghost use Rattle.bounds.specs.Power.{powerError};
 
 // z = 0, 1 / 4096 and 1 / 16, as an exponent is held
@@ -46,15 +46,8 @@ fn power_error() -> u64
 }
 
 // A tally with one exponent more, where it lies in the range
-fn with_exponent(
-    highs: &[u64; 322],
-    middles: &[u64; 256],
-    first: u64,
-    limit: u64,
-    v: Vector,
-    tally: Tally,
-) -> Tally
-    requires { ⌜ (now highs ≡ high) × (now middles ≡ middle) × (limit ≤ exponentLimit) × (tally .tried < 2 ^ 63) × (tally .enclosed < 2 ^ 63) ⌝ }
+fn with_exponent(tables: &[u64; 578], first: u64, limit: u64, v: Vector, tally: Tally) -> Tally
+    requires { ⌜ (now tables ≡ entries) × (limit ≤ exponentLimit) × (tally .tried < 2 ^ 63) × (tally .enclosed < 2 ^ 63) ⌝ }
     ensures { λ r. ⌜ (r .tried ≤ tally .tried + 1) × (r .enclosed ≤ tally .enclosed + 1) ⌝ }
 {
     let x = v.held;
@@ -63,8 +56,8 @@ fn with_exponent(
     }
     if x < limit {
         tally.with(
-            bounds::exp::exponential(highs, middles, x),
-            bounds::exp::exponential_error(highs, x),
+            bounds::exp::exponential(tables, x),
+            bounds::exp::exponential_error(tables, x),
             v,
         )
     } else {
@@ -73,20 +66,13 @@ fn with_exponent(
 }
 
 // The exponents from the first on that are below the limit
-fn exponentials(highs: &[u64; 322], middles: &[u64; 256], first: u64, limit: u64, s: &[u8]) -> Tally
-    requires { ⌜ (now highs ≡ high) × (now middles ≡ middle) × (limit ≤ exponentLimit) ⌝ }
+fn exponentials(tables: &[u64; 578], first: u64, limit: u64, s: &[u8]) -> Tally
+    requires { ⌜ (now tables ≡ entries) × (limit ≤ exponentLimit) ⌝ }
 {
     let mut tally = Tally::none();
     let mut i = 0;
     while i < s.len() / VECTOR {
-        tally = with_exponent(
-            highs,
-            middles,
-            first,
-            limit,
-            vector_at(s, VECTOR * i),
-            tally,
-        );
+        tally = with_exponent(tables, first, limit, vector_at(s, VECTOR * i), tally);
         i += 1;
     }
     tally
@@ -128,46 +114,45 @@ fn print(name: &[u8], tally: Tally) {
 }
 
 // Below 1 / 4096 both table entries are 1 and the result is the quadratic; below 1 / 16 the first is 1.
-fn report_steps(highs: &[u64; 322], middles: &[u64; 256], s: &[u8])
-    requires { ⌜ (now highs ≡ high) × (now middles ≡ middle) ⌝ }
+fn report_steps(tables: &[u64; 578], s: &[u8])
+    requires { ⌜ (now tables ≡ entries) ⌝ }
 {
     print(
         b"exponentials from 0 below 1/4096: ",
-        exponentials(highs, middles, ZERO, FINE_STEP, s),
+        exponentials(tables, ZERO, FINE_STEP, s),
     );
     print(
         b"exponentials from 0 below 1/16: ",
-        exponentials(highs, middles, ZERO, COARSE_STEP, s),
+        exponentials(tables, ZERO, COARSE_STEP, s),
     );
 }
 
 // A line for each range, since the error follows the size of E
-fn report_ranges(highs: &[u64; 322], middles: &[u64; 256], s: &[u8])
-    requires { ⌜ (now highs ≡ high) × (now middles ≡ middle) ⌝ }
+fn report_ranges(tables: &[u64; 578], s: &[u8])
+    requires { ⌜ (now tables ≡ entries) ⌝ }
 {
     print(
         b"exponentials up to 2.3: ",
-        exponentials(highs, middles, 0, PAST_2_3, s),
+        exponentials(tables, 0, PAST_2_3, s),
     );
     print(
         b"exponentials up to 3: ",
-        exponentials(highs, middles, 0, PAST_3, s),
+        exponentials(tables, 0, PAST_3, s),
     );
     print(
         b"exponentials up to 3.6: ",
-        exponentials(highs, middles, 0, PAST_3_6, s),
+        exponentials(tables, 0, PAST_3_6, s),
     );
     print(
         b"exponentials below 4.1: ",
-        exponentials(highs, middles, 0, LIMIT, s),
+        exponentials(tables, 0, LIMIT, s),
     );
 }
 
 fn report_exponentials(s: &[u8]) {
-    let highs = bounds::exp::high_table();
-    let middles = bounds::exp::middle_table();
-    report_steps(&highs, &middles, s);
-    report_ranges(&highs, &middles, s);
+    let tables = bounds::exp::tables();
+    report_steps(&tables, s);
+    report_ranges(&tables, s);
 }
 
 // The input's two parts, or false where it is not of the length that it says

@@ -103,9 +103,9 @@ unfoldable pub loaded : ℕ → ℕ → Fraction → Fraction
 loaded A K m = exponent A +ᶠ ratio K (2 * 10 ^ 14) double-unit-pos *ᶠ m
 
 -- an exponent of at most 3 as it is held
-held-most : (x : ℕ) → exponent x ≤ᶠ 3 /10^ 0 → x ≤ 19 * 10 ^ 14
+warmth-most : (x : ℕ) → exponent x ≤ᶠ 3 /10^ 0 → x ≤ 19 * 10 ^ 14
 unfolding _/10^_
-held-most x h = omega (arith, h .cross)
+warmth-most x h = omega (arith, h .cross)
 
 -- 22 units of the exponent are 5 of E, at 20.1
 steep : (w : ℕ) → Within (2 ^ 40) 0 (5 * w + 1) (ratio (22 * w + 1) (10 ^ 14) (ten-pos 14) *ᶠ 201 /10^ 1)
@@ -139,7 +139,7 @@ module _ (A K : ℕ) {l w : ℕ} (m : Fraction) (a : Within (2 ^ 40) l w m) wher
 
   -- where a + b·s·m ≤ 3, so is the held exponent
   loaded-most : loaded A K m ≤ᶠ 3 /10^ 0 → A + K * l / 2 ^ 41 ≤ 19 * 10 ^ 14
-  loaded-most t = held-most (A + K * l / 2 ^ 41) (≤-trans loaded-above t)
+  loaded-most t = warmth-most (A + K * l / 2 ^ 41) (≤-trans loaded-above t)
 
   -- E(a + b·s·m) up to an exponent of 3: five units for each of the load
   curve-within : (n : ℕ) → 40 ≤ n → K ≤ 22 * 2 ^ 41 → loaded A K m ≤ᶠ 3 /10^ 0

@@ -17,8 +17,8 @@ use Rattle.exact.specs.declared.Row.{Row}
 use Rattle.exact.specs.Canister.{a, b, breakthrough}
 use Rattle.exact.proofs.Temperature.{markθ-below-highest}
 use Rattle.marks.specs.Range.{shifted, SeasonInRange}
-use Rattle.marks.specs.Marks.{held}
-use Rattle.marks.proofs.Season.{season-temperate, held-most}
+use Rattle.marks.specs.Marks.{markWarmth}
+use Rattle.marks.proofs.Season.{season-temperate, warmth-most}
 use Rattle.factors.specs.Escape.{halves, tenthGrams, base, growth, breakUnits}
 use Rattle.factors.specs.Range.{RowInRange}
 use Rattle.factors.proofs.Breakthrough.{double-unit-pos, loaded, break-within}
@@ -116,11 +116,11 @@ saturation-≤ k vp h m v p e =
 module _ {season : Season} {row : Row} (s : SeasonInRange season) (r : RowInRange season row) where
   -- check 20: a + b·s·m_sat ≤ 3 at every mark
   pub saturated : (i : ℕ)
-      → loaded (base (season .vp) (held season i)) (growth (row .canister) (season .vp) (held season i)) (row .saturation /10^ 1) ≤ᶠ 3 /10^ 0
-  unfolding held
+      → loaded (base (season .vp) (markWarmth season i)) (growth (row .canister) (season .vp) (markWarmth season i)) (row .saturation /10^ 1) ≤ᶠ 3 /10^ 0
+  unfolding markWarmth
   saturated i =
       loaded-≤ _ _ (row .saturation)
-      (lower-exponent (row .canister) (season .vp) (held season i) (shifted (season .highest)) (row .saturation) (s .vp-most)
+      (lower-exponent (row .canister) (season .vp) (markWarmth season i) (shifted (season .highest)) (row .saturation) (s .vp-most)
       (markθ-below-highest i (season-temperate s)) (r .exponent-most))
 
   -- m_sat ≤ 368.5 g
@@ -129,11 +129,11 @@ module _ {season : Season} {row : Row} (s : SeasonInRange season) (r : RowInRang
 
   -- what breaks through of a vapour that is known within w, from mark i and a starting load that is known within 1
   pub through-within : (n i : ℕ) {q v w : ℕ} {z T m1 x : Fraction} → 40 ≤ n → z ≈ᶠ ratio (halves (row .canister)) 2 halves-pos
-      → T ≈ᶠ degrees (held season i) → Within (2 ^ 40) q 1 m1 → Within (2 ^ 40) v w x
+      → T ≈ᶠ degrees (markWarmth season i) → Within (2 ^ 40) q 1 m1 → Within (2 ^ 40) v w x
       → Within (2 ^ 40)
-      (breakUnits (base (season .vp) (held season i)) (growth (row .canister) (season .vp) (held season i)) (tenthGrams (row .saturation)) q v)
+      (breakUnits (base (season .vp) (markWarmth season i)) (growth (row .canister) (season .vp) (markWarmth season i)) (tenthGrams (row .saturation)) q v)
       (6 * w + 358) (breakthrough n (season .vp /10^ 1) z (row .saturation /10^ 1) T m1 x)
   through-within n i {z = z} n40 e t m a =
-      break-within n _ _ (season .vp /10^ 1) z (row .saturation /10^ 1) _ n40 (base-is (season .vp) (held season i) (s .vp-most) t)
-      (growth-is (season .vp) (held season i) (s .vp-most) t (row .canister) e)
-      (growth-most (row .canister) (season .vp) (held season i) (held-most i s)) (saturated i) (tenthGrams-within (row .saturation)) m a
+      break-within n _ _ (season .vp /10^ 1) z (row .saturation /10^ 1) _ n40 (base-is (season .vp) (markWarmth season i) (s .vp-most) t)
+      (growth-is (season .vp) (markWarmth season i) (s .vp-most) t (row .canister) e)
+      (growth-most (row .canister) (season .vp) (markWarmth season i) (warmth-most i s)) (saturated i) (tenthGrams-within (row .saturation)) m a

@@ -17,11 +17,11 @@ use Rattle.exact.specs.declared.Row.{Row}
 use Rattle.exact.specs.Canister.{breakthrough, escape}
 use Rattle.exact.specs.Factors.{total, mean}
 use Rattle.marks.specs.Range.{SeasonInRange}
-use Rattle.marks.specs.Marks.{held}
+use Rattle.marks.specs.Marks.{markWarmth}
 use Rattle.factors.specs.Range.{RowInRange}
 use Rattle.factors.specs.Means.{meanUnits}
 use Rattle.factors.specs.Escape.{halves}
-use Rattle.factors.specs.Factors.{gain, vapourUnits, throughUnits, escapeUnits}
+use Rattle.factors.specs.Units.{gain, vapourUnits, throughUnits, escapeUnits}
 use Rattle.factors.proofs.Gain.{exactGain, gain-within, gain-most}
 use Rattle.factors.proofs.Canister.{size, size-is, halves-pos, tenthGrams-within, through-within}
 use Rattle.factors.proofs.Mean.{mean-cong, mean-*, mean-within, meanUnits-most}
@@ -37,7 +37,7 @@ module _ {season : Season} {row : Row} (s : SeasonInRange season) (r : RowInRang
 
   -- each cell's mark with its temperature, its rise, and its vapour y
   module _ (counts : List ℕ) (p : 0 < total counts) {w : ℕ} (R : ℕ) (mark rise : ℕ → ℕ) (T : ℕ → Fraction) (x y : ℕ → ℕ → Fraction)
-      (here : (cell : ℕ) → T cell ≈ᶠ degrees (held season (mark cell))) (small : (cell : ℕ) → rise cell ≤ R * 2 ^ 40)
+      (here : (cell : ℕ) → T cell ≈ᶠ degrees (markWarmth season (mark cell))) (small : (cell : ℕ) → rise cell ≤ R * 2 ^ 40)
       (known : (cell : ℕ) → WithinAll (2 ^ 40) (rise cell) w (λ n. x n cell)) (driven : (n cell : ℕ) → y n cell ≈ᶠ exactGain season row n *ᶠ x n cell)
     where
       -- without canister: the gain times the mean rise

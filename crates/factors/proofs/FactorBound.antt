@@ -18,7 +18,7 @@ use Rattle.marks.specs.Range.{SeasonInRange}
 use Rattle.marks.specs.Marks.{tenths}
 use Rattle.marks.proofs.Season.{temperature-tenths, temperature-whole}
 use Rattle.factors.specs.Range.{RowInRange}
-use Rattle.factors.specs.Factors.{startOf, endOf, escapeOverUnits, openUnits, diurnalUnits, soakUnits, runningUnits, carUnits, twoWheelerUnits, factorUnits, factorError, lowMicrograms, highMicrograms}
+use Rattle.factors.specs.Units.{startOf, endOf, escapeOverUnits, openUnits, diurnalUnits, soakUnits, runningUnits, carUnits, twoWheelerUnits, factorUnits, factorError, lowMicrograms, highMicrograms}
 use Rattle.factors.proofs.Mean.{mean-+}
 use Rattle.factors.proofs.Losses.{parking-escape-within, over-within, opened-within, rate-mean, parking-permeation-within, hourly-within}
 

@@ -18,7 +18,7 @@ use Rattle.exact.specs.declared.Row.{Row}
 use Rattle.marks.specs.Range.{SeasonInRange}
 use Rattle.marks.proofs.Most.{exponential-most}
 use Rattle.marks.proofs.Rise as vapour
-use Rattle.factors.specs.Factors.{gain}
+use Rattle.factors.specs.Units.{gain}
 use Rattle.factors.specs.Range.{RowInRange}
 
 -- (1 − h/100)·tank·0.025·E(0.0205·vp) of a row in a season

@@ -7,8 +7,3 @@ pub mod Losses
 pub mod FactorBound
 pub mod Sizes
 pub mod Excess
-pub mod Sums
-pub mod Cells
-pub mod Agree
-pub mod Through
-pub mod Seven

@@ -21,14 +21,14 @@ use Rattle.exact.specs.Vapour.{vapour, parkingVapour}
 use Rattle.exact.specs.Permeation.{permeation, parkingPermeation}
 use Rattle.exact.specs.Factors.{vp, rowVapour, rowEscape, escapeOver, openVapour, hours, endHour, duration, total, mean}
 use Rattle.marks.specs.Range.{SeasonInRange}
-use Rattle.marks.specs.Marks.{held, stepAt, raise, tenths, rate, passed, heatError, raisedError, rateError}
-use Rattle.marks.proofs.Season.{held-most, temperature-held}
+use Rattle.marks.specs.Marks.{markWarmth, stepAt, raise, tenths, rate, passed, heatError, raisedError, rateError}
+use Rattle.marks.proofs.Season.{warmth-most, temperature-warmth}
 use Rattle.marks.proofs.Heat.{raise-within, raise-most}
 use Rattle.marks.proofs.Rise.{rises, rises-cong, vapour-rises, rise-within, rise-most}
 use Rattle.marks.proofs.Permeation.{permeation-cong, parkingPermeation-cong, rate-within, permeation-within}
 use Rattle.factors.specs.Range.{RowInRange}
 use Rattle.factors.specs.Means.{meanUnits}
-use Rattle.factors.specs.Factors.{startOf, endOf, escapeUnits, escapeOverUnits, openUnits}
+use Rattle.factors.specs.Units.{startOf, endOf, parkingRise, parkingRates, escapeUnits, escapeOverUnits, openUnits}
 use Rattle.factors.proofs.Gain.{exactGain}
 use Rattle.factors.proofs.Mean.{mean-*, mean-zero, mean-within}
 use Rattle.factors.proofs.Escape.{open-within, escape-within}
@@ -54,40 +54,40 @@ module _ {season : Season} {row : Row} (s : SeasonInRange season) (r : RowInRang
   -- "escape of the parking's vapour"
   pub parking-escape-within :
       WithinAll (2 ^ 28)
-      (escapeUnits season row counts (row .canister) startOf (λ (cell : ℕ). passed (stepAt (held season)) (endHour cell) (duration cell))) 946
+      (escapeUnits season row counts (row .canister) startOf (parkingRise season)) 946
       (λ n.
       mean
       (λ (cell : ℕ).
       rowEscape n season row (temperature season (startOf cell))
       (parkingVapour n (vp n season row) (row .fill /10^ 2) (row .tank /10^ 1) (temperature season) (endHour cell) (duration cell))) counts)
-  unfolding rowEscape vp
+  unfolding rowEscape vp parkingRise
   parking-escape-within =
-      escape-within s r counts p 450 startOf (λ (cell : ℕ). passed (stepAt (held season)) (endHour cell) (duration cell))
-      (λ (cell : ℕ). temperature season (startOf cell)) (λ n cell. rises n (λ i. degrees (held season i)) (endHour cell) (duration cell))
+      escape-within s r counts p 450 startOf (parkingRise season)
+      (λ (cell : ℕ). temperature season (startOf cell)) (λ n cell. rises n (λ i. degrees (markWarmth season i)) (endHour cell) (duration cell))
       (λ n cell. parkingVapour n (season .vp /10^ 1) (row .fill /10^ 2) (row .tank /10^ 1) (temperature season) (endHour cell) (duration cell))
-      (λ cell. temperature-held (startOf cell) s)
-      (λ cell. rise-most (held season) (λ i. held-most i s) (endHour cell) (duration cell) (duration-most cell))
+      (λ cell. temperature-warmth (startOf cell) s)
+      (λ cell. rise-most (markWarmth season) (λ i. warmth-most i s) (endHour cell) (duration cell) (duration-most cell))
       (λ cell.
       all-map (λ n a. widen {v = 24 * (2 * heatError)} a (omega (arith, duration-most cell)))
-      (rise-within (held season) (λ i. held-most i s) (endHour cell) (duration cell) (omega (arith, duration-most cell))))
+      (rise-within (markWarmth season) (λ i. warmth-most i s) (endHour cell) (duration cell) (omega (arith, duration-most cell))))
       (λ n cell.
       ≈-trans (vapour-rises n (season .vp /10^ 1) (row .fill /10^ 2) (row .tank /10^ 1) (temperature season) (endHour cell) (duration cell))
-      (*-cong (≈-refl _) (rises-cong n (endHour cell) (duration cell) (λ i. temperature-held i s))))
+      (*-cong (≈-refl _) (rises-cong n (endHour cell) (duration cell) (λ i. temperature-warmth i s))))
       (row .canister) refl 946 (omega arith) (omega arith)
 
   -- a raise of the temperature by k tenths, at most 6 °C, from a mark that each cell names
   module _ (mark : ℕ → ℕ) (amount : Fraction) (k : ℕ) (k-most : k ≤ 60)
-      (raised : (i : ℕ) → temperature season i +ᶠ amount ≈ᶠ degrees (held season i + tenths k))
+      (raised : (i : ℕ) → temperature season i +ᶠ amount ≈ᶠ degrees (markWarmth season i + tenths k))
     where
       abbrev exactRise : ℕ → ℕ → Fraction
       exactRise n cell =
-          E n (716 /10^ 4 *ᶠ degrees (held season (mark cell) + tenths k)) -ᶠ E n (716 /10^ 4 *ᶠ degrees (held season (mark cell)))
+          E n (716 /10^ 4 *ᶠ degrees (markWarmth season (mark cell) + tenths k)) -ᶠ E n (716 /10^ 4 *ᶠ degrees (markWarmth season (mark cell)))
 
-      raise-known : (cell : ℕ) → WithinAll (2 ^ 40) (raise (tenths k) (held season (mark cell))) (2 * raisedError) (λ n. exactRise n cell)
-      raise-known cell = raise-within (tenths k) (held season (mark cell)) (omega arith) (held-most (mark cell) s)
+      raise-known : (cell : ℕ) → WithinAll (2 ^ 40) (raise (tenths k) (markWarmth season (mark cell))) (2 * raisedError) (λ n. exactRise n cell)
+      raise-known cell = raise-within (tenths k) (markWarmth season (mark cell)) (omega arith) (warmth-most (mark cell) s)
 
-      raise-small : (cell : ℕ) → raise (tenths k) (held season (mark cell)) ≤ 56 * 2 ^ 40
-      raise-small cell = raise-most (tenths k) (held season (mark cell)) (omega arith) (held-most (mark cell) s)
+      raise-small : (cell : ℕ) → raise (tenths k) (markWarmth season (mark cell)) ≤ 56 * 2 ^ 40
+      raise-small cell = raise-most (tenths k) (markWarmth season (mark cell)) (omega arith) (warmth-most (mark cell) s)
 
       -- the vapour from T to T + k/10 is the gain times the rise
       raise-driven : (n cell : ℕ)
@@ -96,7 +96,7 @@ module _ {season : Season} {row : Row} (s : SeasonInRange season) (r : RowInRang
       unfolding rowVapour vapour vp
       raise-driven n cell =
           *-cong (≈-refl _)
-          (sub-cong (E-cong n (*-cong (≈-refl _) (raised (mark cell)))) (E-cong n (*-cong (≈-refl _) (temperature-held (mark cell) s))))
+          (sub-cong (E-cong n (*-cong (≈-refl _) (raised (mark cell)))) (E-cong n (*-cong (≈-refl _) (temperature-warmth (mark cell) s))))
 
       -- "escape from T to T + .."
       pub over-within :
@@ -104,21 +104,21 @@ module _ {season : Season} {row : Row} (s : SeasonInRange season) (r : RowInRang
           (λ n. mean (λ (cell : ℕ). escapeOver n season row (temperature season (mark cell)) amount) counts)
       unfolding escapeOverUnits escapeOver rowEscape vp
       over-within =
-          escape-within s r counts p 56 mark (λ (cell : ℕ). raise (tenths k) (held season (mark cell))) (λ (cell : ℕ). temperature season (mark cell))
+          escape-within s r counts p 56 mark (λ (cell : ℕ). raise (tenths k) (markWarmth season (mark cell))) (λ (cell : ℕ). temperature season (mark cell))
           exactRise (λ n cell. rowVapour n season row (temperature season (mark cell)) (temperature season (mark cell) +ᶠ amount))
-          (λ cell. temperature-held (mark cell) s) raise-small raise-known raise-driven (row .canister) refl 114 (omega arith) (omega arith)
+          (λ cell. temperature-warmth (mark cell) s) raise-small raise-known raise-driven (row .canister) refl 114 (omega arith) (omega arith)
 
   -- "without canister the vapour from T to T + ..", from the end of the parking
-  pub opened-within : (amount : Fraction) (k : ℕ) → k ≤ 60 → ((i : ℕ) → temperature season i +ᶠ amount ≈ᶠ degrees (held season i + tenths k))
+  pub opened-within : (amount : Fraction) (k : ℕ) → k ≤ 60 → ((i : ℕ) → temperature season i +ᶠ amount ≈ᶠ degrees (markWarmth season i + tenths k))
       → (c : Canister)
       → WithinAll (2 ^ 28) (openUnits season row counts c (tenths k)) 114
       (λ n. mean (λ (cell : ℕ). openVapour n season row c (temperature season (endOf cell)) amount) counts)
   unfolding openUnits openVapour
   opened-within amount k h raised None =
       all-map (λ n a. widen a (omega arith))
-      (open-within s r counts p 56 endOf (λ (cell : ℕ). raise (tenths k) (held season (endOf cell))) (λ (cell : ℕ). temperature season (endOf cell))
+      (open-within s r counts p 56 endOf (λ (cell : ℕ). raise (tenths k) (markWarmth season (endOf cell))) (λ (cell : ℕ). temperature season (endOf cell))
       (exactRise endOf amount k h raised) (λ n cell. rowVapour n season row (temperature season (endOf cell)) (temperature season (endOf cell) +ᶠ amount))
-      (λ cell. temperature-held (endOf cell) s) (raise-small endOf amount k h raised) (raise-known endOf amount k h raised)
+      (λ cell. temperature-warmth (endOf cell) s) (raise-small endOf amount k h raised) (raise-known endOf amount k h raised)
       (raise-driven endOf amount k h raised))
   opened-within amount k h raised Small = nothing counts
   opened-within amount k h raised Medium = nothing counts
@@ -126,8 +126,8 @@ module _ {season : Season} {row : Row} (s : SeasonInRange season) (r : RowInRang
 
   -- "permeation at T + ..", at most 15 °C above the mark that each cell names
   pub rate-mean : (mark : ℕ → ℕ) (amount : Fraction) (k : ℕ) → k ≤ 150
-      → ((i : ℕ) → temperature season i +ᶠ amount ≈ᶠ degrees (held season i + tenths k))
-      → WithinAll (2 ^ 28) (meanUnits counts (λ (cell : ℕ). rate (season .vp) (held season (mark cell) + tenths k))) 3
+      → ((i : ℕ) → temperature season i +ᶠ amount ≈ᶠ degrees (markWarmth season i + tenths k))
+      → WithinAll (2 ^ 28) (meanUnits counts (λ (cell : ℕ). rate (season .vp) (markWarmth season (mark cell) + tenths k))) 3
       (λ n. mean (λ (cell : ℕ). permeation n (vp n season row) (temperature season (mark cell) +ᶠ amount)) counts)
   unfolding vp
   rate-mean mark amount k h raised =
@@ -135,23 +135,23 @@ module _ {season : Season} {row : Row} (s : SeasonInRange season) (r : RowInRang
       (mean-within counts p _ (λ n cell. permeation n (season .vp /10^ 1) (temperature season (mark cell) +ᶠ amount))
       (λ cell.
       all-map (λ n a. within-≈ (permeation-cong n (season .vp /10^ 1) (≈-sym (raised (mark cell)))) a)
-      (rate-within (season .vp) (held season (mark cell) + tenths k) (s .vp-most) (omega (arith, held-most (mark cell) s)))))
+      (rate-within (season .vp) (markWarmth season (mark cell) + tenths k) (s .vp-most) (omega (arith, warmth-most (mark cell) s)))))
 
   -- "its permeation" of a parking
   pub parking-permeation-within :
       WithinAll (2 ^ 28)
-      (meanUnits counts (λ (cell : ℕ). passed (λ (i : ℕ). rate (season .vp) (held season i)) (endHour cell) (duration cell) / 2)) 4
+      (meanUnits counts (λ (cell : ℕ). parkingRates season cell / 2)) 4
       (λ n. mean (λ (cell : ℕ). parkingPermeation n (vp n season row) (temperature season) (endHour cell) (duration cell)) counts)
-  unfolding vp
+  unfolding vp parkingRates
   parking-permeation-within =
       all-map (λ n a. widen a (omega arith))
       (mean-within counts p _ (λ n cell. parkingPermeation n (season .vp /10^ 1) (temperature season) (endHour cell) (duration cell))
       (λ cell.
       all-map
       (λ n a.
-      within-≈ (parkingPermeation-cong n (season .vp /10^ 1) (endHour cell) (duration cell) (λ i. ≈-sym (temperature-held i s)))
+      within-≈ (parkingPermeation-cong n (season .vp /10^ 1) (endHour cell) (duration cell) (λ i. ≈-sym (temperature-warmth i s)))
       (widen {v = 24 * rateError / 2 + 2} a (omega (arith, duration-most cell))))
-      (permeation-within (season .vp) (held season) (s .vp-most) (λ i. omega (arith, held-most i s)) (endHour cell) (duration cell))))
+      (permeation-within (season .vp) (markWarmth season) (s .vp-most) (λ i. omega (arith, warmth-most i s)) (endHour cell) (duration cell))))
 
   -- "hours per trip times" a mean
   pub hourly-within : {u w : ℕ} (x : ℕ → ℕ → Fraction) → w ≤ 3 → WithinAll (2 ^ 28) u w (λ n. mean (x n) counts)

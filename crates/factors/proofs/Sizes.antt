@@ -16,16 +16,16 @@ use Rattle.exact.specs.declared.Season.{Season}
 use Rattle.exact.specs.declared.Row.{Row}
 use Rattle.exact.specs.Factors.{Factor, F1, F2, F3, F4, F5, F6, F7, endHour, duration, total}
 use Rattle.marks.specs.Range.{SeasonInRange}
-use Rattle.marks.specs.Marks.{held, stepAt, raise, tenths, rate, passed}
+use Rattle.marks.specs.Marks.{markWarmth, stepAt, raise, tenths, rate, passed}
 use Rattle.marks.proofs.Most.{within-most}
-use Rattle.marks.proofs.Season.{held-most}
+use Rattle.marks.proofs.Season.{warmth-most}
 use Rattle.marks.proofs.Heat.{raise-most}
 use Rattle.marks.proofs.Rise.{rise-most}
 use Rattle.marks.proofs.Permeation.{rate-most, rates-most}
 use Rattle.factors.specs.Range.{RowInRange}
 use Rattle.factors.specs.Means.{weighted, meanUnits}
 use Rattle.factors.specs.Escape.{halves, tenthGrams, base, growth, loss, breakUnits}
-use Rattle.factors.specs.Factors.{startOf, endOf, vapourUnits, throughUnits, escapeUnits, escapeOverUnits, openUnits, diurnalUnits, soakUnits, runningUnits, carUnits, twoWheelerUnits, factorUnits, highMicrograms}
+use Rattle.factors.specs.Units.{startOf, endOf, parkingRise, parkingRates, vapourUnits, throughUnits, escapeUnits, escapeOverUnits, openUnits, diurnalUnits, soakUnits, runningUnits, carUnits, twoWheelerUnits, factorUnits, highMicrograms}
 use Rattle.factors.proofs.Gain.{gain-most}
 use Rattle.factors.proofs.Breakthrough.{E-most, exponent-most}
 use Rattle.factors.proofs.Canister.{saturated, saturation-most, growth-most, tenthGrams-within}
@@ -49,15 +49,15 @@ partial-size v h counts t i =
     omega (arith, weighted-first (λ (cell : ℕ). v cell / 2 ^ 12) 0 counts i, weighted-most (λ (cell : ℕ). v cell / 2 ^ 12) (2 ^ 42) (λ cell. omega (arith, h cell)) 0 counts)
 
 -- exponents up to 3
-held-≤ : (x : ℕ) → x ≤ 19 * 10 ^ 14 → exponent x ≤ᶠ 3 /10^ 0
+exponent-≤ : (x : ℕ) → x ≤ 19 * 10 ^ 14 → exponent x ≤ᶠ 3 /10^ 0
 unfolding _/10^_
-held-≤ x h = omega arith
+exponent-≤ x h = omega arith
 
 -- E(3) ≤ 20.1
 exponential-3 : (x : ℕ) → x ≤ 19 * 10 ^ 14 → exponential x ≤ 21 * 2 ^ 40
 exponential-3 x h =
     let n40 : 40 ≤ 40 = omega arith in
-    omega (arith, within-most 201 1 (exponential-within x (omega arith) .at 40 n40) (E-most 40 n40 (held-≤ x h)))
+    omega (arith, within-most 201 1 (exponential-within x (omega arith) .at 40 n40) (E-most 40 n40 (exponent-≤ x h)))
 
 -- tenths of a gram keep their order
 tenthGrams-mono : {j k : ℕ} → j ≤ k → tenthGrams j ≤ tenthGrams k
@@ -71,8 +71,8 @@ break-most A K σ p v h e = omega (arith, exponential-3 (A + K * min (p + v) σ 
 
 module _ {season : Season} {row : Row} (s : SeasonInRange season) (r : RowInRange season row) where
   -- 2·b·s in units of 10⁻¹⁴
-  pub growth-size : (i : ℕ) → growth (row .canister) (season .vp) (held season i) < 2 ^ 46
-  growth-size i = omega (arith, growth-most (row .canister) (season .vp) (held season i) (held-most i s))
+  pub growth-size : (i : ℕ) → growth (row .canister) (season .vp) (markWarmth season i) < 2 ^ 46
+  growth-size i = omega (arith, growth-most (row .canister) (season .vp) (markWarmth season i) (warmth-most i s))
 
   -- m_sat of a canister, in units of 2⁻⁴⁰ g
   pub saturation-size : 0 < halves (row .canister) → tenthGrams (row .saturation) < 2 ^ 49
@@ -85,7 +85,7 @@ module _ {season : Season} {row : Row} (s : SeasonInRange season) (r : RowInRang
 
   -- the exponent of a loss is at most 3, at every mark and load
   pub loss-exponent-most : (i m : ℕ)
-      → base (season .vp) (held season i) + growth (row .canister) (season .vp) (held season i) * min m (tenthGrams (row .saturation)) / 2 ^ 41
+      → base (season .vp) (markWarmth season i) + growth (row .canister) (season .vp) (markWarmth season i) * min m (tenthGrams (row .saturation)) / 2 ^ 41
       ≤ 19 * 10 ^ 14
   loss-exponent-most i m = exponent-most _ _ (row .saturation /10^ 1) (tenthGrams-within (row .saturation)) (saturated s r i) m
 
@@ -100,38 +100,40 @@ module _ {season : Season} {row : Row} (s : SeasonInRange season) (r : RowInRang
   throughUnits-most i rise = break-most _ _ _ _ _ load-below (loss-exponent-most i _)
 
   -- the rise over a cell's parking
-  pub parking-rise-most : (cell : ℕ) → passed (stepAt (held season)) (endHour cell) (duration cell) ≤ 450 * 2 ^ 40
-  parking-rise-most cell = rise-most (held season) (λ i. held-most i s) (endHour cell) (duration cell) (duration-most cell)
+  pub parking-rise-most : (cell : ℕ) → parkingRise season cell ≤ 450 * 2 ^ 40
+  unfolding parkingRise
+  parking-rise-most cell = rise-most (markWarmth season) (λ i. warmth-most i s) (endHour cell) (duration cell) (duration-most cell)
 
   -- its vapour
-  pub parking-vapour-most : (cell : ℕ) → vapourUnits season row (passed (stepAt (held season)) (endHour cell) (duration cell)) ≤ 16200 * 2 ^ 40
+  pub parking-vapour-most : (cell : ℕ) → vapourUnits season row (parkingRise season cell) ≤ 16200 * 2 ^ 40
   parking-vapour-most cell = vapourUnits-most (450 * 2 ^ 40) (parking-rise-most cell)
 
   -- what breaks through of it
-  pub parking-through-most : (i cell : ℕ) → throughUnits season row i (passed (stepAt (held season)) (endHour cell) (duration cell)) ≤ 2 ^ 54
+  pub parking-through-most : (i cell : ℕ) → throughUnits season row i (parkingRise season cell) ≤ 2 ^ 54
   parking-through-most i cell =
-      omega (arith, throughUnits-most i (passed (stepAt (held season)) (endHour cell) (duration cell)), parking-vapour-most cell)
+      omega (arith, throughUnits-most i (parkingRise season cell), parking-vapour-most cell)
 
   -- the rise over a raise of at most 6 °C from mark i
-  pub raise-rise-most : (k i : ℕ) → k ≤ 60 → raise (tenths k) (held season i) ≤ 56 * 2 ^ 40
-  raise-rise-most k i h = raise-most (tenths k) (held season i) (omega arith) (held-most i s)
+  pub raise-rise-most : (k i : ℕ) → k ≤ 60 → raise (tenths k) (markWarmth season i) ≤ 56 * 2 ^ 40
+  raise-rise-most k i h = raise-most (tenths k) (markWarmth season i) (omega arith) (warmth-most i s)
 
   -- its vapour
-  pub raise-vapour-most : (k i : ℕ) → k ≤ 60 → vapourUnits season row (raise (tenths k) (held season i)) ≤ 2016 * 2 ^ 40
+  pub raise-vapour-most : (k i : ℕ) → k ≤ 60 → vapourUnits season row (raise (tenths k) (markWarmth season i)) ≤ 2016 * 2 ^ 40
   raise-vapour-most k i h = vapourUnits-most (56 * 2 ^ 40) (raise-rise-most k i h)
 
   -- what breaks through of it
-  pub raise-through-most : (k i : ℕ) → k ≤ 60 → throughUnits season row i (raise (tenths k) (held season i)) ≤ 2 ^ 54
-  raise-through-most k i h = omega (arith, throughUnits-most i (raise (tenths k) (held season i)), raise-vapour-most k i h)
+  pub raise-through-most : (k i : ℕ) → k ≤ 60 → throughUnits season row i (raise (tenths k) (markWarmth season i)) ≤ 2 ^ 54
+  raise-through-most k i h = omega (arith, throughUnits-most i (raise (tenths k) (markWarmth season i)), raise-vapour-most k i h)
 
   -- permeation over a cell's parking: half a gram for each of 24 half-hours
-  pub parking-permeation-most : (cell : ℕ) → passed (λ (i : ℕ). rate (season .vp) (held season i)) (endHour cell) (duration cell) / 2 ≤ 12 * 2 ^ 40
+  pub parking-permeation-most : (cell : ℕ) → parkingRates season cell / 2 ≤ 12 * 2 ^ 40
+  unfolding parkingRates
   parking-permeation-most cell =
-      omega (arith, rates-most (season .vp) (held season) (s .vp-most) (λ i. omega (arith, held-most i s)) (endHour cell) (duration cell), duration-most cell)
+      omega (arith, rates-most (season .vp) (markWarmth season) (s .vp-most) (λ i. omega (arith, warmth-most i s)) (endHour cell) (duration cell), duration-most cell)
 
   -- permeation per hour up to 15 °C above mark i
-  pub raised-rate-most : (k i : ℕ) → k ≤ 150 → rate (season .vp) (held season i + tenths k) ≤ 2 ^ 40
-  raised-rate-most k i h = le-of-lt (rate-most (season .vp) (held season i + tenths k) (s .vp-most) (omega (arith, held-most i s)))
+  pub raised-rate-most : (k i : ℕ) → k ≤ 150 → rate (season .vp) (markWarmth season i + tenths k) ≤ 2 ^ 40
+  raised-rate-most k i h = le-of-lt (rate-most (season .vp) (markWarmth season i + tenths k) (s .vp-most) (omega (arith, warmth-most i s)))
 
   module _ (counts : List ℕ) where
     -- the mean of what breaks through, of a rise of at most R
@@ -155,16 +157,16 @@ module _ {season : Season} {row : Row} (s : SeasonInRange season) (r : RowInRang
     diurnal-most : diurnalUnits season row counts ≤ 16233 * 2 ^ 28
     unfolding diurnalUnits
     diurnal-most =
-        omega (arith, escape-most 450 startOf (λ (cell : ℕ). passed (stepAt (held season)) (endHour cell) (duration cell)) parking-rise-most (row .canister), meanUnits-most counts (λ (cell : ℕ). passed (λ (i : ℕ). rate (season .vp) (held season i)) (endHour cell) (duration cell) / 2) (12 * 2 ^ 28) (λ cell. omega (arith, parking-permeation-most cell)))
+        omega (arith, escape-most 450 startOf (parkingRise season) parking-rise-most (row .canister), meanUnits-most counts (λ (cell : ℕ). parkingRates season cell / 2) (12 * 2 ^ 28) (λ cell. omega (arith, parking-permeation-most cell)))
 
     -- the mean escape over a raise
     over-most : (mark : ℕ → ℕ) (k : ℕ) → k ≤ 60 → escapeOverUnits season row counts mark (tenths k) ≤ 2037 * 2 ^ 28
     unfolding escapeOverUnits
     over-most mark k h =
-        escape-most 56 mark (λ (cell : ℕ). raise (tenths k) (held season (mark cell))) (λ cell. raise-rise-most k (mark cell) h) (row .canister)
+        escape-most 56 mark (λ (cell : ℕ). raise (tenths k) (markWarmth season (mark cell))) (λ cell. raise-rise-most k (mark cell) h) (row .canister)
 
     -- the mean permeation per hour
-    rate-mean-most : (mark : ℕ → ℕ) (k : ℕ) → k ≤ 150 → meanUnits counts (λ (cell : ℕ). rate (season .vp) (held season (mark cell) + tenths k)) ≤ 2 ^ 28
+    rate-mean-most : (mark : ℕ → ℕ) (k : ℕ) → k ≤ 150 → meanUnits counts (λ (cell : ℕ). rate (season .vp) (markWarmth season (mark cell) + tenths k)) ≤ 2 ^ 28
     rate-mean-most mark k h = meanUnits-most counts _ (2 ^ 28) (λ cell. omega (arith, raised-rate-most k (mark cell) h))
 
     -- the mean vapour over a raise, without canister
@@ -172,7 +174,7 @@ module _ {season : Season} {row : Row} (s : SeasonInRange season) (r : RowInRang
     unfolding openUnits
     open-most k h None =
         vapourUnits-most (56 * 2 ^ 28)
-        (meanUnits-most counts (λ (cell : ℕ). raise (tenths k) (held season (endOf cell))) (56 * 2 ^ 28) (λ cell. omega (arith, raise-rise-most k (endOf cell) h)))
+        (meanUnits-most counts (λ (cell : ℕ). raise (tenths k) (markWarmth season (endOf cell))) (56 * 2 ^ 28) (λ cell. omega (arith, raise-rise-most k (endOf cell) h)))
     open-most k h Small = omega arith
     open-most k h Medium = omega arith
     open-most k h Large = omega arith

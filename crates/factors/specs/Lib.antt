@@ -1,9 +1,4 @@
 pub mod Range
 pub mod Escape
 pub mod Means
-pub mod Factors
-pub mod Grid
-pub mod Through
-pub mod AtSeason
-pub mod Fitted
-pub mod Rows
+pub mod Units

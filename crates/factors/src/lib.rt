@@ -1,7 +1,1 @@
-// The seven emission factors of a season and row, in whole numbers that enclose the exact ones.
-pub mod curve;
-pub mod fitted;
-pub mod grid;
-pub mod means;
-pub mod rows;
-pub mod season;
+// The seven emission factors of a season and row as whole numbers, and that they enclose the exact ones: definitions and laws.

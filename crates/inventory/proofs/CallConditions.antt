@@ -16,7 +16,8 @@ use Rattle.sheet.proofs.Checks.{Demands, demand, _next_, Tests, Judges, judges-
 use Rattle.sheet.proofs.Conditions.{demands, sheet-judged}
 use Rattle.sheet.proofs.Accepted.{Accepted, accepted}
 use Rattle.inventory.specs.FactorCall.{factorCheck}
-use Rattle.inventory.specs.Report.{reportLength, reportCheck}
+use Rattle.report_words.specs.Report.{reportLength}
+use Rattle.inventory.specs.ReportCall.{reportCheck}
 
 -- the test x ≤ y demands y < x
 leb-tests : (x y : ℕ) → Tests (leb x y) (y < x)

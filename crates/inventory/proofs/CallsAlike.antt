@@ -14,7 +14,8 @@ use Rattle.sheet.specs.declared.Check.the-variants.{Pass, Refused}
 use Rattle.sheet.specs.Bytes.{u8At, u16At, seasonsOf, rowsOf, rowPlace, equipmentAt}
 use Rattle.sheet.proofs.Alike.{codeOf, Alike, canister-alike, tank-alike, both-alike}
 use Rattle.inventory.specs.FactorCall.{factorCheck, unitsAt, answered, factorAnswer}
-use Rattle.inventory.specs.Report.{reportLength, reportCheck, wordsOf, rowWords, subtotal, subtotals, grandTotal, report}
+use Rattle.report_words.specs.Report.{reportLength, wordsOf, rowWords, subtotal, subtotals, grandTotal, report}
+use Rattle.inventory.specs.ReportCall.{reportCheck}
 use Rattle.inventory.proofs.CallConditions.{factor-accepted}
 
 module _ {s s' : List ℕ} (a : Alike s s') where

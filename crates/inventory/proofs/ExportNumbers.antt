@@ -13,7 +13,7 @@ use Rattle.sheet.specs.Sheet.{sheetCheck}
 use Rattle.sheet.proofs.Checks.{then-refused, refuse-refused}
 use Rattle.sheet.proofs.Conditions.{refused}
 use Rattle.inventory.specs.FactorCall.{factorCheck, unitsAt, answered, factorAnswer}
-use Rattle.inventory.specs.Report.{reportCheck}
+use Rattle.inventory.specs.ReportCall.{reportCheck}
 use Rattle.inventory.specs.Export.{checkNumbers, factorNumbers}
 
 -- no refusal has number 0: those of the sheet start at 1

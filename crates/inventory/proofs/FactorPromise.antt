@@ -4,7 +4,7 @@ use mathlib.Core.List.{List}
 use mathlib.Core.Path.{_≡_, refl}
 use Prim.Native.Nat.{ℕ}
 use native.Mathlib.Omega.{arith}
-use Rattle.factors.specs.Factors.{lowMicrograms, highMicrograms}
+use Rattle.factors.specs.Units.{lowMicrograms, highMicrograms}
 use Rattle.factors.proofs.FactorBound.{high-near-low}
 use Rattle.sheet.specs.declared.Check.{Check}
 use Rattle.sheet.specs.declared.Check.the-variants.{Pass, Refused}
@@ -12,7 +12,7 @@ use Rattle.sheet.proofs.Accepted.{Bytes}
 use Rattle.inventory.specs.declared.FactorAnswer.{FactorAnswer}
 use Rattle.inventory.specs.declared.FactorAnswer.the-variants as answer
 use Rattle.inventory.specs.FactorCall.{numbered, factorCheck, unitsAt, answered, factorAnswer, FactorBand, FactorPromise}
-use Rattle.inventory.proofs.AcceptedRange.{enclosed}
+use Rattle.report_words.proofs.AcceptedRange.{enclosed}
 use Rattle.inventory.proofs.CallConditions.{factor-accepted}
 
 module _ (s : List ℕ) (season row k : ℕ) (bytes : Bytes s) where

@@ -11,14 +11,15 @@ use Rattle.sheet.specs.Bytes.{rowsOf, cellsOf, seasonList, rowAt}
 use Rattle.sheet.specs.Sheet.{sheetCheck}
 use Rattle.sheet.proofs.Checks.{then-pass}
 use Rattle.sheet.proofs.Accepted.{Bytes, Accepted, accepted}
-use Rattle.inventory.specs.Figures.{rowFigures}
-use Rattle.inventory.specs.Report.{reportLength, reportCheck, wordsOf, report, written, RowPromise, ReportPromise}
-use Rattle.inventory.specs.Years.{filled, reportWord}
-use Rattle.inventory.proofs.Filled.{tab-getD}
-use Rattle.inventory.proofs.MassBound.{Enclosed, Every}
-use Rattle.inventory.proofs.MassWidth.{mass-band, no-vehicles}
-use Rattle.inventory.proofs.ReportPlaces.{report-length}
-use Rattle.inventory.proofs.AcceptedRange.{row-shares, enclosed, every-season}
+use Rattle.masses.specs.Figures.{rowFigures}
+use Rattle.report_words.specs.Report.{reportLength, wordsOf, report}
+use Rattle.inventory.specs.ReportCall.{reportCheck, written, RowPromise, ReportPromise}
+use Rattle.report_words.specs.Years.{filled, reportWord}
+use Rattle.report_words.proofs.Filled.{tab-getD}
+use Rattle.masses.proofs.MassBound.{Enclosed, Every}
+use Rattle.masses.proofs.MassWidth.{mass-band, no-vehicles}
+use Rattle.report_words.proofs.ReportPlaces.{report-length}
+use Rattle.report_words.proofs.AcceptedRange.{row-shares, enclosed, every-season}
 
 -- row i of an accepted sheet
 pub row-promise : {s : List ℕ} {i : ℕ} → Bytes s → Accepted s → i < rowsOf s → RowPromise s i

@@ -11,7 +11,7 @@ use Rattle.sheet.specs.declared.Check.the-variants.{Pass, Refused}
 use Rattle.sheet.specs.Bytes.{seasonsOf, rowsOf, cellsOf, seasonAt, rowAt}
 use Rattle.sheet.specs.Check.{refuse, _then_}
 use Rattle.sheet.specs.Sheet.{outside, sheetCheck}
-use Rattle.factors.specs.Factors.{factorUnits, lowMicrograms, highMicrograms}
+use Rattle.factors.specs.Units.{factorUnits, lowMicrograms, highMicrograms}
 use Rattle.inventory.specs.declared.FactorAnswer.{FactorAnswer}
 use Rattle.inventory.specs.declared.FactorAnswer.the-variants as answer
 

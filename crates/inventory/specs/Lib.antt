@@ -1,5 +1,3 @@
 pub mod FactorCall
-pub mod Figures
-pub mod Report
-pub mod Years
+pub mod ReportCall
 pub mod Export

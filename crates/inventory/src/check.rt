@@ -11,7 +11,8 @@ ghost use lib.ListN.{length};
 ghost use Rattle.sheet.specs.Bytes.{seasonsOf, rowsOf};
 ghost use Rattle.sheet.specs.Sheet.{outside};
 ghost use Rattle.inventory.specs.FactorCall.{factorCheck};
-ghost use Rattle.inventory.specs.Report.{reportLength, reportCheck};
+ghost use Rattle.report_words.specs.Report.{reportLength};
+ghost use Rattle.inventory.specs.ReportCall.{reportCheck};
 
 // The words of a report: six for each row, 24 of subtotals and two of totals.
 pub fn report_length(s: &[u8]) -> usize

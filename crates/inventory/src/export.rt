@@ -5,7 +5,8 @@ ghost use mathlib.Core.Path.{_≡_};
 ghost use lib.ListN.{length};
 ghost use Rattle.sheet.specs.declared.Check.the-variants.{Pass};
 ghost use Rattle.inventory.specs.FactorCall.{factorAnswer, FactorPromise};
-ghost use Rattle.inventory.specs.Report.{reportCheck, report, written, ReportPromise};
+ghost use Rattle.report_words.specs.Report.{report};
+ghost use Rattle.inventory.specs.ReportCall.{reportCheck, written, ReportPromise};
 ghost use Rattle.inventory.specs.Export.{checkNumbers, factorNumbers};
 
 // A refusal's number and place; number 0 where the sheet is accepted.

@@ -18,7 +18,7 @@ use Rattle.bounds.proofs.PowerBound.{power-within, power-size}
 use Rattle.bounds.proofs.Root.{multiple, LargestMultiple, cutRoot-is, cutRoot-multiple, power2·5-above, power2·5-below}
 use Rattle.exact.specs.Day.{startMark}
 use Rattle.exact.specs.Permeation.{bracket, permeation, markRates, parkingPermeation}
-use Rattle.marks.specs.Marks.{mild, bracketUnits, rate, rateError, passed}
+use Rattle.marks.specs.Marks.{pressureFactor, bracketUnits, rate, rateError, passed}
 use Rattle.marks.proofs.Most.{exponential-most}
 
 -- Equal temperatures.
@@ -65,26 +65,26 @@ module _ (n : ℕ) (vp : Fraction) where
 
 module _ (vp : ℕ) (h : vp ≤ 1100) where
   -- 0.004·vp is the exponent that is computed with
-  mild-exponent : 4 /10^ 3 *ᶠ vp /10^ 1 ≈ᶠ exponent (4 * vp * 10 ^ 10 + 16 * 10 ^ 14)
+  pressure-exponent : 4 /10^ 3 *ᶠ vp /10^ 1 ≈ᶠ exponent (4 * vp * 10 ^ 10 + 16 * 10 ^ 14)
   unfolding _/10^_ _*ᶠ_
-  mild-exponent = omega arith
+  pressure-exponent = omega arith
 
   -- E(0.004·vp)
-  mild-within : WithinAll (2 ^ 40) (mild vp) 83 (λ n. E n (4 /10^ 3 *ᶠ vp /10^ 1))
-  unfolding mild
-  mild-within =
+  pressure-within : WithinAll (2 ^ 40) (pressureFactor vp) 83 (λ n. E n (4 /10^ 3 *ᶠ vp /10^ 1))
+  unfolding pressureFactor
+  pressure-within =
       all-map
-      (λ n a. within-≈ (E-cong n (≈-sym mild-exponent)) (widen a (exponentialError-2·3 (4 * vp * 10 ^ 10 + 16 * 10 ^ 14) (omega arith))))
+      (λ n a. within-≈ (E-cong n (≈-sym pressure-exponent)) (widen a (exponentialError-2·3 (4 * vp * 10 ^ 10 + 16 * 10 ^ 14) (omega arith))))
       (exponential-within (4 * vp * 10 ^ 10 + 16 * 10 ^ 14) (omega arith))
 
   -- 0.004·vp ≤ 0.44
-  mild-≤ : 4 /10^ 3 *ᶠ vp /10^ 1 ≤ᶠ 44 /10^ 2
+  pressure-≤ : 4 /10^ 3 *ᶠ vp /10^ 1 ≤ᶠ 44 /10^ 2
   unfolding _/10^_ _*ᶠ_
-  mild-≤ = omega arith
+  pressure-≤ = omega arith
 
   -- E(0.44) ≤ 1.56
-  pub mild-most : mild vp ≤ 156 * 2 ^ 40 / 100
-  mild-most = omega (arith, exponential-most 44 2 156 2 mild-within mild-≤ (omega arith) end-0·44)
+  pub pressure-most : pressureFactor vp ≤ 156 * 2 ^ 40 / 100
+  pressure-most = omega (arith, exponential-most 44 2 156 2 pressure-within pressure-≤ (omega arith) end-0·44)
 
 module _ (θ : ℕ) (h : θ ≤ 95 * 10 ^ 10) where
   -- 6.1656·10⁻⁶·T^2.5
@@ -113,13 +113,13 @@ module _ (vp θ : ℕ) (h : vp ≤ 1100) (warm : θ ≤ 95 * 10 ^ 10) where
   unfolding rate permeation
   rate-within =
       all-map₂
-      (λ n a b. widen (*-within-rounded (156 * 2 ^ 40 / 100) (43 * 2 ^ 40 / 100) (omega arith) (mild-most vp h) (bracket-most θ warm) a b) (omega arith))
-      (mild-within vp h) (bracket-within θ warm)
+      (λ n a b. widen (*-within-rounded (156 * 2 ^ 40 / 100) (43 * 2 ^ 40 / 100) (omega arith) (pressure-most vp h) (bracket-most θ warm) a b) (omega arith))
+      (pressure-within vp h) (bracket-within θ warm)
 
   -- is below a gram
   pub rate-most : rate vp θ < 2 ^ 40
   unfolding rate
-  rate-most = cut (mul-le-mul (mild-most vp h) (bracket-most θ warm))
+  rate-most = cut (mul-le-mul (pressure-most vp h) (bracket-most θ warm))
     where
       cut : {x : ℕ} → x ≤ 156 * 2 ^ 40 / 100 * (43 * 2 ^ 40 / 100) → x / 2 ^ 40 < 2 ^ 40
       cut h = omega arith

@@ -8,7 +8,7 @@ use Rattle.exact.specs.declared.Season.{Season}
 use Rattle.exact.specs.Day.{temperature}
 use Rattle.exact.proofs.Temperature.{Temperate, markθ-most, temperature-is}
 use Rattle.marks.specs.Range.{SeasonInRange}
-use Rattle.marks.specs.Marks.{held, tenths}
+use Rattle.marks.specs.Marks.{markWarmth, tenths}
 
 -- what a sheet says of a season makes it temperate
 pub season-temperate : {season : Season} → SeasonInRange season → Temperate season
@@ -27,19 +27,19 @@ degrees-whole θ k = omega arith
 
 module _ {season : Season} (i : ℕ) (s : SeasonInRange season) where
   -- at most 50 °C
-  pub held-most : held season i ≤ 80 * 10 ^ 10
-  unfolding held
-  held-most = markθ-most i (season-temperate s)
+  pub warmth-most : markWarmth season i ≤ 80 * 10 ^ 10
+  unfolding markWarmth
+  warmth-most = markθ-most i (season-temperate s)
 
   -- T(i)
-  pub temperature-held : temperature season i ≈ᶠ degrees (held season i)
-  unfolding held
-  temperature-held = temperature-is i (season-temperate s)
+  pub temperature-warmth : temperature season i ≈ᶠ degrees (markWarmth season i)
+  unfolding markWarmth
+  temperature-warmth = temperature-is i (season-temperate s)
 
   -- T(i) + k/10
-  pub temperature-tenths : (k : ℕ) → temperature season i +ᶠ k /10^ 1 ≈ᶠ degrees (held season i + tenths k)
-  temperature-tenths k = ≈-trans (+-cong temperature-held (≈-refl (k /10^ 1))) (degrees-tenths (held season i) k)
+  pub temperature-tenths : (k : ℕ) → temperature season i +ᶠ k /10^ 1 ≈ᶠ degrees (markWarmth season i + tenths k)
+  temperature-tenths k = ≈-trans (+-cong temperature-warmth (≈-refl (k /10^ 1))) (degrees-tenths (markWarmth season i) k)
 
   -- T(i) + k
-  pub temperature-whole : (k : ℕ) → temperature season i +ᶠ whole k ≈ᶠ degrees (held season i + tenths (10 * k))
-  temperature-whole k = ≈-trans (+-cong temperature-held (≈-refl (whole k))) (degrees-whole (held season i) k)
+  pub temperature-whole : (k : ℕ) → temperature season i +ᶠ whole k ≈ᶠ degrees (markWarmth season i + tenths (10 * k))
+  temperature-whole k = ≈-trans (+-cong temperature-warmth (≈-refl (whole k))) (degrees-whole (markWarmth season i) k)

@@ -4,21 +4,21 @@ use Prim.Native.Nat.{ℕ, _+_}
 use Rattle.numbers.specs.Lists.{tab}
 use Rattle.exact.specs.declared.Season.{Season}
 use Rattle.marks.specs.declared.Marks.{Marks}
-use Rattle.marks.specs.Marks.{held, stepAt, raise, tenths, rate}
+use Rattle.marks.specs.Marks.{markWarmth, stepAt, raise, tenths, rate}
 
 -- the raises of a mark's temperature by so many tenths of °C
 abbrev pub raisesBy : Season → ℕ → ℕ → ℕ
-raisesBy season k i = raise (tenths k) (held season i)
+raisesBy season k i = raise (tenths k) (markWarmth season i)
 
 -- permeation per hour at a mark whose temperature is raised by so many tenths of °C
 abbrev pub ratesAt : Season → ℕ → ℕ → ℕ
-ratesAt season k i = rate (season .vp) (held season i + tenths k)
+ratesAt season k i = rate (season .vp) (markWarmth season i + tenths k)
 
 -- each list is that of its value at marks 0 to 47
 pub record AtMarks (season : Season) (m : Marks) : Type 0 where
-  pub held-is : m .held ≡ tab (held season) 48
-  pub step-is : m .step ≡ tab (stepAt (held season)) 48
-  pub rate-is : m .rate ≡ tab (λ (i : ℕ). rate (season .vp) (held season i)) 48
+  pub warmth-is : m .warmth ≡ tab (markWarmth season) 48
+  pub step-is : m .step ≡ tab (stepAt (markWarmth season)) 48
+  pub rate-is : m .rate ≡ tab (λ (i : ℕ). rate (season .vp) (markWarmth season i)) 48
   pub soak-is : m .soak ≡ tab (ratesAt season 110) 48
   pub run-is : m .run ≡ tab (ratesAt season 150) 48
   pub raise10-is : m .raise10 ≡ tab (raisesBy season 10) 48

@@ -9,8 +9,8 @@ use Rattle.exact.specs.Day.{startMark}
 use Rattle.marks.specs.Range.{shifted}
 
 -- T(i), exactly
-unfoldable pub held : Season → ℕ → ℕ
-held season i =
+unfoldable pub markWarmth : Season → ℕ → ℕ
+markWarmth season i =
     shifted (season .lowest) * 10 ^ 9 + (shifted (season .highest) - shifted (season .lowest)) * w i
 
 -- E(0.0716·T), from below
@@ -37,8 +37,8 @@ abbrev pub tenths : ℕ → ℕ
 tenths k = k * 10 ^ 9
 
 -- E(0.004·vp), from below, vp in tenths of kPa
-unfoldable pub mild : ℕ → ℕ
-mild vp = exponential (4 * vp * 10 ^ 10 + 16 * 10 ^ 14)
+unfoldable pub pressureFactor : ℕ → ℕ
+pressureFactor vp = exponential (4 * vp * 10 ^ 10 + 16 * 10 ^ 14)
 
 -- 6.1656·10⁻⁶·T^2.5 + 0.0206, from below: 444278301800 = ⌊6.1656·10⁻⁶·2⁵⁶⌋ and 22649939532 = ⌊0.0206·2⁴⁰⌋
 unfoldable pub bracketUnits : ℕ → ℕ
@@ -46,7 +46,7 @@ bracketUnits θ = power θ * 444278301800 / 2 ^ 40 + 22649939532
 
 -- permeation per hour, from below
 unfoldable pub rate : ℕ → ℕ → ℕ
-rate vp θ = mild vp * bracketUnits θ / 2 ^ 40
+rate vp θ = pressureFactor vp * bracketUnits θ / 2 ^ 40
 
 -- summed over the marks of a parking, start included, end left out: end hour, half-hours
 unfoldable pub passed : (ℕ → ℕ) → ℕ → ℕ → ℕ

@@ -7,17 +7,17 @@ use exact::Season;
 ghost use mathlib.Core.Path.{_≡_};
 ghost use Prim.Native.Nat.{ℕ, _+_, _*_, _-_, _/_, _%_, _^_, _<_, _≤_};
 ghost use lib.ListN.{getD};
-ghost use Rattle.bounds.specs.Exponential.{high, middle};
-ghost use Rattle.numbers.specs.Lists.{tab};
+ghost use Rattle.bounds.specs.Exponential.{entries};
+ghost use Rattle.numbers.specs.Lists.{tab, AllAtMost};
 ghost use Rattle.bounds.specs.Weights.{weights};
 ghost use Rattle.marks.specs.Range.{shifted, SeasonInRange};
 ghost use Rattle.marks.specs.AtMarks.{AtMarks};
-ghost use Rattle.marks.specs.Marks.{held, heat, heatError, raisedError, mild, bracketUnits};
+ghost use Rattle.marks.specs.Marks.{markWarmth, heat, heatError, raisedError, pressureFactor, bracketUnits};
 
 // What a season needs at its marks 0 to 47.
 pub struct Marks {
     // T, in units of 10^-10 °C above -30 °C.
-    pub held: [u64; 48],
+    pub warmth: [u64; 48],
     // The rise of E(0.0716 T) to the next mark, in units of 2^-40.
     pub step: [u64; 48],
     // Permeation in grams per hour, in units of 2^-40: at T, at T + 11 for the hot soak, and at T + 15 for running.
@@ -46,9 +46,9 @@ const TEN_BILLION: u64 = 10000000000;
 const ZERO: u64 = 1600000000000000;
 
 // 6.1656 * 10^-6 * 2^56, cut, and 0.0206 * 2^40, cut.
-const SLOPE: u64 = 444278301800;
+const POWER_RATE: u64 = 444278301800;
 
-const FLOOR: u64 = 22649939532;
+const CONSTANT_RATE: u64 = 22649939532;
 
 // How far E(0.0716 T) can be above `heat_at`, up to 50 °C and up to 56 °C.
 const HEAT_ERROR: u64 = 291;
@@ -73,7 +73,7 @@ fn between(lowest: u64, span: u64, weight: u64) -> u64
 
 // The temperatures at the marks, from the lowest of the day and the span up to the highest.
 fn temperatures(lowest: u64, span: u64, weights: [u64; 48]) -> [u64; 48]
-    requires { ⌜ (lowest ≤ 800) × (span ≤ 800) × ((k : ℕ) → getD weights k 0 ≤ 10 ^ 9) ⌝ }
+    requires { ⌜ (lowest ≤ 800) × (span ≤ 800) × AllAtMost (10 ^ 9) weights ⌝ }
     ensures { λ r. ⌜ r ≡ tab (λ (i : ℕ). lowest * 10 ^ 9 + span * getD weights i 0) 48 ⌝ }
 {
     let mut out = [0u64; 48];
@@ -88,7 +88,7 @@ fn temperatures(lowest: u64, span: u64, weights: [u64; 48]) -> [u64; 48]
 // The temperatures at a season's marks.
 fn season_temperatures(season: Season) -> [u64; 48]
     requires { ⌜ SeasonInRange season ⌝ }
-    ensures { λ r. ⌜ (r ≡ tab (held season) 48) × ((k : ℕ) → getD r k 0 ≤ 80 * 10 ^ 10) ⌝ }
+    ensures { λ r. ⌜ (r ≡ tab (markWarmth season) 48) × AllAtMost (80 * 10 ^ 10) r ⌝ }
 {
     let lowest = shifted(season.lowest);
     let span = shifted(season.highest) - lowest;
@@ -96,22 +96,22 @@ fn season_temperatures(season: Season) -> [u64; 48]
 }
 
 // E(0.0716 T), up to 56 °C.
-fn heat_at(highs: &[u64; 322], middles: &[u64; 256], held: u64) -> u64
-    requires { ⌜ (now highs ≡ high) × (now middles ≡ middle) × (held ≤ 86 * 10 ^ 10) ⌝ }
-    ensures { λ r. ⌜ (r ≡ heat held) × (r ≤ 56 * 2 ^ 40) ⌝ }
+fn heat_at(tables: &[u64; 578], warmth: u64) -> u64
+    requires { ⌜ (now tables ≡ entries) × (warmth ≤ 86 * 10 ^ 10) ⌝ }
+    ensures { λ r. ⌜ (r ≡ heat warmth) × (r ≤ 56 * 2 ^ 40) ⌝ }
 {
-    exponential(highs, middles, 716 * held + COLDEST)
+    exponential(tables, 716 * warmth + COLDEST)
 }
 
 // E(0.0716 T) at the marks.
-fn heats(highs: &[u64; 322], middles: &[u64; 256], held: [u64; 48]) -> [u64; 48]
-    requires { ⌜ (now highs ≡ high) × (now middles ≡ middle) × ((k : ℕ) → getD held k 0 ≤ 80 * 10 ^ 10) ⌝ }
-    ensures { λ r. ⌜ (r ≡ tab (λ (i : ℕ). heat (getD held i 0)) 48) × ((k : ℕ) → getD r k 0 ≤ 56 * 2 ^ 40) ⌝ }
+fn heats(tables: &[u64; 578], warmths: [u64; 48]) -> [u64; 48]
+    requires { ⌜ (now tables ≡ entries) × AllAtMost (80 * 10 ^ 10) warmths ⌝ }
+    ensures { λ r. ⌜ (r ≡ tab (λ (i : ℕ). heat (getD warmths i 0)) 48) × AllAtMost (56 * 2 ^ 40) r ⌝ }
 {
     let mut out = [0u64; 48];
     let mut i: usize = 0;
     while i < 48 {
-        out[i] = heat_at(highs, middles, held[i]);
+        out[i] = heat_at(tables, warmths[i]);
         i += 1;
     }
     out
@@ -127,7 +127,7 @@ fn above(a: u64, b: u64, error: u64) -> u64
 
 // The rise of E(0.0716 T) from each mark to the next, where it rises.
 fn steps(heats: [u64; 48]) -> [u64; 48]
-    requires { ⌜ ((k : ℕ) → getD heats k 0 ≤ 56 * 2 ^ 40) ⌝ }
+    requires { ⌜ AllAtMost (56 * 2 ^ 40) heats ⌝ }
     ensures { λ r. ⌜ r ≡ tab (λ (i : ℕ). getD heats ((i + 1) % 48) 0 - (getD heats i 0 + heatError)) 48 ⌝ }
 {
     let mut out = [0u64; 48];
@@ -140,79 +140,72 @@ fn steps(heats: [u64; 48]) -> [u64; 48]
 }
 
 // The rise of E(0.0716 T) at each mark when T is raised.
-fn raises(
-    highs: &[u64; 322],
-    middles: &[u64; 256],
-    held: [u64; 48],
-    heats: [u64; 48],
-    raise: u64,
-) -> [u64; 48]
-    requires { ⌜ (now highs ≡ high) × (now middles ≡ middle) × ((k : ℕ) → getD held k 0 ≤ 80 * 10 ^ 10) × ((k : ℕ) → getD heats k 0 ≤ 56 * 2 ^ 40) × (raise ≤ 6 * 10 ^ 10) ⌝ }
-    ensures { λ r. ⌜ r ≡ tab (λ (i : ℕ). heat (getD held i 0 + raise) - (getD heats i 0 + raisedError)) 48 ⌝ }
+fn raises(tables: &[u64; 578], warmths: [u64; 48], heats: [u64; 48], raise: u64) -> [u64; 48]
+    requires { ⌜ (now tables ≡ entries) × AllAtMost (80 * 10 ^ 10) warmths × AllAtMost (56 * 2 ^ 40) heats × (raise ≤ 6 * 10 ^ 10) ⌝ }
+    ensures { λ r. ⌜ r ≡ tab (λ (i : ℕ). heat (getD warmths i 0 + raise) - (getD heats i 0 + raisedError)) 48 ⌝ }
 {
     let mut out = [0u64; 48];
     let mut i: usize = 0;
     while i < 48 {
-        out[i] = above(
-            heat_at(highs, middles, held[i] + raise),
-            heats[i],
-            RAISED_ERROR,
-        );
+        out[i] = above(heat_at(tables, warmths[i] + raise), heats[i], RAISED_ERROR);
         i += 1;
     }
     out
 }
 
 // E(0.004 vp), vp in tenths of kPa.
-fn mild(highs: &[u64; 322], middles: &[u64; 256], vp: u64) -> u64
-    requires { ⌜ (now highs ≡ high) × (now middles ≡ middle) × (vp ≤ 1100) ⌝ }
-    ensures { λ r. ⌜ (r ≡ mild vp) × (r < 2 ^ 46) ⌝ }
+fn pressure_factor(tables: &[u64; 578], vp: u64) -> u64
+    requires { ⌜ (now tables ≡ entries) × (vp ≤ 1100) ⌝ }
+    ensures { λ r. ⌜ (r ≡ pressureFactor vp) × (r < 2 ^ 46) ⌝ }
 {
-    exponential(highs, middles, 4 * vp * TEN_BILLION + ZERO)
+    exponential(tables, 4 * vp * TEN_BILLION + ZERO)
 }
 
 // Permeation per hour where E(0.004 vp) is `mild`, up to 65 °C.
-fn rate_at(mild: u64, held: u64) -> u64
-    requires { ⌜ (mild < 2 ^ 46) × (held ≤ 95 * 10 ^ 10) ⌝ }
-    ensures { λ r. ⌜ r ≡ mild * bracketUnits held / 2 ^ 40 ⌝ }
+fn rate_at(pressure: u64, warmth: u64) -> u64
+    requires { ⌜ (pressure < 2 ^ 46) × (warmth ≤ 95 * 10 ^ 10) ⌝ }
+    ensures { λ r. ⌜ r ≡ pressure * bracketUnits warmth / 2 ^ 40 ⌝ }
 {
-    mul_shift(mild, mul_shift(power(held), SLOPE) + FLOOR)
+    mul_shift(
+        pressure,
+        mul_shift(power(warmth), POWER_RATE) + CONSTANT_RATE,
+    )
 }
 
 // Permeation per hour at the marks, each temperature raised.
-fn rates(mild: u64, held: [u64; 48], raise: u64) -> [u64; 48]
-    requires { ⌜ (mild < 2 ^ 46) × ((k : ℕ) → getD held k 0 ≤ 80 * 10 ^ 10) × (raise ≤ 15 * 10 ^ 10) ⌝ }
-    ensures { λ r. ⌜ r ≡ tab (λ (i : ℕ). mild * bracketUnits (getD held i 0 + raise) / 2 ^ 40) 48 ⌝ }
+fn rates(pressure: u64, warmths: [u64; 48], raise: u64) -> [u64; 48]
+    requires { ⌜ (pressure < 2 ^ 46) × AllAtMost (80 * 10 ^ 10) warmths × (raise ≤ 15 * 10 ^ 10) ⌝ }
+    ensures { λ r. ⌜ r ≡ tab (λ (i : ℕ). pressure * bracketUnits (getD warmths i 0 + raise) / 2 ^ 40) 48 ⌝ }
 {
     let mut out = [0u64; 48];
     let mut i: usize = 0;
     while i < 48 {
-        out[i] = rate_at(mild, held[i] + raise);
+        out[i] = rate_at(pressure, warmths[i] + raise);
         i += 1;
     }
     out
 }
 
 // The values of a season at its marks. The tables are those that `high_table` and `middle_table` of `bounds` give.
-pub fn at_marks(highs: &[u64; 322], middles: &[u64; 256], season: Season) -> Marks
-    requires { ⌜ (now highs ≡ high) × (now middles ≡ middle) × SeasonInRange season ⌝ }
+pub fn at_marks(tables: &[u64; 578], season: Season) -> Marks
+    requires { ⌜ (now tables ≡ entries) × SeasonInRange season ⌝ }
     ensures { λ r. ⌜ AtMarks season r ⌝ }
 {
-    let held = season_temperatures(season);
-    let heat = heats(highs, middles, held);
-    let mild = mild(highs, middles, season.vp);
+    let warmth = season_temperatures(season);
+    let heat = heats(tables, warmth);
+    let pressure = pressure_factor(tables, season.vp);
     Marks {
-        held,
+        warmth,
         step: steps(heat),
-        rate: rates(mild, held, 0),
-        soak: rates(mild, held, 110 * TENTH),
-        run: rates(mild, held, 150 * TENTH),
-        raise10: raises(highs, middles, held, heat, 10 * TENTH),
-        raise15: raises(highs, middles, held, heat, 15 * TENTH),
-        raise25: raises(highs, middles, held, heat, 25 * TENTH),
-        raise35: raises(highs, middles, held, heat, 35 * TENTH),
-        raise45: raises(highs, middles, held, heat, 45 * TENTH),
-        raise50: raises(highs, middles, held, heat, 50 * TENTH),
-        raise60: raises(highs, middles, held, heat, 60 * TENTH),
+        rate: rates(pressure, warmth, 0),
+        soak: rates(pressure, warmth, 110 * TENTH),
+        run: rates(pressure, warmth, 150 * TENTH),
+        raise10: raises(tables, warmth, heat, 10 * TENTH),
+        raise15: raises(tables, warmth, heat, 15 * TENTH),
+        raise25: raises(tables, warmth, heat, 25 * TENTH),
+        raise35: raises(tables, warmth, heat, 35 * TENTH),
+        raise45: raises(tables, warmth, heat, 45 * TENTH),
+        raise50: raises(tables, warmth, heat, 50 * TENTH),
+        raise60: raises(tables, warmth, heat, 60 * TENTH),
     }
 }

@@ -6,26 +6,36 @@ use Prim.Native.Nat.{ℕ, zero, suc, _+_, _*_, _≤_, _<_, zero-le}
 use native.Mathlib.Numerals.{add-one}
 use native.Mathlib.Omega.{arith}
 use native.Mathlib.Nat.{le-antisymm, suc-mul, eq-or-lt-of-le}
-use lib.ListN.{length, getD, set, take, length-append, List·getD-append}
-use lib.Seq.{take-suc-set, take-all, getD-at}
-use Rattle.numbers.specs.Lists.{tab, sum}
+use lib.ListN.{length, getD, set, take, length-append, length-set, List·getD-append}
+use lib.Seq.{take-suc-set, take-all, getD-at, getD-take, ext-getD}
+use Rattle.numbers.specs.Lists.{tab, sum, at, AllAtMost}
 
--- A list that is filled from the front.
+-- A list of n places that is filled from the front: the first i hold the values of f.
+pub record Filled (f : ℕ → ℕ) (n i : ℕ) (xs : List ℕ) : Type 0 where
+  pub places : i ≤ n
+  pub long : length xs ≡ n
+  pub stored : take i xs ≡ tab f i
 
 -- nothing stored
-pub fill-none : (f : ℕ → ℕ) (xs : List ℕ) → take 0 xs ≡ tab f 0
+pub filled-none : (f : ℕ → ℕ) {n : ℕ} (xs : List ℕ) → length xs ≡ n → Filled f n 0 xs
 unfolding tab
-fill-none f xs = refl
+filled-none f xs e = record { places = zero-le; long = e; stored = refl }
 
 -- one more stored
-pub fill-more : (f : ℕ → ℕ) (xs : List ℕ) (i : ℕ) {v : ℕ} → i < length xs → take i xs ≡ tab f i → v ≡ f i
-    → take (i + 1) (set xs i v) ≡ tab f (i + 1)
+pub filled-more : {f : ℕ → ℕ} {n i v : ℕ} {xs : List ℕ} → Filled f n i xs → i < n → v ≡ f i → Filled f n (i + 1) (set xs i v)
 unfolding tab
-fill-more f xs i h e ev = rw (add-one, take-suc-set) (cc)
+filled-more {f} {n} {i} {v} {xs} k l e =
+    let inside : i < length xs = omega (arith, k .long) in
+    record {
+      places = omega arith;
+      long = length-set xs i v ∙ k .long;
+      stored = rw (add-one, take-suc-set) (cc (k .stored));
+    }
 
 -- all n stored
-pub fill-all : (f : ℕ → ℕ) (xs : List ℕ) (i n : ℕ) → take i xs ≡ tab f i → length xs ≡ n → i ≤ n → n ≤ i → xs ≡ tab f n
-fill-all f xs i n t e l g = sym (take-all i xs (omega arith)) ∙ t ∙ ap (tab f) (le-antisymm l g)
+pub filled-all : {f : ℕ → ℕ} {n i : ℕ} {xs : List ℕ} → Filled f n i xs → n ≤ i → xs ≡ tab f n
+filled-all {f} {n} {i} {xs} k l =
+    sym (take-all i xs (omega (arith, k .long))) ∙ k .stored ∙ ap (tab f) (le-antisymm (k .places) l)
 
 -- A sum that is added up.
 
@@ -72,6 +82,15 @@ getD-tab f (suc n) k h =
     ⊎-elim (λ e. rw e (getD-at (tab f n) (f n) [] 0 n (tab-length f n)))
     (λ g. List·getD-append (tab f n) (f n ∷ []) 0 k (rw (tab-length f n) g) ∙ getD-tab f n k g) (eq-or-lt-of-le l)
 
+-- what is stored so far stands at its place
+pub filled-at : {f : ℕ → ℕ} {n i : ℕ} {xs : List ℕ} → Filled f n i xs → (k : ℕ) → k < i → at xs k ≡ f k
+filled-at {f} {n} {i} {xs} h k l = sym (getD-take i xs k 0 l) ∙ ap (λ (ys : List ℕ). at ys k) (h .stored) ∙ getD-tab f i k l
+
+-- a list is made up of what stands in it
+pub tab-at : (xs : List ℕ) {n : ℕ} → length xs ≡ n → tab (at xs) n ≡ xs
+tab-at xs {n} e =
+    ext-getD 0 (tab (at xs) n) xs (tab-length (at xs) n ∙ sym e) (λ k h. getD-tab (at xs) n k (rw (tab-length (at xs) n) at h))
+
 -- equal values make equal lists
 pub tab-ext : {f g : ℕ → ℕ} (n : ℕ) → ((k : ℕ) → k < n → f k ≡ g k) → tab f n ≡ tab g n
 unfolding tab
@@ -91,3 +110,7 @@ unfolding tab
 tab-all P z f zero h k = z
 tab-all P z f (suc n) h k =
     snoc-all P z (tab f n) (f n) (tab-all P z f n (λ j l. h j (omega arith))) (h n (omega arith)) k
+
+-- and so does a bound
+pub tab-at-most : (f : ℕ → ℕ) (n : ℕ) {bound : ℕ} {xs : List ℕ} → xs ≡ tab f n → ((k : ℕ) → k < n → f k ≤ bound) → AllAtMost bound xs
+tab-at-most f n {bound} e h = record { at-most = λ k. rw e (tab-all (λ (x : ℕ). x ≤ bound) zero-le f n h k) }

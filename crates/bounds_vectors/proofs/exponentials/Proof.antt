@@ -6,10 +6,10 @@ use Rattle.bounds_vectors.proofs.exponentials.Statement.{statement}
 use Rattle.bounds_vectors.proofs.exponentials.Tie as tie
 
 abbrev Inv-loop : tie.InvT-loop
-Inv-loop highs middles first limit s tally₀ i₀ tally i = (tally .tried ≤ i) × (tally .enclosed ≤ i)
+Inv-loop tables first limit s tally₀ i₀ tally i = (tally .tried ≤ i) × (tally .enclosed ≤ i)
 
 abbrev μ-loop : tie.MeasureT-loop
-μ-loop highs middles first limit s tally₀ i₀ tally i = length s / 24 - i
+μ-loop tables first limit s tally₀ i₀ tally i = length s / 24 - i
 
 pub exponentials-spec : {M : Type 1} → statement M
 exponentials-spec =

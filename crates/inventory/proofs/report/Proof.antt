@@ -4,7 +4,8 @@ use mathlib.Core.Path.{_≡_, refl, sym, _∙_}
 use borrow.Author.Needs.{needs}
 use Rattle.sheet.specs.declared.Check.the-variants.{Pass}
 use Rattle.sheet.proofs.Accepted.{Bytes}
-use Rattle.inventory.specs.Report.{reportLength, written, ReportPromise}
+use Rattle.report_words.specs.Report.{reportLength}
+use Rattle.inventory.specs.ReportCall.{written, ReportPromise}
 use Rattle.inventory.proofs.CallConditions.{report-accepted, report-sheet}
 use Rattle.inventory.proofs.ReportPromise.{answered-promise, report-written}
 use Rattle.inventory.proofs.report.Statement.{statement}

@@ -6,11 +6,11 @@ use Prim.Native.Nat.{ℕ, suc, zero, _-_, _≤_}
 use borrow.Author.Needs.{needs}
 use native.Mathlib.Omega.{arith}
 use lib.ListN.{getD}
-use Rattle.factors.specs.Rows.{sevenUnits}
+use Rattle.row_factors.specs.Seven.{sevenUnits}
 use Rattle.sheet.specs.Bytes.{cellsOf, seasonAt, rowAt}
 use Rattle.inventory.specs.FactorCall.{numbered, unitsAt}
 use Rattle.inventory.proofs.CallConditions.{factor-accepted, factor-sheet}
-use Rattle.inventory.proofs.FigureSizes.{units-fit}
+use Rattle.masses.proofs.FigureSizes.{units-fit}
 use Rattle.inventory.proofs.units_at.Statement.{statement}
 use Rattle.inventory.proofs.units_at.Tie as tie
 
@@ -28,14 +28,6 @@ seventh s season row (suc (suc (suc (suc (suc (suc zero)))))) h l = refl
 seventh s season row (suc (suc (suc (suc (suc (suc (suc zero))))))) h l = refl
 seventh s season row (suc (suc (suc (suc (suc (suc (suc (suc k)))))))) h l = absurd (omega arith)
 
-factors-at-requires : tie.Need-factors-at-requires
-factors-at-requires c κs =
-    let grid = c .before .before .before .before .before .before .before .before in
-    let start = grid .before .before .before .before in
-    let x = start .args in
-    let (a, season-there, row-there, least, most) = factor-accepted (x .s .now) (x .season) (x .row) (x .k) (start .pre) in
-    (grid .before .before .high-table .ensures, grid .before .middle-table .ensures, grid .grid-of .ensures, factor-sheet (x .s .now) (x .season) (x .row) (x .k) (start .pre), season-there, row-there)
-
 -- the factor that is asked for is one of seven
 asked : (c : tie.Start) → (1 ≤ c .args .k) × (c .args .k ≤ 7)
 asked c =
@@ -43,9 +35,16 @@ asked c =
     let (a, season-there, row-there, least, most) = factor-accepted (x .s .now) (x .season) (x .row) (x .k) (c .pre) in
     (least, most)
 
+factors-at-requires : tie.Need-factors-at-requires
+factors-at-requires c κs =
+    let start = c .before in
+    let x = start .args in
+    let (a, season-there, row-there, least, most) = factor-accepted (x .s .now) (x .season) (x .row) (x .k) (start .pre) in
+    (factor-sheet (x .s .now) (x .season) (x .row) (x .k) (start .pre), season-there, row-there)
+
 returns : tie.Need-returns
 returns c =
-    let start = c .before .before .before .before .before .before .before .before .before .before .before .before .before in
+    let start = c .before .before in
     let x = start .args in
     let (least, most) = asked start in
     (ap (λ (units : List ℕ). getD units (x .k - 1) 0) (c .factors-at .ensures .0) ∙ seventh (x .s .now) (x .season) (x .row) (x .k) least most, units-fit (c .factors-at .ensures .1) (x .k - 1))
@@ -54,11 +53,8 @@ pub units-at-spec : {M : Type 1} → statement M
 units-at-spec =
     tie.close
     (tie.spec
-    (λ c κs. search needs)
-    (λ c κs. search needs)
-    (λ c κs. let start = c .before .before .before in factor-sheet _ _ _ _ (start .pre))
     factors-at-requires
-    (λ c. let h = asked (c .before .before .before .before .before .before .before .before .before .before .before .before .before) in omega arith)
-    (λ c. let h = asked (c .before .before .before .before .before .before .before .before .before .before .before .before .before) in omega arith)
-    (λ c. let h = asked (c .before .before .before .before .before .before .before .before .before .before .before .before .before) in omega arith)
+    (λ c. let h = asked (c .before .before) in omega arith)
+    (λ c. let h = asked (c .before .before) in omega arith)
+    (λ c. let h = asked (c .before .before) in omega arith)
     returns)

@@ -5,8 +5,8 @@ use native.Mathlib.Nat.{add-zero}
 use native.Mathlib.Omega.{arith}
 use borrow.Author.Needs.{needs}
 use denote.Ref.{now}
-use lib.ListN.{getD}
-use Rattle.bounds.specs.Exponential.{high, middle}
+use Rattle.numbers.specs.Lists.{AllAtMost}
+use Rattle.bounds.specs.Exponential.{entries}
 use Rattle.marks.specs.Marks.{tenths}
 use Rattle.marks.proofs.Columns.{steps-are, rates-are, raises-are}
 use Rattle.marks.proofs.at_marks.Statement.{statement}
@@ -14,9 +14,9 @@ use Rattle.marks.proofs.at_marks.Tie as tie
 
 -- what a list of raises requires is known once there are the temperatures and the exponentials
 raises-ready : (c : tie.After-heats) {r : ℕ} → r ≤ 6 * 10 ^ 10
-    → (now (c .before .before .args .highs) ≡ high) × (now (c .before .before .args .middles) ≡ middle) × ((k : ℕ) → getD (c .before .season-temperatures .result) k 0 ≤ 80 * 10 ^ 10) × ((k : ℕ) → getD (c .heats .result) k 0 ≤ 56 * 2 ^ 40) × (r ≤ 6 * 10 ^ 10)
+    → (now (c .before .before .args .tables) ≡ entries) × AllAtMost (80 * 10 ^ 10) (c .before .season-temperatures .result) × AllAtMost (56 * 2 ^ 40) (c .heats .result) × (r ≤ 6 * 10 ^ 10)
 raises-ready c h =
-    (c .before .before .pre .0, c .before .before .pre .1, c .before .season-temperatures .ensures .1, c .heats .ensures .1, h)
+    (c .before .before .pre .0, c .before .season-temperatures .ensures .1, c .heats .ensures .1, h)
 
 returns : tie.Need-returns
 returns c =
@@ -24,9 +24,9 @@ returns c =
     let h = d .before .before .before .before .before in
     let e = h .before .season-temperatures .ensures .0 in
     let g = h .heats .ensures .0 in
-    let f = d .before .before .before .before .mild .ensures .0 in
+    let f = d .before .before .before .before .pressure-factor .ensures .0 in
     record {
-      held-is = e;
+      warmth-is = e;
       step-is = d .before .before .before .steps .ensures ∙ steps-are _ e g;
       rate-is = simp add-zero at (d .before .before .rates .ensures ∙ rates-are _ e _ _ 0 f);
       soak-is = d .before .rates2 .ensures ∙ rates-are _ e _ _ (tenths 110) f;

@@ -1,37 +1,43 @@
 -- `marks::raises` meets its contract: the first i values are the rises at their marks.
-use mathlib.Core.Path.{_≡_, refl}
-use Prim.Native.Nat.{ℕ, _+_, _-_, _≤_}
+use mathlib.Core.Path.{refl}
+use Prim.Native.Nat.{ℕ, _+_, _-_}
 use borrow.Author.Needs.{needs}
 use native.Mathlib.Omega.{arith}
-use lib.ListN.{length, take, getD, length-set, replicate}
-use Rattle.numbers.specs.Lists.{tab}
-use Rattle.numbers.proofs.Lists.{fill-none, fill-more, fill-all}
+use lib.ListN.{getD, replicate}
+use Rattle.numbers.proofs.Lists.{Filled, filled-none, filled-more, filled-all}
 use Rattle.marks.specs.Marks.{heat, raisedError}
 use Rattle.marks.proofs.raises.Statement.{statement}
 use Rattle.marks.proofs.raises.Tie as tie
 
 abbrev Inv-loop : tie.InvT-loop
-Inv-loop highs middles raise held heats out₀ i₀ out i = (i ≤ 48) × (length out ≡ 48) × (take i out ≡ tab (λ (k : ℕ). heat (getD held k 0 + raise) - (getD heats k 0 + raisedError)) i)
+Inv-loop tables raise warmths heats out₀ i₀ out i = Filled (λ (k : ℕ). heat (getD warmths k 0 + raise) - (getD heats k 0 + raisedError)) 48 i out
 
 abbrev μ-loop : tie.MeasureT-loop
-μ-loop highs middles raise held heats out₀ i₀ out i = 48 - i
+μ-loop tables raise warmths heats out₀ i₀ out i = 48 - i
 
 loop-again : tie.Need-loop-again Inv-loop μ-loop
-loop-again c =
-    let l = c .before .before .before .loop in
-    (search needs, simp length-set (l .inv .1), fill-more _ (l .out) (l .i) (omega arith) (l .inv .2) (cc))
+loop-again c = filled-more (c .before .before .before .loop .inv) (omega arith) (cc)
 
 returns : tie.Need-returns Inv-loop μ-loop
-returns c = let l = c .before .loop in fill-all _ _ _ _ (l .inv .2) (l .inv .1) (omega arith) (omega arith)
+returns c = filled-all (c .before .loop .inv) (omega arith)
 
 pub raises-spec : {M : Type 1} → statement M
 raises-spec =
     tie.close
-    (tie.spec Inv-loop μ-loop
-    (λ c. (search needs, refl, fill-none _ (replicate 48 0)))
-    (λ c. search needs) (λ c. search needs)
-    (λ c. omega (arith, c .before .before .pre .2 (c .before .loop .i)))
-    (λ c κs. (search needs, search needs, omega (arith, c .before .before .pre .2 (c .before .loop .i))))
-    (λ c. search needs) (λ c. search needs)
-    (λ c κs. (c .before .before .before .pre .3 _, search needs))
-    (λ c. search needs) (λ c. search needs) (λ c. search needs) (λ c. search needs) loop-again returns)
+    (tie.spec
+    Inv-loop
+    μ-loop
+    (λ c. filled-none _ (replicate 48 0) refl)
+    (λ c. search needs)
+    (λ c. search needs)
+    (λ c. omega (arith, c .before .before .pre .1 .at-most (c .before .loop .i)))
+    (λ c κs. (search needs, omega (arith, c .before .before .pre .1 .at-most (c .before .loop .i))))
+    (λ c. search needs)
+    (λ c. search needs)
+    (λ c κs. (c .before .before .before .pre .2 .at-most _, search needs))
+    (λ c. search needs)
+    (λ c. search needs)
+    (λ c. search needs)
+    (λ c. search needs)
+    loop-again
+    returns)

@@ -1,35 +1,40 @@
 -- `marks::rates` meets its contract: the first i values are the permeation at their marks.
-use mathlib.Core.Path.{_≡_, refl}
-use Prim.Native.Nat.{ℕ, _+_, _*_, _-_, _/_, _^_, _≤_}
+use mathlib.Core.Path.{refl}
+use Prim.Native.Nat.{ℕ, _+_, _*_, _-_, _/_, _^_}
 use borrow.Author.Needs.{needs}
 use native.Mathlib.Omega.{arith}
-use lib.ListN.{length, take, getD, length-set, replicate}
-use Rattle.numbers.specs.Lists.{tab}
-use Rattle.numbers.proofs.Lists.{fill-none, fill-more, fill-all}
+use lib.ListN.{getD, replicate}
+use Rattle.numbers.proofs.Lists.{Filled, filled-none, filled-more, filled-all}
 use Rattle.marks.specs.Marks.{bracketUnits}
 use Rattle.marks.proofs.rates.Statement.{statement}
 use Rattle.marks.proofs.rates.Tie as tie
 
 abbrev Inv-loop : tie.InvT-loop
-Inv-loop mild raise held out₀ i₀ out i = (i ≤ 48) × (length out ≡ 48) × (take i out ≡ tab (λ (k : ℕ). mild * bracketUnits (getD held k 0 + raise) / 2 ^ 40) i)
+Inv-loop pressure raise warmths out₀ i₀ out i = Filled (λ (k : ℕ). pressure * bracketUnits (getD warmths k 0 + raise) / 2 ^ 40) 48 i out
 
 abbrev μ-loop : tie.MeasureT-loop
-μ-loop mild raise held out₀ i₀ out i = 48 - i
+μ-loop pressure raise warmths out₀ i₀ out i = 48 - i
 
 loop-again : tie.Need-loop-again Inv-loop μ-loop
-loop-again c =
-    let l = c .before .before .loop in
-    (search needs, simp length-set (l .inv .1), fill-more _ (l .out) (l .i) (omega arith) (l .inv .2) (c .rate-at .ensures))
+loop-again c = filled-more (c .before .before .loop .inv) (omega arith) (c .rate-at .ensures)
 
 returns : tie.Need-returns Inv-loop μ-loop
-returns c = let l = c .before .loop in fill-all _ _ _ _ (l .inv .2) (l .inv .1) (omega arith) (omega arith)
+returns c = filled-all (c .before .loop .inv) (omega arith)
 
 pub rates-spec : {M : Type 1} → statement M
 rates-spec =
     tie.close
-    (tie.spec Inv-loop μ-loop
-    (λ c. (search needs, refl, fill-none _ (replicate 48 0)))
-    (λ c. search needs) (λ c. search needs)
-    (λ c. omega (arith, c .before .before .pre .1 (c .before .loop .i)))
-    (λ c κs. (search needs, omega (arith, c .before .before .pre .1 (c .before .loop .i))))
-    (λ c. search needs) (λ c. search needs) (λ c. search needs) (λ c. search needs) loop-again returns)
+    (tie.spec
+    Inv-loop
+    μ-loop
+    (λ c. filled-none _ (replicate 48 0) refl)
+    (λ c. search needs)
+    (λ c. search needs)
+    (λ c. omega (arith, c .before .before .pre .1 .at-most (c .before .loop .i)))
+    (λ c κs. (search needs, omega (arith, c .before .before .pre .1 .at-most (c .before .loop .i))))
+    (λ c. search needs)
+    (λ c. search needs)
+    (λ c. search needs)
+    (λ c. search needs)
+    loop-again
+    returns)

@@ -4,24 +4,25 @@ use Prim.Native.Nat.{_*_, _/_, _^_, _<_}
 use native.Mathlib.Omega.{arith}
 use borrow.Author.Needs.{needs}
 use lib.ListN.{getD}
-use Rattle.bounds.specs.Exponential.{exponential}
+use Rattle.bounds.specs.Exponential.{high, exponential}
 use Rattle.bounds.proofs.ExponentialBound.{exponential-size, exponential-within}
 use Rattle.bounds.proofs.Sizes.{high-below}
+use Rattle.bounds.proofs.Tables.{high-at}
 use Rattle.bounds.proofs.exp.exponential.Statement.{statement}
 use Rattle.bounds.proofs.exp.exponential.Tie as tie
 
 -- the entry that is read
-entry-below : (c : tie.Start) → getD (c .args .highs .now) (c .args .x / 6250000000000) 0 < 64 * 10 ^ 12
-entry-below c = rw (c .pre .0) (high-below _ (omega arith))
+entry : (c : tie.Start) → getD (c .args .tables .now) (c .args .x / 6250000000000) 0 ≡ getD high (c .args .x / 6250000000000) 0
+entry c = rw (c .pre .0) (high-at _ (omega arith))
 
 -- the result is the computed exponential
 same : (c : tie.After-mul-shift) → c .mul-shift .result ≡ exponential (c .before .before .before .args .x)
 unfolding exponential
-same c = cc
+same c = cc (entry (c .before .before .before))
 
 returns : tie.Need-returns
 returns c =
-    let l = c .before .before .before .pre .2 in
+    let l = c .before .before .before .pre .1 in
     (same c, rw (same c) (exponential-size _ l), rw (same c) (exponential-within _ l))
 
 pub exponential-spec : {M : Type 1} → statement M
@@ -31,5 +32,5 @@ exponential-spec =
     (λ c. search needs)
     (λ c. search needs)
     (λ c κs. search needs)
-    (λ c κs. omega (arith, entry-below (c .before .before)))
+    (λ c κs. omega (arith, entry (c .before .before), high-below (c .before .before .args .x / 6250000000000) (omega arith)))
     returns)

@@ -1,20 +1,25 @@
 -- `bounds::exp::exponential_error` meets its contract: an entry is below 64·10¹², so its whole part in units of 2⁴⁰ is at most 58.
+use mathlib.Core.Path.{_≡_}
 use Prim.Native.Nat.{_*_, _/_, _^_, _<_}
 use native.Mathlib.Omega.{arith}
 use borrow.Author.Needs.{needs}
 use lib.ListN.{getD}
-use Rattle.bounds.specs.Exponential.{exponentialError}
+use Rattle.bounds.specs.Exponential.{high, exponentialError}
 use Rattle.bounds.proofs.Sizes.{high-below}
+use Rattle.bounds.proofs.Tables.{high-at}
 use Rattle.bounds.proofs.exp.exponential_error.Statement.{statement}
 use Rattle.bounds.proofs.exp.exponential_error.Tie as tie
 
 -- the entry that is read
-entry-below : (c : tie.Start) → getD (c .args .highs .now) (c .args .x / 6250000000000) 0 < 64 * 10 ^ 12
-entry-below c = rw (c .pre .0) (high-below _ (omega arith))
+entry : (c : tie.Start) → getD (c .args .tables .now) (c .args .x / 6250000000000) 0 ≡ getD high (c .args .x / 6250000000000) 0
+entry c = rw (c .pre .0) (high-at _ (omega arith))
+
+entry-below : (c : tie.Start) → getD (c .args .tables .now) (c .args .x / 6250000000000) 0 < 64 * 10 ^ 12
+entry-below c = rw (entry c) (high-below _ (omega arith))
 
 returns : tie.Need-returns
 unfolding exponentialError
-returns c = (cc, omega (arith, entry-below (c .before)))
+returns c = (cc (entry (c .before)), omega (arith, entry-below (c .before)))
 
 pub exponential-error-spec : {M : Type 1} → statement M
 exponential-error-spec =

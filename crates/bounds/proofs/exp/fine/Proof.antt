@@ -1,23 +1,24 @@
 -- `bounds::exp::fine` meets its contract: the entry and the quadratic fit a product.
 use mathlib.Core.Path.{_≡_}
-use Prim.Native.Nat.{_*_, _/_, _^_, _<_}
+use Prim.Native.Nat.{_+_, _*_, _/_, _^_, _<_}
 use native.Mathlib.Omega.{arith}
 use borrow.Author.Needs.{needs}
 use lib.ListN.{getD}
-use Rattle.bounds.specs.Exponential.{fine}
+use Rattle.bounds.specs.Exponential.{middle, fine}
 use Rattle.bounds.proofs.ExponentialBound.{fine-size}
 use Rattle.bounds.proofs.Sizes.{middle-below}
+use Rattle.bounds.proofs.Tables.{middle-at}
 use Rattle.bounds.proofs.exp.fine.Statement.{statement}
 use Rattle.bounds.proofs.exp.fine.Tie as tie
 
 -- the entry that is read
-entry-below : (c : tie.Start) → getD (c .args .middles .now) (c .args .d / 24414062500) 0 < 118 * 10 ^ 10
-entry-below c = rw (c .pre .0) (middle-below _ (omega arith))
+entry : (c : tie.Start) → getD (c .args .tables .now) (322 + c .args .d / 24414062500) 0 ≡ getD middle (c .args .d / 24414062500) 0
+entry c = rw (c .pre .0) (middle-at _)
 
 -- the result is the computed exponential of the part below a sixteenth
 same : (c : tie.After-mul-shift) → c .mul-shift .result ≡ fine (c .before .before .before .args .d)
 unfolding fine
-same c = cc
+same c = cc (entry (c .before .before .before))
 
 returns : tie.Need-returns
 returns c = (same c, rw (same c) (fine-size _ (c .before .before .before .pre .1)))
@@ -28,6 +29,7 @@ fine-spec =
     (tie.spec
     (λ c. search needs)
     (λ c. search needs)
+    (λ c. search needs)
     (λ c κs. search needs)
-    (λ c κs. omega (arith, entry-below (c .before .before)))
+    (λ c κs. omega (arith, entry (c .before .before), middle-below (c .before .before .args .d / 24414062500) (omega arith)))
     returns)

@@ -21,10 +21,10 @@ more : (f : ℕ → ℕ) (i : ℕ) {s r : ℕ} → s ≡ sum f i % 2 ^ 64 → r 
 more f i e h = omega (arith, sum-more f i refl h)
 
 abbrev Inv-loop : tie.InvT-loop
-Inv-loop highs middles xs s₀ i₀ s i = (i ≤ length xs) × (s ≡ sum (part xs) i % 2 ^ 64)
+Inv-loop tables xs s₀ i₀ s i = (i ≤ length xs) × (s ≡ sum (part xs) i % 2 ^ 64)
 
 abbrev μ-loop : tie.MeasureT-loop
-μ-loop highs middles xs s₀ i₀ s i = length xs - i
+μ-loop tables xs s₀ i₀ s i = length xs - i
 
 loop-holds : tie.Need-loop-holds Inv-loop μ-loop
 loop-holds c = (omega arith, omega (arith, sum-none (part (c .before .args .xs .now))))

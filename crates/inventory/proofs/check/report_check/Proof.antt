@@ -5,9 +5,10 @@ use borrow.Author.Needs.{needs}
 use borrow.Author.Tests.{lt-ltb, le-ltb}
 use native.Mathlib.Omega.{arith}
 use Rattle.sheet.proofs.Stages.{stop, go}
-use Rattle.inventory.specs.Report.{reportLength, reportCheck}
+use Rattle.report_words.specs.Report.{reportLength}
+use Rattle.inventory.specs.ReportCall.{reportCheck}
 use Rattle.inventory.proofs.CallConditions.{refused, allowed}
-use Rattle.inventory.proofs.Places.{parking-there}
+use Rattle.report_words.proofs.Places.{parking-there}
 use Rattle.inventory.proofs.check.report_check.Statement.{statement}
 use Rattle.inventory.proofs.check.report_check.Tie as tie
 

@@ -1,0 +1,59 @@
+-- A row's canister in a season: its curves stay in the exponential's range, and what breaks through is that of the definition.
+use mathlib.Core.List.{List}
+use mathlib.Core.Path.{_≡_}
+use Prim.Native.Nat.{ℕ, _+_, _*_, _/_, _^_, _≤_, _<_, min}
+use native.Mathlib.Omega.{arith}
+use Rattle.numbers.specs.Lists.{tab, at}
+use Rattle.numbers.proofs.Lists.{getD-tab, tab-ext}
+use Rattle.exact.specs.declared.Season.{Season}
+use Rattle.exact.specs.declared.Row.{Row}
+use Rattle.marks.specs.Range.{SeasonInRange}
+use Rattle.factors.specs.Range.{RowInRange}
+use Rattle.factors.specs.Escape.{halves, tenthGrams, loss, lossError, breakUnits}
+use Rattle.factors.specs.Units.{gain, vapourUnits, throughUnits}
+use Rattle.factors.proofs.Gain.{gain-most}
+use Rattle.factors.proofs.Sizes.{growth-size, saturation-size, load-below, loss-exponent-most}
+use Rattle.breakthrough.specs.declared.curves.Curves.{Curves}
+use Rattle.breakthrough.specs.Through.{CurvesReady, curveAt, through}
+use Rattle.breakthrough.specs.Curves.{baseAt, growthAt, firstAt, CurvesOf}
+
+-- the losses at parking start, from lists of a and 2·b·s
+pub losses-tab : (a b : ℕ → ℕ) {saturation load σ m : ℕ} {bases growths : List ℕ} → bases ≡ tab a 48 → growths ≡ tab b 48 → saturation ≡ σ → load ≡ m
+    → tab (λ (mark : ℕ). loss (at bases mark) (at growths mark) saturation load + lossError) 48 ≡ tab (λ (mark : ℕ). loss (a mark) (b mark) σ m + lossError) 48
+losses-tab a b eb eg es el =
+    tab-ext 48 (λ mark h. rw (eb, eg, es, el, getD-tab a 48 mark h, getD-tab b 48 mark h))
+
+-- min(m, m) = m
+min-self : (m : ℕ) → min m m ≡ m
+min-self m = omega arith
+
+module _ {season : Season} {row : Row} (s : SeasonInRange season) (r : RowInRange season row) (p : 0 < halves (row .canister)) where
+  at-saturation : (i : ℕ) → baseAt season row i + growthAt season row i * tenthGrams (row .saturation) / 2 ^ 41 ≤ 19 * 10 ^ 14
+  at-saturation i =
+      rw (min-self (tenthGrams (row .saturation))) at (loss-exponent-most s r i (tenthGrams (row .saturation)))
+
+  -- with any losses at parking start
+  pub fitted-ready : {c : Curves} → c .bases ≡ tab (baseAt season row) 48 → c .growths ≡ tab (growthAt season row) 48
+      → c .saturation ≡ tenthGrams (row .saturation) → c .load ≡ tenthGrams (row .load) → c .gain ≡ gain season row → CurvesReady c
+  fitted-ready {c} eb eg es el ev = record {
+    ready = λ mark first h.
+        let base : at (c .bases) mark ≡ baseAt season row mark = rw eb (getD-tab (baseAt season row) 48 mark h) in
+        let growth : at (c .growths) mark ≡ growthAt season row mark = rw eg (getD-tab (growthAt season row) 48 mark h) in
+        record {
+          saturation-below = omega (arith, es, saturation-size s r p);
+          growth-below = omega (arith, growth, growth-size s r mark);
+          exponent-below = rw (base, growth, es) (omega (arith, at-saturation mark));
+          load-most = rw (es, el) (load-below s r);
+          gain-most = rw ev (gain-most s r);
+        };
+  }
+
+  pub curves-ready : {c : Curves} → CurvesOf season row c → CurvesReady c
+  curves-ready f = fitted-ready (f .bases-are) (f .growths-are) (f .saturation-is) (f .load-is) (f .gain-is)
+
+-- what breaks through, from the canister's values at a mark
+pub through-is : {season : Season} {row : Row} {c : Curves} → CurvesOf season row c → (mark rise : ℕ) → mark < 48
+    → through (curveAt c mark) rise ≡ throughUnits season row mark rise
+unfolding through throughUnits breakUnits vapourUnits
+through-is {season} {row} f mark rise h =
+    rw (f .saturation-is, f .load-is, f .gain-is, f .bases-are, f .growths-are, f .firsts-are, getD-tab (baseAt season row) 48 mark h, getD-tab (growthAt season row) 48 mark h, getD-tab (firstAt season row) 48 mark h)

@@ -1,0 +1,41 @@
+-- `breakthrough::curves::bases` meets its contract: the first marks hold their a.
+use mathlib.Core.Path.{refl}
+use Prim.Native.Nat.{ℕ, _+_, _*_, _-_, _^_, _≤_}
+use native.Mathlib.Omega.{arith}
+use lib.ListN.{replicate}
+use Rattle.numbers.specs.Lists.{at}
+use Rattle.numbers.proofs.Lists.{Filled, filled-none, filled-more, filled-all}
+use Rattle.factors.specs.Escape.{base}
+use borrow.Author.Needs.{needs}
+use Rattle.breakthrough.proofs.curves.bases.Statement.{statement}
+use Rattle.breakthrough.proofs.curves.bases.Tie as tie
+
+abbrev Inv-loop : tie.InvT-loop
+Inv-loop warmths vp out₀ mark₀ out mark = Filled (λ (k : ℕ). base vp (at warmths k)) 48 mark out
+
+abbrev μ-loop : tie.MeasureT-loop
+μ-loop warmths vp out₀ mark₀ out mark = 48 - mark
+
+loop-again : tie.Need-loop-again Inv-loop μ-loop
+unfolding base
+loop-again c = filled-more (c .before .before .loop .inv) (omega arith) refl
+
+pub bases-spec : {M : Type 1} → statement M
+bases-spec =
+    tie.close
+    (tie.spec
+    Inv-loop
+    μ-loop
+    (λ c. filled-none _ (replicate 48 0) refl)
+    (λ c. search needs)
+    (λ c. search needs)
+    (λ c. omega (arith, c .before .before .before .pre .0 .at-most (c .before .before .loop .mark)))
+    (λ c. omega (arith, c .before .before .before .pre .0 .at-most (c .before .before .loop .mark)))
+    (λ c. search needs)
+    (λ c. search needs)
+    (λ c. search needs)
+    (λ c. search needs)
+    (λ c. search needs)
+    (λ c. search needs)
+    loop-again
+    (λ c. filled-all (c .before .loop .inv) (omega arith)))

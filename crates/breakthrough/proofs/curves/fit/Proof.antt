@@ -1,0 +1,77 @@
+-- `breakthrough::curves::fit` meets its contract: each list is the one of its definition.
+use mathlib.Core.Path.{_≡_, _∙_, ap, ap₂}
+use Prim.Native.Nat.{ℕ, _+_, _*_, _-_, _^_, _≤_, _<_}
+use native.Mathlib.Omega.{arith}
+use Rattle.numbers.specs.Lists.{tab, at, AllAtMost}
+use Rattle.numbers.proofs.Lists.{tab-ext, getD-tab, tab-at-most}
+use Rattle.marks.specs.Marks.{markWarmth}
+use Rattle.marks.proofs.Season.{warmth-most}
+use Rattle.factors.specs.Escape.{base, growth}
+use Rattle.factors.proofs.Canister.{saturation-most}
+use Rattle.breakthrough.specs.Curves.{baseAt, growthAt}
+use Rattle.breakthrough.proofs.Fitted.{fitted-ready, losses-tab}
+use borrow.Author.Needs.{needs}
+use Rattle.breakthrough.proofs.curves.fit.Statement.{statement}
+use Rattle.breakthrough.proofs.curves.fit.Tie as tie
+
+-- no temperature is above 50 °C
+temperate : (s : tie.Start) → AllAtMost (80 * 10 ^ 10) (s .args .warmths .now)
+temperate s = tab-at-most _ 48 (s .pre .1 .warmths-are) (λ mark _. warmth-most mark (s .pre .1 .season-in))
+
+-- the warmth of a mark
+warmth-at : (s : tie.Start) (k : ℕ) → k < 48 → at (s .args .warmths .now) k ≡ markWarmth (s .args .season) k
+warmth-at s k h = rw (s .pre .1 .warmths-are) (getD-tab (markWarmth (s .args .season)) 48 k h)
+
+bases-known : (c : tie.After-bases) → c .bases .result ≡ tab (baseAt (c .before .args .season) (c .before .args .row)) 48
+bases-known c =
+    c .bases .ensures ∙ tab-ext 48 (λ k h. ap (base (c .before .args .season .vp)) (warmth-at (c .before) k h))
+
+growths-known : (c : tie.After-growths)
+    → c .growths .result ≡ tab (growthAt (c .before .before .before .args .season) (c .before .before .before .args .row)) 48
+unfolding growth
+growths-known c =
+    let s = c .before .before .before in
+    c .growths .ensures ∙
+    tab-ext 48
+    (λ k h.
+    ap₂ (λ (θ times : ℕ). (112 * 10 ^ 11 + θ - 15 * 10 ^ 8 * s .args .season .vp) * times) (warmth-at s k h)
+    (c .before .halves .ensures .0))
+
+saturation-fits : (s : tie.Start) → s .args .row .saturation ≤ 3685
+saturation-fits s = let f = s .pre .1 in saturation-most (f .season-in) (f .row-in) (f .canister-there)
+
+first-losses-requires : tie.Need-first-losses-requires
+first-losses-requires c κs =
+    let g = c .before .before in
+    let b = g .before .before in
+    let p = b .before .pre in
+    let f = p .1 in
+    (p .0, fitted-ready (f .season-in) (f .row-in) (f .canister-there) (bases-known b) (growths-known g) (c .before .tenth-grams .ensures) (c .tenth-grams2 .ensures) (f .vapour-is))
+
+returns : tie.Need-returns
+returns c =
+    let l = c .before in
+    let g = l .before .before in
+    let b = g .before .before in
+    let es = l .before .tenth-grams .ensures in
+    let el = l .tenth-grams2 .ensures in
+    record {
+      bases-are = bases-known b;
+      growths-are = growths-known g;
+      firsts-are = c .first-losses .ensures ∙ losses-tab _ _ (bases-known b) (growths-known g) es el;
+      saturation-is = es;
+      load-is = el;
+      gain-is = b .before .pre .1 .vapour-is;
+    }
+
+pub fit-spec : {M : Type 1} → statement M
+fit-spec =
+    tie.close
+    (tie.spec
+    (λ c κs. (temperate c, c .pre .1 .season-in .vp-most))
+    (λ c κs. search needs)
+    (λ c κs. let s = c .before .before in (temperate s, s .pre .1 .season-in .vp-most, c .halves .ensures .1))
+    (λ c κs. saturation-fits (c .before .before .before))
+    (λ c κs. omega (arith, c .before .before .before .before .pre .1 .row-in .load-most, saturation-fits (c .before .before .before .before)))
+    first-losses-requires
+    returns)

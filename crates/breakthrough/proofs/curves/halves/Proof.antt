@@ -1,0 +1,34 @@
+-- `breakthrough::curves::halves` meets its contract.
+use Rattle.factors.specs.Escape.{halves}
+use borrow.Author.Needs.{needs}
+use Rattle.breakthrough.proofs.curves.halves.Statement.{statement}
+use Rattle.breakthrough.proofs.curves.halves.Tie as tie
+
+returns : tie.Need-returns
+unfolding halves
+returns c = search needs
+
+returns-2 : tie.Need-returns-2
+unfolding halves
+returns-2 c = search needs
+
+returns-3 : tie.Need-returns-3
+unfolding halves
+returns-3 c = search needs
+
+returns-4 : tie.Need-returns-4
+unfolding halves
+returns-4 c = search needs
+
+pub halves-spec : {M : Type 1} → statement M
+halves-spec =
+    tie.close
+    (tie.spec
+    (λ c. search needs)
+    (λ c. search needs)
+    (λ c. search needs)
+    (λ c. search needs)
+    returns
+    returns-2
+    returns-3
+    returns-4)

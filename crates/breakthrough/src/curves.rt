@@ -1,0 +1,147 @@
+// The canister that a row has, in a season: its curve at each mark, and what it has lost when a parking starts.
+use crate::curve::Curve;
+use crate::curve::loss;
+use exact::Canister;
+use exact::Row;
+use exact::Season;
+ghost use mathlib.Core.Path.{_≡_};
+ghost use Prim.Native.Nat.{ℕ, _+_, _*_, _-_, _^_, _≤_};
+ghost use Rattle.bounds.specs.Exponential.{entries};
+ghost use Rattle.numbers.specs.Lists.{tab, at, AllAtMost};
+ghost use Rattle.factors.specs.Escape.{halves, tenthGrams, base, loss, lossError};
+ghost use Rattle.breakthrough.specs.Through.{CurvesReady};
+ghost use Rattle.breakthrough.specs.Curves.{FitReady, CurvesOf};
+
+// The values of `Curve` at every mark; what no mark changes stands once.
+pub struct Curves {
+    pub bases: [u64; 48],
+    pub growths: [u64; 48],
+    pub firsts: [u64; 48],
+    pub saturation: u64,
+    pub load: u64,
+    pub gain: u64,
+}
+
+// A gram, in units of 2^-40 g.
+const GRAM: u64 = 1099511627776;
+
+// How far a loss can be above the computed one, in units of 2^-40 g.
+const LOSS_ERROR: u64 = 179;
+
+// a at -30 °C and a vapour pressure of 0; what it gains with each unit of warmth; and what it loses with each tenth of a kPa.
+const BASE: u64 = 305000000000000;
+
+const BASE_BY_WARMTH: u64 = 650;
+
+const BASE_BY_PRESSURE: u64 = 150000000000;
+
+// The same of b, which gains 1 with each unit of warmth.
+const GROWTH: u64 = 11200000000000;
+
+const GROWTH_BY_PRESSURE: u64 = 1500000000;
+
+// s in halves; 0 for no canister.
+pub fn halves(canister: Canister) -> u64
+    ensures { λ r. ⌜ (r ≡ halves canister) × (r ≤ 4) ⌝ }
+{
+    match canister {
+        Canister::None => 0,
+        Canister::Small => 4,
+        Canister::Medium => 2,
+        Canister::Large => 1,
+    }
+}
+
+// Tenths of a gram in units of 2^-40 g, cut.
+fn tenth_grams(m: u64) -> u64
+    requires { ⌜ m ≤ 3685 ⌝ }
+    ensures { λ r. ⌜ r ≡ tenthGrams m ⌝ }
+{
+    m * GRAM / 10
+}
+
+// a at each mark.
+fn bases(warmths: &[u64; 48], vp: u64) -> [u64; 48]
+    requires { ⌜ AllAtMost (80 * 10 ^ 10) (now warmths) × (vp ≤ 1100) ⌝ }
+    ensures { λ r. ⌜ r ≡ tab (λ (mark : ℕ). base vp (at (now (warmths .entry)) mark)) 48 ⌝ }
+{
+    let mut out = [0u64; 48];
+    let mut mark: usize = 0;
+    while mark < 48 {
+        out[mark] = BASE + BASE_BY_WARMTH * warmths[mark] - BASE_BY_PRESSURE * vp;
+        mark += 1;
+    }
+    out
+}
+
+// 2 b s at each mark, for 2 s = times.
+fn growths(warmths: &[u64; 48], vp: u64, times: u64) -> [u64; 48]
+    requires { ⌜ AllAtMost (80 * 10 ^ 10) (now warmths) × (vp ≤ 1100) × (times ≤ 4) ⌝ }
+    ensures { λ r. ⌜ r ≡ tab (λ (mark : ℕ). (112 * 10 ^ 11 + at (now (warmths .entry)) mark - 15 * 10 ^ 8 * vp) * times) 48 ⌝ }
+{
+    let mut out = [0u64; 48];
+    let mut mark: usize = 0;
+    while mark < 48 {
+        out[mark] = (GROWTH + warmths[mark] - GROWTH_BY_PRESSURE * vp) * times;
+        mark += 1;
+    }
+    out
+}
+
+// What is lost at each mark at the load at parking start, and as much more as it can be off.
+fn first_losses(tables: &[u64; 578], c: Curves) -> [u64; 48]
+    requires { ⌜ (now tables ≡ entries) × CurvesReady c ⌝ }
+    ensures { λ r. ⌜ r ≡ tab (λ (mark : ℕ). loss (at (c .bases) mark) (at (c .growths) mark) (c .saturation) (c .load) + lossError) 48 ⌝ }
+{
+    let mut out = [0u64; 48];
+    let mut mark: usize = 0;
+    while mark < 48 {
+        let curve = Curve {
+            base: c.bases[mark],
+            growth: c.growths[mark],
+            saturation: c.saturation,
+            load: c.load,
+            first: 0,
+            gain: c.gain,
+        };
+        out[mark] = loss(tables, curve, c.load) + LOSS_ERROR;
+        mark += 1;
+    }
+    out
+}
+
+// A row's canister in a season whose marks have these warmths, and the vapour in its tank for a rise of 1.
+pub fn fit(
+    tables: &[u64; 578],
+    season: Season,
+    warmths: &[u64; 48],
+    row: Row,
+    vapour: u64,
+) -> Curves
+    requires { ⌜ (now tables ≡ entries) × FitReady season row (now warmths) vapour ⌝ }
+    ensures { λ r. ⌜ CurvesOf season row r ⌝ }
+{
+    let bases = bases(warmths, season.vp);
+    let canister = row.canister;
+    let growths = growths(warmths, season.vp, halves(canister));
+    let saturation = tenth_grams(row.saturation);
+    let load = tenth_grams(row.load);
+    let none = [0u64; 48];
+    let unlost = Curves {
+        bases,
+        growths,
+        firsts: none,
+        saturation,
+        load,
+        gain: vapour,
+    };
+    let firsts = first_losses(tables, unlost);
+    Curves {
+        bases,
+        growths,
+        firsts,
+        saturation,
+        load,
+        gain: vapour,
+    }
+}

@@ -1,0 +1,4 @@
+// What breaks through the carbon canister of a row.
+pub mod curve;
+pub mod curves;
+pub mod losses;

@@ -1,0 +1,5 @@
+pub mod Decimals
+pub mod MassBound
+pub mod MassWidth
+pub mod MassSizes
+pub mod FigureSizes

@@ -1,0 +1,6 @@
+pub mod Sums
+pub mod Products
+pub mod Tally
+pub mod Weighted
+pub mod Passed
+pub mod Parts

@@ -1,0 +1,62 @@
+-- What passed in a parking: from cell to cell of an end hour, and of values that stand in a list.
+use mathlib.Core.Bool.{cond}
+use mathlib.Core.List.{List}
+use mathlib.Core.Path.{_≡_, refl, _∙_, ap, ap₂}
+use Prim.Native.Nat.{ℕ, zero, suc, _+_, _*_, _-_, _/_, _%_, _^_, _≤_, _<_}
+use native.Mathlib.Decide.{ℕ-discrete}
+use native.Mathlib.Numerals.{add-one}
+use native.Mathlib.Nat.{mul-le-mul-right}
+use native.Mathlib.Omega.{arith}
+use borrow.Author.Tests.{eq-eqb, ne-eqb}
+use lib.Dec.{eqb}
+use Rattle.numbers.specs.Lists.{tab, at, AllAtMost}
+use Rattle.numbers.proofs.Lists.{getD-tab}
+use Rattle.exact.specs.Day.{startMark}
+use Rattle.exact.specs.Factors.{endHour, duration}
+use Rattle.marks.specs.Marks.{passed}
+use Rattle.marks.proofs.Permeation.{passed-most}
+use Rattle.factors.specs.Units.{startOf}
+use Rattle.factors.proofs.Losses.{duration-most}
+use Rattle.parking.specs.Grid.{passedIn, carried}
+use Rattle.parking.proofs.Tally.{startMark-below}
+
+-- one half-hour further back
+passed-more : (f : ℕ → ℕ) (hour d : ℕ) {s r : ℕ} → s ≡ passed f hour d → r ≡ f (startMark hour (d + 1)) → s + r ≡ passed f hour (d + 1)
+unfolding passed
+passed-more f hour d e h = rw add-one (cc (add-one d))
+
+-- what is carried to a cell is what passed in the half-hours before its own
+carried-is : (values xs : List ℕ) (cell : ℕ) → ((k : ℕ) → k < cell → at xs k ≡ passedIn values k)
+    → carried xs cell ≡ passed (at values) (cell / 24 + 1) (cell % 24)
+unfolding carried passedIn endHour duration passed
+carried-is values xs cell h =
+    elim (ℕ-discrete (cell % 24) 0) [
+      | yes e ↦ rw (eq-eqb (cell % 24) 0 e, e) refl
+      | no n ↦
+          let hour : (cell - 1) / 24 + 1 ≡ cell / 24 + 1 = omega arith in
+          let half-hours : (cell - 1) % 24 + 1 ≡ cell % 24 = omega arith in
+          rw (ne-eqb (cell % 24) 0 n) (rw (hour, half-hours) at (h (cell - 1) (omega arith)))
+    ]
+
+-- with the cell's own mark it is what passed in its parking
+pub walk-more : (values xs : List ℕ) (cell : ℕ) {mark : ℕ} → ((k : ℕ) → k < cell → at xs k ≡ passedIn values k) → mark ≡ startOf cell
+    → carried xs cell + at values mark ≡ passedIn values cell
+unfolding passedIn startOf endHour duration
+walk-more values xs cell h e = passed-more (at values) (cell / 24 + 1) (cell % 24) (carried-is values xs cell h) (ap (at values) e)
+
+-- at most 24 values of at most a bound
+pub passedIn-most : (values : List ℕ) (bound cell : ℕ) → AllAtMost bound values → passedIn values cell ≤ 24 * bound
+unfolding passedIn
+passedIn-most values bound cell h =
+    omega (arith, passed-most (at values) bound (h .at-most) (endHour cell) (duration cell), mul-le-mul-right bound (duration-most cell))
+
+-- of values that stand in a list
+passed-tab : (g : ℕ → ℕ) (hour d : ℕ) {xs : List ℕ} → xs ≡ tab g 48 → passed (at xs) hour d ≡ passed g hour d
+unfolding passed
+passed-tab g hour zero e = refl
+passed-tab g hour (suc d) e =
+    rw (passed-tab g hour d e) (ap (_+_ _) (rw e (getD-tab g 48 (startMark hour (suc d)) (startMark-below hour (suc d)))))
+
+pub passedIn-tab : (g : ℕ → ℕ) {xs : List ℕ} → xs ≡ tab g 48 → (cell : ℕ) → passedIn xs cell ≡ passed g (endHour cell) (duration cell)
+unfolding passedIn
+passedIn-tab g e cell = passed-tab g (endHour cell) (duration cell) e

@@ -1,0 +1,52 @@
+-- The grid of a sheet's parkings as one array, and sums over its cells. Definitions only.
+use mathlib.Core.Path.{_≡_}
+use mathlib.Core.Bool.{Bool, true, false, cond}
+use lib.Dec.{eqb}
+use mathlib.Core.List.{List}
+use Prim.Native.Nat.{ℕ, zero, suc, _+_, _*_, _-_, _%_, _^_, _≤_, _<_}
+use lib.ListN.{length, set, replicate, take}
+use Rattle.numbers.specs.Lists.{at}
+use Rattle.exact.specs.Factors.{total, endHour, duration}
+use Rattle.marks.specs.Marks.{passed}
+use Rattle.factors.specs.Units.{startOf, endOf}
+
+-- what is asked of the counts of the 576 cells: some parking is counted, and at most a million
+pub record CellsInRange (cells : List ℕ) : Type 0 where
+  pub length-is : length cells ≡ 576
+  pub total-least : 1 ≤ total cells
+  pub total-most : total cells ≤ 10 ^ 6
+
+-- the mark at which a cell's parking ends, or starts
+abbrev pub markOf : Bool → ℕ → ℕ
+markOf true = endOf
+markOf false = startOf
+
+-- how much each of the 48 marks counts: the counts of the first n cells, each added to the mark that the cell names
+unfoldable pub tally : (ℕ → ℕ) → List ℕ → ℕ → List ℕ
+tally mark cells zero = replicate 48 0
+tally mark cells (suc n) = set (tally mark cells n) (mark n) (at (tally mark cells n) (mark n) + at cells n)
+
+-- In the array stand the 576 counts, how much each mark counts as the start of a parking, as the end of one, and the sum of the counts.
+abbrev pub cellsIn : List ℕ → List ℕ
+cellsIn grid = take 576 grid
+
+abbrev pub marksPlace : Bool → ℕ
+marksPlace false = 576
+marksPlace true = 624
+
+abbrev pub sumPlace : ℕ
+sumPlace = 672
+
+pub record GridReady (grid : List ℕ) : Type 0 where
+  pub cells-in : CellsInRange (cellsIn grid)
+  pub cells-are : (cell : ℕ) → cell < 576 → at grid cell ≡ at (cellsIn grid) cell
+  pub marks-are : (ends : Bool) (mark : ℕ) → mark < 48 → at grid (marksPlace ends + mark) ≡ at (tally (markOf ends) (cellsIn grid) 576) mark
+  pub sum-is : at grid sumPlace ≡ total (cellsIn grid)
+
+-- what passed in a cell's parking, of values by mark: an end hour adds one value for each of its 24 half-hours
+unfoldable pub passedIn : List ℕ → ℕ → ℕ
+passedIn values cell = passed (at values) (endHour cell) (duration cell)
+
+-- what is carried to a cell: what passed in the parking of its end hour that is half an hour shorter
+unfoldable pub carried : List ℕ → ℕ → ℕ
+carried passed cell = cond (eqb (cell % 24) 0) 0 (at passed (cell - 1))

@@ -1,0 +1,49 @@
+// What passes in each parking, end hour by end hour: a half-hour further back adds its mark's value to what is carried along, so that
+// an end hour takes 24 steps for its 24 parkings.
+use crate::cells::mark_of;
+ghost use mathlib.Core.Path.{_≡_};
+ghost use Prim.Native.Nat.{ℕ, _/_, _^_, _<_};
+ghost use Rattle.numbers.specs.Lists.{tab, at, AllAtMost};
+ghost use Rattle.parking.specs.Grid.{carried, passedIn};
+
+// How many durations an end hour has.
+const DURATIONS: usize = 24;
+
+// What passed in the parking that is half an hour shorter; nothing where there is none.
+fn carried(passed: &[u64; 576], cell: usize) -> u64
+    requires { ⌜ cell < 576 ⌝ }
+    ensures { λ r. ⌜ r ≡ carried (now (passed .entry)) cell ⌝ }
+{
+    if cell % DURATIONS == 0 {
+        0
+    } else {
+        passed[cell - 1]
+    }
+}
+
+// What passed in every cell's parking, of values by mark.
+pub fn walk(values: &[u64; 48]) -> [u64; 576]
+    requires { ⌜ AllAtMost (2 ^ 50) (now values) ⌝ }
+    ensures { λ r. ⌜ r ≡ tab (passedIn (now (values .entry))) 576 ⌝ }
+{
+    let mut out = [0u64; 576];
+    let mut cell: usize = 0;
+    while cell < 576 {
+        out[cell] = carried(&out, cell) + values[mark_of(cell, false)];
+        cell += 1;
+    }
+    out
+}
+
+// Half of each.
+pub fn halved(values: &[u64; 576]) -> [u64; 576]
+    ensures { λ r. ⌜ r ≡ tab (λ (cell : ℕ). at (now (values .entry)) cell / 2) 576 ⌝ }
+{
+    let mut out = [0u64; 576];
+    let mut cell: usize = 0;
+    while cell < 576 {
+        out[cell] = values[cell] / 2;
+        cell += 1;
+    }
+    out
+}

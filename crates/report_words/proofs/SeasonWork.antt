@@ -1,0 +1,59 @@
+-- What a season and a row of an accepted sheet give to the calculation of their factors.
+use mathlib.Core.List.{List}
+use mathlib.Core.Path.{_≡_, _∙_}
+use Prim.Native.Nat.{ℕ, _*_, _^_, _≤_, _<_}
+use native.Mathlib.Omega.{arith}
+use Rattle.numbers.specs.Lists.{tab, AllAtMost}
+use Rattle.numbers.proofs.Lists.{tab-ext, tab-at-most}
+use Rattle.exact.specs.declared.Season.{Season}
+use Rattle.exact.specs.declared.Row.{Row}
+use Rattle.marks.specs.declared.Marks.{Marks}
+use Rattle.marks.specs.Range.{SeasonInRange}
+use Rattle.marks.specs.Marks.{markWarmth, stepAt}
+use Rattle.marks.specs.AtMarks.{AtMarks}
+use Rattle.marks.proofs.Rise.{step-most}
+use Rattle.marks.proofs.Season.{warmth-most}
+use Rattle.factors.specs.Range.{RowInRange}
+use Rattle.factors.specs.Units.{parkingRise}
+use Rattle.parking.specs.Grid.{cellsIn, passedIn}
+use Rattle.parking.proofs.Passed.{passedIn-tab}
+use Rattle.row_factors.specs.declared.season.AtSeason.{AtSeason}
+use Rattle.row_factors.specs.Season.{MarksReady, AtSeasonOf, Lent}
+use Rattle.masses.specs.Day.{UseInRange}
+use Rattle.sheet.specs.Bytes.{seasonsOf, rowsOf, seasonAt, rowAt}
+use Rattle.sheet.proofs.Accepted.{Bytes, Accepted, accepted}
+use Rattle.report_words.specs.Years.{SheetLent, SeasonLent}
+use Rattle.report_words.proofs.AcceptedRange.{season-in-range, row-in-range}
+
+-- the shares and trips of row i
+pub use-in-range : {s : List ℕ} → Accepted s → {i : ℕ} → i < rowsOf s → UseInRange (rowAt s i)
+use-in-range a {i} there =
+    let r = a .row i there in
+    record { carburettor-most = r .carburettor-most; hot-most = r .hot-most; trips-most = r .trips-most }
+
+-- the steps of a season's day
+pub steps-most : {season : Season} {marks : Marks} → SeasonInRange season → AtMarks season marks → AllAtMost (2 ^ 50) (marks .step)
+steps-most {season} s m =
+    tab-at-most _ 48 (m .step-is) (λ mark _. omega (arith, step-most (markWarmth season) (λ i. warmth-most i s) mark))
+
+-- what is walked over them are the rises of the parkings
+pub marks-ready : {season : Season} {marks : Marks} {rises : List ℕ} → SeasonInRange season → AtMarks season marks
+    → rises ≡ tab (passedIn (marks .step)) 576 → MarksReady season marks rises
+unfolding parkingRise
+marks-ready {season} s m e =
+    record { season-in = s; marks-are = m; rises-are = e ∙ tab-ext 576 (λ cell _. passedIn-tab (stepAt (markWarmth season)) (m .step-is) cell) }
+
+-- season j of the sheet, with its means
+pub season-lent : {s tables grid rises : List ℕ} {season : Season} {marks : Marks} {at : AtSeason} {j : ℕ} → Bytes s → SheetLent s tables grid
+    → j < seasonsOf s → season ≡ seasonAt s j → MarksReady season marks rises → AtSeasonOf season marks (cellsIn grid) at → SeasonLent s tables grid rises at
+season-lent {s} bytes l there e m a =
+    record {
+      sheet = l;
+      lent = record {
+        tables-are = l .tables-are;
+        grid-ready = l .grid-ready;
+        marks-ready = rw (a .season-is, a .marks-are) m;
+        means-are = rw (a .season-is) (a .means-are);
+      };
+      rows-in = λ i row. rw (a .season-is, e) (row-in-range bytes (accepted s (l .passes)) row there);
+    }

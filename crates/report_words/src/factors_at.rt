@@ -1,0 +1,45 @@
+// The seven factors of a season and a row of an accepted sheet.
+use crate::parkings::sheet_grid;
+use bounds::exp::tables;
+use marks::at_marks;
+use parking::walk::walk;
+use row_factors::season::at_season;
+use row_factors::units::row_units;
+use sheet::fields::row_at;
+use sheet::fields::season_at;
+ghost use mathlib.Core.Path.{_≡_};
+ghost use Prim.Native.Nat.{_<_};
+ghost use Rattle.masses.specs.Day.{UnitsInRange};
+ghost use Rattle.row_factors.specs.Seven.{sevenUnits};
+ghost use Rattle.sheet.specs.declared.Check.the-variants.{Pass};
+ghost use Rattle.sheet.specs.Bytes.{seasonsOf, rowsOf, cellsOf, seasonAt, rowAt};
+ghost use Rattle.sheet.specs.Sheet.{sheetCheck};
+ghost use Rattle.report_words.specs.Years.{SheetLent};
+
+// With the tables and the grid, in units of 2^-28 g.
+fn units_with(
+    tables: &[u64; 578],
+    grid: &[u64; 673],
+    s: &[u8],
+    season: usize,
+    row: usize,
+) -> [u64; 7]
+    requires { ⌜ SheetLent (now s) (now tables) (now grid) × (season < seasonsOf (now s)) × (row < rowsOf (now s)) ⌝ }
+    ensures { λ r. ⌜ (r ≡ sevenUnits (seasonAt (now (s .entry)) season) (rowAt (now (s .entry)) row) (cellsOf (now (s .entry)))) × UnitsInRange r ⌝ }
+{
+    let season = season_at(s, season);
+    let marks = at_marks(tables, season);
+    let rises = walk(&marks.step);
+    let at = at_season(grid, &rises, season, marks);
+    row_units(tables, grid, &rises, at, row_at(s, row))
+}
+
+// The same from the sheet alone.
+pub fn factors_at(s: &[u8], season: usize, row: usize) -> [u64; 7]
+    requires { ⌜ (sheetCheck (now s) ≡ Pass) × (season < seasonsOf (now s)) × (row < rowsOf (now s)) ⌝ }
+    ensures { λ r. ⌜ (r ≡ sevenUnits (seasonAt (now (s .entry)) season) (rowAt (now (s .entry)) row) (cellsOf (now (s .entry)))) × UnitsInRange r ⌝ }
+{
+    let tables = tables();
+    let grid = sheet_grid(s);
+    units_with(&tables, &grid, s, season, row)
+}

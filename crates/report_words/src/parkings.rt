@@ -1,0 +1,26 @@
+// The parking counts of an accepted sheet.
+use parking::cells::products;
+use parking::grid::grid_of;
+use sheet::fields::duration_counts;
+use sheet::fields::hour_counts;
+ghost use mathlib.Core.Path.{_≡_};
+ghost use Rattle.parking.specs.Grid.{CellsInRange, cellsIn, GridReady};
+ghost use Rattle.sheet.specs.declared.Check.the-variants.{Pass};
+ghost use Rattle.sheet.specs.Bytes.{cellsOf};
+ghost use Rattle.sheet.specs.Sheet.{sheetCheck};
+
+// The products of the two lists of counts.
+fn cells_of(s: &[u8]) -> [u64; 576]
+    requires { ⌜ sheetCheck (now s) ≡ Pass ⌝ }
+    ensures { λ r. ⌜ (r ≡ cellsOf (now (s .entry))) × CellsInRange r ⌝ }
+{
+    products(duration_counts(s), hour_counts(s))
+}
+
+// Its grid.
+pub fn sheet_grid(s: &[u8]) -> [u64; 673]
+    requires { ⌜ sheetCheck (now s) ≡ Pass ⌝ }
+    ensures { λ r. ⌜ GridReady r × (cellsIn r ≡ cellsOf (now (s .entry))) ⌝ }
+{
+    grid_of(cells_of(s))
+}

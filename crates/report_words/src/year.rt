@@ -1,0 +1,102 @@
+// The figures of a year, added up season by season in the six words of each row.
+use crate::parkings::sheet_grid;
+use bounds::exp::tables;
+use marks::at_marks;
+use masses::figures::row_figures;
+use parking::walk::walk;
+use row_factors::season::AtSeason;
+use row_factors::season::at_season;
+use sheet::fields::row_at;
+use sheet::fields::rows_of;
+use sheet::fields::season_at;
+use sheet::fields::seasons_of;
+ghost use mathlib.Core.Path.{_≡_};
+ghost use Prim.Native.Nat.{ℕ, _+_, _*_, _≤_, _<_};
+ghost use lib.ListN.{length, take};
+ghost use lib.Seq.{sets};
+ghost use Rattle.numbers.specs.Lists.{tab};
+ghost use Rattle.sheet.specs.declared.Check.the-variants.{Pass};
+ghost use Rattle.sheet.specs.Bytes.{seasonsOf, rowsOf};
+ghost use Rattle.sheet.specs.Sheet.{sheetCheck};
+ghost use Rattle.report_words.specs.Years.{SheetLent, SeasonLent, RowsHold, SeasonFits, SumsFit, daysAdded, seasonAdded, yearWord, filled};
+
+// The first n words are set to 0.
+pub fn clear(words: &mut [u64], n: usize)
+    requires { ⌜ n ≤ length (now words) ⌝ }
+    ensures { λ _. ⌜ now (words .exit) ≡ filled (λ (k : ℕ). 0) n (now (words .entry)) ⌝ }
+{
+    let mut k: usize = 0;
+    while k < n {
+        words[k] = 0;
+        k += 1;
+    }
+}
+
+// Six figures of a day, for so many days, are added to the six words that start at a place.
+fn add_days(words: &mut [u64], at: usize, days: u64, figures: [u64; 6])
+    requires { ⌜ (at + 6 ≤ length (now words)) × SumsFit (now words) at days figures ⌝ }
+    ensures { λ _. ⌜ now (words .exit) ≡ sets (now (words .entry)) at (tab (daysAdded (now (words .entry)) at days figures) 6) ⌝ }
+{
+    let mut m: usize = 0;
+    while m < 6 {
+        words[at + m] += days * figures[m];
+        m += 1;
+    }
+}
+
+// A season in all rows: what one vehicle of a row loses on its days is added to the row's six words.
+fn add_rows(
+    tables: &[u64; 578],
+    grid: &[u64; 673],
+    rises: &[u64; 576],
+    at: AtSeason,
+    s: &[u8],
+    words: &mut [u64],
+)
+    requires { ⌜ SeasonLent (now s) (now tables) (now grid) (now rises) at × (6 * rowsOf (now s) ≤ length (now words)) × SeasonFits (now s) (at .season) (now words) ⌝ }
+    ensures { λ _. ⌜ now (words .exit) ≡ filled (seasonAdded (now (s .entry)) (at .season) (now (words .entry))) (6 * rowsOf (now (s .entry))) (now (words .entry)) ⌝ }
+{
+    let season = at.season;
+    let rows = rows_of(s);
+    let mut i: usize = 0;
+    while i < rows {
+        let figures = row_figures(tables, grid, rises, at, row_at(s, i));
+        add_days(words, 6 * i, season.days, figures);
+        i += 1;
+    }
+}
+
+// Season j: its values at the marks, its rises and its means are made once, for all rows.
+fn add_season(tables: &[u64; 578], grid: &[u64; 673], s: &[u8], j: usize, words: &mut [u64])
+    requires { ⌜ SheetLent (now s) (now tables) (now grid) × (j < seasonsOf (now s)) × RowsHold (yearWord (now s) j) (now s) (now words) ⌝ }
+    ensures { λ _. ⌜ now (words .exit) ≡ filled (yearWord (now (s .entry)) (j + 1)) (6 * rowsOf (now (s .entry))) (now (words .entry)) ⌝ }
+{
+    let season = season_at(s, j);
+    let marks = at_marks(tables, season);
+    let rises = walk(&marks.step);
+    let at = at_season(grid, &rises, season, marks);
+    add_rows(tables, grid, &rises, at, s, words);
+}
+
+// All seasons.
+fn add_seasons(tables: &[u64; 578], grid: &[u64; 673], s: &[u8], words: &mut [u64])
+    requires { ⌜ SheetLent (now s) (now tables) (now grid) × RowsHold (yearWord (now s) 0) (now s) (now words) ⌝ }
+    ensures { λ _. ⌜ now (words .exit) ≡ filled (yearWord (now (s .entry)) (seasonsOf (now (s .entry)))) (6 * rowsOf (now (s .entry))) (now (words .entry)) ⌝ }
+{
+    let seasons = seasons_of(s);
+    let mut j: usize = 0;
+    while j < seasons {
+        add_season(tables, grid, s, j, words);
+        j += 1;
+    }
+}
+
+// The whole year of an accepted sheet is added to words that are 0. The tables and the grid are made once.
+pub fn add_year(s: &[u8], words: &mut [u64])
+    requires { ⌜ (sheetCheck (now s) ≡ Pass) × RowsHold (yearWord (now s) 0) (now s) (now words) ⌝ }
+    ensures { λ _. ⌜ now (words .exit) ≡ filled (yearWord (now (s .entry)) (seasonsOf (now (s .entry)))) (6 * rowsOf (now (s .entry))) (now (words .entry)) ⌝ }
+{
+    let tables = tables();
+    let grid = sheet_grid(s);
+    add_seasons(&tables, &grid, s, words);
+}

@@ -1,0 +1,155 @@
+-- What the program averages is the escape of the definitions: with a canister what breaks through in each cell, without one the vapour
+-- of the mean rise.
+use mathlib.Core.Bool.{Bool, true, false}
+use mathlib.Core.List.{List, [], _∷_}
+use mathlib.Core.Path.{_≡_, refl, _∙_, ap, ap₂}
+use Prim.Native.Nat.{ℕ, zero, suc, _+_, _*_, _/_, _^_, _≤_, _<_}
+use native.Mathlib.Omega.{arith}
+use native.Mathlib.Nat.{le-of-lt}
+use lib.ListN.{length}
+use Rattle.numbers.specs.Lists.{tab, at, AllAtMost}
+use Rattle.numbers.proofs.Lists.{getD-tab, tab-at-most, tab-ext}
+use Rattle.exact.specs.declared.Canister.{Canister}
+use Rattle.exact.specs.declared.Canister.the-variants.{None, Small, Medium, Large}
+use Rattle.exact.specs.declared.Season.{Season}
+use Rattle.exact.specs.declared.Row.{Row}
+use Rattle.marks.specs.Marks.{markWarmth, raise, rate, tenths}
+use Rattle.exact.specs.Factors.{endHour, duration}
+use Rattle.marks.specs.AtMarks.{raisesBy, ratesAt}
+use Rattle.marks.proofs.Heat.{raise-most}
+use Rattle.marks.proofs.Permeation.{rate-most}
+use Rattle.marks.proofs.Rise.{rise-most}
+use Rattle.marks.proofs.Season.{warmth-most}
+use Rattle.factors.proofs.Losses.{duration-most}
+use Rattle.factors.specs.Range.{RowInRange}
+use Rattle.marks.specs.Range.{SeasonInRange}
+use Rattle.factors.specs.Escape.{halves}
+use Rattle.factors.specs.Means.{meanUnits}
+use Rattle.factors.specs.Units.{gain, parkingRise, parkingRates, vapourUnits, throughUnits, escapeUnits, escapeOverUnits, openUnits, startOf, endOf}
+use Rattle.factors.proofs.Mean.{meanUnits-most}
+use Rattle.factors.proofs.Sizes.{parking-rise-most, raise-rise-most}
+use Rattle.parking.specs.Grid.{markOf, passedIn}
+use Rattle.parking.proofs.Passed.{passedIn-tab}
+use Rattle.parking.proofs.Tally.{markOf-below}
+use Rattle.parking.proofs.Weighted.{mean-ext, mean-below}
+use Rattle.breakthrough.specs.declared.curves.Curves.{Curves}
+use Rattle.breakthrough.specs.Through.{curveAt, through}
+use Rattle.breakthrough.specs.Curves.{CurvesOf}
+use Rattle.breakthrough.proofs.Fitted.{through-is}
+use Rattle.row_factors.specs.Season.{meanAt}
+use Rattle.row_factors.specs.Seven.{parkingThrough, raiseThrough, parkingEscape}
+
+module _ (season : Season) (row : Row) (counts : List ℕ) where
+  -- with a canister the escape of each cell is averaged
+  escape-through : (c : Canister) → 0 < halves c → (mark rise : ℕ → ℕ)
+      → meanUnits counts (λ (cell : ℕ). throughUnits season row (mark cell) (rise cell)) ≡ escapeUnits season row counts c mark rise
+  unfolding halves escapeUnits
+  escape-through None h mark rise = absurd (omega arith)
+  escape-through Small h mark rise = refl
+  escape-through Medium h mark rise = refl
+  escape-through Large h mark rise = refl
+
+  -- and a trip loses no vapour
+  pub open-shut : (c : Canister) → 0 < halves c → (raised : ℕ) → 0 ≡ openUnits season row counts c raised
+  unfolding halves openUnits
+  open-shut None h raised = absurd (omega arith)
+  open-shut Small h raised = refl
+  open-shut Medium h raised = refl
+  open-shut Large h raised = refl
+
+  -- without canister the rise is averaged first
+  escape-open : (c : Canister) → halves c ≡ 0 → (mark rise : ℕ → ℕ)
+      → gain season row * meanUnits counts rise / 2 ^ 40 ≡ escapeUnits season row counts c mark rise
+  unfolding halves escapeUnits vapourUnits
+  escape-open None e mark rise = refl
+  escape-open Small e mark rise = absurd (omega arith)
+  escape-open Medium e mark rise = absurd (omega arith)
+  escape-open Large e mark rise = absurd (omega arith)
+
+  -- on a trip too
+  open-open : (c : Canister) → halves c ≡ 0 → (raised : ℕ)
+      → gain season row * meanUnits counts (λ (cell : ℕ). raise raised (markWarmth season (endOf cell))) / 2 ^ 40 ≡ openUnits season row counts c raised
+  unfolding halves openUnits vapourUnits
+  open-open None e raised = refl
+  open-open Small e raised = absurd (omega arith)
+  open-open Medium e raised = absurd (omega arith)
+  open-open Large e raised = absurd (omega arith)
+
+-- How large the values at the marks are.
+module _ {season : Season} (s : SeasonInRange season) where
+  pub raise-list-most : (k : ℕ) {xs : List ℕ} → k ≤ 60 → xs ≡ tab (raisesBy season k) 48 → AllAtMost (56 * 2 ^ 40) xs
+  raise-list-most k h e = tab-at-most _ 48 e (λ mark _. raise-most (tenths k) (markWarmth season mark) (omega arith) (warmth-most mark s))
+
+  pub raise-list-fits : (k : ℕ) {xs : List ℕ} → k ≤ 60 → xs ≡ tab (raisesBy season k) 48 → AllAtMost (2 ^ 54) xs
+  raise-list-fits k h e = record { at-most = λ i. omega (arith, raise-list-most k h e .at-most i) }
+
+  pub rate-list-most : (k : ℕ) {xs : List ℕ} → k ≤ 150 → xs ≡ tab (ratesAt season k) 48 → AllAtMost (2 ^ 40) xs
+  rate-list-most k h e =
+      tab-at-most _ 48 e
+      (λ mark _. le-of-lt (rate-most (season .vp) (markWarmth season mark + tenths k) (s .vp-most) (omega (arith, warmth-most mark s))))
+
+  -- a raise by nothing
+  pub rates-plain : {xs : List ℕ} → xs ≡ tab (λ (i : ℕ). rate (season .vp) (markWarmth season i)) 48 → xs ≡ tab (ratesAt season 0) 48
+  rates-plain e = e ∙ tab-ext 48 (λ i _. ap (rate (season .vp)) (omega arith))
+
+  -- and what passed of them
+  pub rates-in : {xs : List ℕ} → xs ≡ tab (λ (i : ℕ). rate (season .vp) (markWarmth season i)) 48 → (cell : ℕ) → passedIn xs cell ≡ parkingRates season cell
+  unfolding parkingRates
+  rates-in e cell = passedIn-tab _ e cell
+
+  pub rate-list-fits : (k : ℕ) {xs : List ℕ} → k ≤ 150 → xs ≡ tab (ratesAt season k) 48 → AllAtMost (2 ^ 54) xs
+  rate-list-fits k h e = record { at-most = λ i. omega (arith, rate-list-most k h e .at-most i) }
+
+  pub rises-most : {xs : List ℕ} → xs ≡ tab (parkingRise season) 576 → AllAtMost (450 * 2 ^ 40) xs
+  unfolding parkingRise
+  rises-most e = tab-at-most _ 576 e (λ cell _. rise-most (markWarmth season) (λ i. warmth-most i s) (endHour cell) (duration cell) (duration-most cell))
+
+-- A row with a canister, whose values at the marks these are.
+module _ {season : Season} {row : Row} {c : Curves} (f : CurvesOf season row c) (p : 0 < halves (row .canister)) (cells : List ℕ) where
+  -- in a parking
+  pub parking-escape : {rises : List ℕ} → length cells ≡ 576 → rises ≡ tab (parkingRise season) 576 → parkingThrough cells rises c ≡ parkingEscape season row cells
+  parking-escape l e =
+      mean-below cells l (λ cell h. rw (e, getD-tab (parkingRise season) 576 cell h) (through-is f (startOf cell) _ (markOf-below false cell))) ∙
+      escape-through season row cells (row .canister) p startOf (parkingRise season)
+
+  -- over a raise by so many tenths of °C
+  pub raise-escape : (ends : Bool) (k : ℕ) {raises : List ℕ} → raises ≡ tab (raisesBy season k) 48
+      → raiseThrough cells ends raises c ≡ escapeOverUnits season row cells (markOf ends) (tenths k)
+  unfolding escapeOverUnits
+  raise-escape ends k e =
+      mean-ext cells
+      (λ cell. rw (e, getD-tab (raisesBy season k) 48 (markOf ends cell) (markOf-below ends cell)) (through-is f (markOf ends cell) _ (markOf-below ends cell))) ∙
+      escape-through season row cells (row .canister) p (markOf ends) (λ (cell : ℕ). raisesBy season k (markOf ends cell))
+
+-- A row without canister: the vapour of the mean rise.
+module _ (season : Season) (row : Row) (cells : List ℕ) (none : halves (row .canister) ≡ 0) {v : ℕ} (g : v ≡ gain season row) where
+  pub open-parking : {x : ℕ} → x ≡ meanUnits cells (parkingRise season) → v * x / 2 ^ 40 ≡ parkingEscape season row cells
+  open-parking e = ap₂ (λ (g x : ℕ). g * x / 2 ^ 40) g e ∙ escape-open season row cells (row .canister) none _ _
+
+  pub open-raise : (mark : ℕ → ℕ) (k : ℕ) {x : ℕ} → x ≡ meanAt cells mark (raisesBy season k) → v * x / 2 ^ 40 ≡ escapeOverUnits season row cells mark (tenths k)
+  unfolding escapeOverUnits
+  open-raise mark k e = ap₂ (λ (g x : ℕ). g * x / 2 ^ 40) g e ∙ escape-open season row cells (row .canister) none _ _
+
+  pub open-trip : (k : ℕ) {x : ℕ} → x ≡ meanAt cells endOf (raisesBy season k) → v * x / 2 ^ 40 ≡ openUnits season row cells (row .canister) (tenths k)
+  open-trip k e = ap₂ (λ (g x : ℕ). g * x / 2 ^ 40) g e ∙ open-open season row cells (row .canister) none _
+
+-- How large the mean rises are.
+module _ {season : Season} {row : Row} (s : SeasonInRange season) (r : RowInRange season row) (cells : List ℕ) where
+  pub rise-mean-most : {x : ℕ} → x ≡ meanUnits cells (parkingRise season) → x ≤ 450 * 2 ^ 40
+  rise-mean-most e = omega (arith, e, meanUnits-most cells (parkingRise season) (450 * 2 ^ 28) (λ cell. omega (arith, parking-rise-most s r cell)))
+
+  pub raise-mean-most : (mark : ℕ → ℕ) (k : ℕ) {x : ℕ} → k ≤ 60 → x ≡ meanAt cells mark (raisesBy season k) → x ≤ 450 * 2 ^ 40
+  raise-mean-most mark k h e =
+      omega (arith, e, meanUnits-most cells (λ (cell : ℕ). raisesBy season k (mark cell)) (56 * 2 ^ 28) (λ cell. omega (arith, raise-rise-most s r k (mark cell) h)))
+
+-- five of them
+pub five-most : {a b c d e bound : ℕ} → a ≤ bound → b ≤ bound → c ≤ bound → d ≤ bound → e ≤ bound → AllAtMost bound (a ∷ b ∷ c ∷ d ∷ e ∷ [])
+five-most {a} {b} {c} {d} {e} {bound} p q r s t = record { at-most = each }
+  where
+    each : (k : ℕ) → at (a ∷ b ∷ c ∷ d ∷ e ∷ []) k ≤ bound
+    each zero = p
+    each (suc zero) = q
+    each (suc (suc zero)) = r
+    each (suc (suc (suc zero))) = s
+    each (suc (suc (suc (suc zero)))) = t
+    each (suc (suc (suc (suc (suc k))))) = omega arith

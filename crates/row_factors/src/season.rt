@@ -1,0 +1,72 @@
+// What a season gives to every row: its values at the marks, and the means that no row changes.
+use exact::Season;
+use marks::Marks;
+use parking::means::mean_by_cell;
+use parking::means::mean_by_mark;
+use parking::walk::halved;
+use parking::walk::walk;
+ghost use mathlib.Core.Path.{_≡_};
+ghost use Prim.Native.Nat.{ℕ, _/_, _^_};
+ghost use Rattle.numbers.specs.Lists.{AllAtMost};
+ghost use Rattle.factors.specs.Means.{meanUnits};
+ghost use Rattle.parking.specs.Grid.{cellsIn, GridReady, passedIn};
+ghost use Rattle.row_factors.specs.Season.{MarksReady, AtSeasonOf};
+
+// Means over the cells, in units of 2^-28.
+pub struct Means {
+    // The rise of E(0.0716 T) in a parking.
+    pub rise: u64,
+    // Permeation in grams: in a parking, in an hour at T1 + 11, and in an hour at T2 + 15.
+    pub permeation: u64,
+    pub soak: u64,
+    pub run: u64,
+    // The rise of E(0.0716 T) when T is raised by so many tenths of a degree, from the start or from the end of a parking.
+    pub end10: u64,
+    pub start15: u64,
+    pub end25: u64,
+    pub start35: u64,
+    pub start45: u64,
+    pub end50: u64,
+    pub start60: u64,
+}
+
+pub struct AtSeason {
+    pub season: Season,
+    pub marks: Marks,
+    pub means: Means,
+}
+
+// The permeation in a parking: half of the hourly rates at its marks.
+fn permeation_mean(grid: &[u64; 673], rates: &[u64; 48]) -> u64
+    requires { ⌜ GridReady (now grid) × AllAtMost (2 ^ 40) (now rates) ⌝ }
+    ensures { λ r. ⌜ r ≡ meanUnits (cellsIn (now (grid .entry))) (λ (cell : ℕ). passedIn (now (rates .entry)) cell / 2) ⌝ }
+{
+    let sums = walk(rates);
+    let halves = halved(&sums);
+    mean_by_cell(grid, &halves)
+}
+
+// The means of a season, from the rises of its parkings and its values at the marks.
+pub fn at_season(grid: &[u64; 673], rises: &[u64; 576], season: Season, marks: Marks) -> AtSeason
+    requires { ⌜ GridReady (now grid) × MarksReady season marks (now rises) ⌝ }
+    ensures { λ r. ⌜ AtSeasonOf season marks (cellsIn (now (grid .entry))) r ⌝ }
+{
+    let means = Means {
+        rise: mean_by_cell(grid, rises),
+        permeation: permeation_mean(grid, &marks.rate),
+        soak: mean_by_mark(grid, false, &marks.soak),
+        run: mean_by_mark(grid, true, &marks.run),
+        end10: mean_by_mark(grid, true, &marks.raise10),
+        start15: mean_by_mark(grid, false, &marks.raise15),
+        end25: mean_by_mark(grid, true, &marks.raise25),
+        start35: mean_by_mark(grid, false, &marks.raise35),
+        start45: mean_by_mark(grid, false, &marks.raise45),
+        end50: mean_by_mark(grid, true, &marks.raise50),
+        start60: mean_by_mark(grid, false, &marks.raise60),
+    };
+    AtSeason {
+        season,
+        marks,
+        means,
+    }
+}

@@ -1,0 +1,87 @@
+// The seven factors of a row in a season, in units of 2^-28 g.
+use crate::escapes::Escapes;
+use crate::escapes::car;
+use crate::escapes::two_wheeler;
+use crate::season::AtSeason;
+use crate::season::Means;
+use bounds::exp::exponential;
+use exact::Row;
+use exact::Season;
+ghost use mathlib.Core.Path.{_≡_};
+ghost use Prim.Native.Nat.{_+_, _*_, _^_, _<_, _≤_};
+ghost use Rattle.bounds.specs.Exponential.{entries};
+ghost use Rattle.marks.specs.Range.{SeasonInRange};
+ghost use Rattle.factors.specs.Range.{RowInRange};
+ghost use Rattle.factors.specs.Units.{gain};
+ghost use Rattle.parking.specs.Grid.{cellsIn};
+ghost use Rattle.row_factors.specs.Season.{Lent};
+ghost use Rattle.row_factors.specs.Seven.{CarFits, carSeven, twoWheelerSeven, sevenUnits};
+
+// E(0.0205 vp): what the exponent gains with each tenth of a kPa, and what it is at 0.
+const VAPOUR_EXPONENT: u64 = 205000000000;
+
+const ZERO_EXPONENT: u64 = 1600000000000000;
+
+// Grams of vapour for a rise of 1 in E(0.0716 T).
+fn gain(tables: &[u64; 578], season: Season, row: Row) -> u64
+    requires { ⌜ (now tables ≡ entries) × SeasonInRange season × RowInRange season row ⌝ }
+    ensures { λ r. ⌜ (r ≡ gain season row) × (r ≤ 36 * 2 ^ 40) ⌝ }
+{
+    (100 - row.fill) * row.tank * exponential(tables, VAPOUR_EXPONENT * season.vp + ZERO_EXPONENT)
+        / 40000
+}
+
+// The factors of a car: permeation in a parking, in a soak and in the minutes of a trip, and the escapes besides.
+fn car_units(e: Escapes, m: Means, minutes: u64) -> [u64; 7]
+    requires { ⌜ CarFits e m minutes ⌝ }
+    ensures { λ r. ⌜ r ≡ carSeven e m minutes ⌝ }
+{
+    let run = minutes * m.run / 60;
+    [
+        e.parking + m.permeation,
+        m.soak,
+        e.soak + m.soak,
+        e.hotsoak + m.soak,
+        run,
+        run + e.trip,
+        run + e.hottrip,
+    ]
+}
+
+// The factors of a two-wheeler: permeation counts in a parking alone.
+fn two_wheeler_units(e: Escapes, m: Means) -> [u64; 7]
+    requires { ⌜ e .parking + m .permeation < 2 ^ 64 ⌝ }
+    ensures { λ r. ⌜ r ≡ twoWheelerSeven e m ⌝ }
+{
+    [
+        e.parking + m.permeation,
+        e.soak,
+        e.hotsoak,
+        e.hotsoak,
+        e.trip,
+        e.hottrip,
+        e.hottrip,
+    ]
+}
+
+// The seven factors of a row.
+pub fn row_units(
+    tables: &[u64; 578],
+    grid: &[u64; 673],
+    rises: &[u64; 576],
+    at: AtSeason,
+    row: Row,
+) -> [u64; 7]
+    requires { ⌜ Lent (now tables) (now grid) (now rises) at × RowInRange (at .season) row ⌝ }
+    ensures { λ r. ⌜ r ≡ sevenUnits (at .season) row (cellsIn (now (grid .entry))) ⌝ }
+{
+    let vapour = gain(tables, at.season, row);
+    let means = at.means;
+    if row.class < 5 {
+        let e = car(tables, grid, rises, at, row, vapour);
+        car_units(e, means, row.minutes)
+    } else {
+        let e = two_wheeler(tables, grid, rises, at, row, vapour);
+        two_wheeler_units(e, means)
+    }
+}
