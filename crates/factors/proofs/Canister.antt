@@ -15,7 +15,7 @@ use Rattle.exact.specs.declared.Canister.the-variants.{None, Small, Medium, Lar
 use Rattle.exact.specs.declared.Season.{Season}
 use Rattle.exact.specs.declared.Row.{Row}
 use Rattle.exact.specs.Canister.{a, b, breakthrough}
-use Rattle.exact.proofs.Temperature.{markθ-below-highest}
+use Rattle.sheet.proofs.Temperature.{markWarmth-below-highest}
 use Rattle.marks.specs.Range.{shifted, SeasonInRange}
 use Rattle.marks.specs.Marks.{held}
 use Rattle.marks.proofs.Season.{season-temperate, held-most}
@@ -121,7 +121,7 @@ module _ {season : Season} {row : Row} (s : SeasonInRange season) (r : RowInRang
   saturated i =
       loaded-≤ _ _ (row .saturation)
       (lower-exponent (row .canister) (season .vp) (held season i) (shifted (season .highest)) (row .saturation) (s .vp-most)
-      (markθ-below-highest i (season-temperate s)) (r .exponent-most))
+      (markWarmth-below-highest i (season-temperate s)) (r .exponent-most))
 
   -- m_sat ≤ 368.5 g
   pub saturation-most : 0 < halves (row .canister) → row .saturation ≤ 3685

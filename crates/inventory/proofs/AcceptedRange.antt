@@ -67,8 +67,8 @@ cells-in-range {s} a = record {
 -- season i
 pub season-in-range : {s : List ℕ} {i : ℕ} → Bytes s → AcceptedSeason s i → SeasonInRange (seasonAt s i)
 season-in-range bytes a =
-    let t = a .temperatures bytes in
-    record { lowest-bits = t .lowest-bits; highest-bits = t .highest-bits; order = t .order; warm = t .warm; vp-most = a .vp-most }
+    let t = a .in-range bytes in
+    record { lowest-bits = t .lowest-bits; highest-bits = t .highest-bits; order = t .order; warm = t .warm; vp-most = t .vp-most }
 
 -- check 20 in whole numbers, for a canister of size s in so many halves
 reached-most : (season : Season) (s : Fraction) (halved saturation : ℕ) → SeasonInRange season → s ≈ᶠ whole halved over 2

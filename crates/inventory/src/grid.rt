@@ -2,8 +2,8 @@
 use factors::grid::cells;
 use factors::grid::mark_counts;
 use factors::grid::total;
-use sheet::fields::duration_counts;
-use sheet::fields::hour_counts;
+use fields::duration_counts;
+use fields::hour_counts;
 ghost use mathlib.Core.Path.{_≡_};
 ghost use Rattle.factors.specs.Grid.{CellsInRange};
 ghost use Rattle.sheet.specs.declared.Check.the-variants.{Pass};

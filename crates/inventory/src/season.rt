@@ -1,7 +1,7 @@
 // What a season of an accepted sheet gives to every row.
 use factors::season::AtSeason;
 use factors::season::at_season;
-use sheet::fields::season_at;
+use fields::season_at;
 ghost use mathlib.Core.Path.{_≡_};
 ghost use Prim.Native.Nat.{_<_};
 ghost use Rattle.bounds.specs.Exponential.{high, middle};

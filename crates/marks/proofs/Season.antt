@@ -6,14 +6,15 @@ use Rattle.bounds.specs.Power.{degrees}
 use Rattle.numbers.proofs.Order.{≈-refl, ≈-trans, +-cong}
 use Rattle.exact.specs.declared.Season.{Season}
 use Rattle.exact.specs.Day.{temperature}
-use Rattle.exact.proofs.Temperature.{Temperate, markθ-most, temperature-is}
+use Rattle.sheet.specs.Range as sheet
+use Rattle.sheet.proofs.Temperature.{markWarmth-most, temperature-is}
 use Rattle.marks.specs.Range.{SeasonInRange}
 use Rattle.marks.specs.Marks.{held, tenths}
 
--- what a sheet says of a season makes it temperate
-pub season-temperate : {season : Season} → SeasonInRange season → Temperate season
+-- the same, as the sheet's crate says it
+pub season-temperate : {season : Season} → SeasonInRange season → sheet.SeasonInRange season
 season-temperate s =
-    record { lowest-bits = s .lowest-bits; highest-bits = s .highest-bits; order = s .order; warm = s .warm }
+    record { lowest-bits = s .lowest-bits; highest-bits = s .highest-bits; order = s .order; warm = s .warm; vp-most = s .vp-most }
 
 -- degrees θ + k/10
 degrees-tenths : (θ k : ℕ) → degrees θ +ᶠ k /10^ 1 ≈ᶠ degrees (θ + tenths k)
@@ -29,7 +30,7 @@ module _ {season : Season} (i : ℕ) (s : SeasonInRange season) where
   -- at most 50 °C
   pub held-most : held season i ≤ 80 * 10 ^ 10
   unfolding held
-  held-most = markθ-most i (season-temperate s)
+  held-most = markWarmth-most i (season-temperate s)
 
   -- T(i)
   pub temperature-held : temperature season i ≈ᶠ degrees (held season i)

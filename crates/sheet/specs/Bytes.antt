@@ -1,5 +1,5 @@
 -- The fields of a sheet, version 1, as document 01 places them. "Integers are little-endian, offsets decimal". Definitions only.
-use mathlib.Core.Bool.{Bool, true, false}
+use mathlib.Core.Bool.{true, false}
 use mathlib.Core.List.{List, [], _∷_}
 use Prim.Native.Nat.{ℕ, suc, zero, _+_, _*_}
 use lib.Dec.{eqb}

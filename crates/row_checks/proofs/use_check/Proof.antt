@@ -1,0 +1,21 @@
+-- `row_checks::use_check` meets its contract.
+-- Assumes nothing.
+use borrow.Author.Needs.{needs}
+use Rattle.row_checks.proofs.use_check.Statement.{statement}
+use Rattle.row_checks.proofs.use_check.Tie as tie
+
+returns : tie.Need-returns
+returns c = cc
+
+pub use-check-spec : {M : Type 1} → statement M
+use-check-spec =
+    tie.close
+    (tie.spec
+    (λ c κs. search needs)
+    (λ c. search needs)
+    (λ c κs. search needs)
+    (λ c κs. search needs)
+    (λ c κs. search needs)
+    (λ c κs. search needs)
+    (λ c κs. search needs)
+    returns)
