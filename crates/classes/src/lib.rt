@@ -1,10 +1,11 @@
-// The class and technology table of document 01, and what a row leaves to its class.
+// The class and technology table of document 01, what a row leaves to its class, and the sizes of canisters.
 use exact::Canister;
 use exact::Equipment;
 ghost use mathlib.Core.Path.{_≡_};
 ghost use Prim.Native.Nat.{_*_, _≤_};
 ghost use Rattle.exact.specs.Classes.{smallFirst, mediumFirst, without, alwaysSmall, atTechnology, equipment};
 ghost use Rattle.sheet.specs.Bytes.{fittedCanister, fittedTank, canisterOf, tankOf};
+ghost use Rattle.sheet.specs.Range.{halves};
 
 // Classes 1, 2 and 4, by technology.
 fn small_first(litres: u64, technology: u64) -> Equipment
@@ -122,5 +123,17 @@ pub fn tank_of(tenths: u64, e: Equipment) -> u64
     match tenths {
         0 => fitted_tank(e),
         _ => tenths,
+    }
+}
+
+// The size s of a canister in halves: 2, 1 and 1/2 for small, medium and large.
+pub fn halves(canister: Canister) -> u64
+    ensures { λ r. ⌜ (r ≡ halves canister) × (r ≤ 4) ⌝ }
+{
+    match canister {
+        Canister::None => 0,
+        Canister::Small => 4,
+        Canister::Medium => 2,
+        Canister::Large => 1,
     }
 }

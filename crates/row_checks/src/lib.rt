@@ -1,4 +1,5 @@
 // Each row: numbers 13 to 21.
+use classes::halves;
 use exact::Canister;
 use exact::Equipment;
 use exact::Row;
@@ -29,7 +30,7 @@ ghost use Rattle.sheet.specs.Limits.{vehiclesLimit, tankLimit, tripsLimit, minu
 ghost use Rattle.sheet.specs.Bytes.{u8At, u16At, seasonsOf, rowsOf, rowPlace, equipmentAt};
 ghost use Rattle.sheet.specs.Check.{refuse, _then_, each};
 ghost use Rattle.sheet.specs.Sheet.{isAbsent, codeWrong, percentWrong, loadWrong, saturationWrong, someSeason, rowCheck};
-ghost use Rattle.sheet.specs.Range.{SeasonInRange, halves};
+ghost use Rattle.sheet.specs.Range.{SeasonInRange};
 ghost use Rattle.row_checks.specs.Passed.{SeasonsPassed};
 
 // The largest code that names a canister, and the code that leaves it to the class.
@@ -70,18 +71,6 @@ fn load_wrong(canister: Canister, load: u64, saturation: u64) -> bool
         Canister::Small => saturation < load,
         Canister::Medium => saturation < load,
         Canister::Large => saturation < load,
-    }
-}
-
-// The size s of a canister in halves: 2, 1 and 1/2 for small, medium and large.
-fn halves(canister: Canister) -> u64
-    ensures { λ r. ⌜ (r ≡ halves canister) × (r ≤ 4) ⌝ }
-{
-    match canister {
-        Canister::None => 0,
-        Canister::Small => 4,
-        Canister::Medium => 2,
-        Canister::Large => 1,
     }
 }
 

@@ -85,7 +85,8 @@ season-accepted s i (((least, most), together), (((cold, order), warm), (vp-leas
 }
 
 -- a tank that is written, or the class's
-tank-between : (written class technology : ℕ) → ¬ (equipment class technology ≡ Absent) → written ≤ tankLimit → (1 ≤ tankOf written (equipment class technology)) × (tankOf written (equipment class technology) ≤ tankLimit)
+tank-between : (written class technology : ℕ) → ¬ (equipment class technology ≡ Absent) → written ≤ tankLimit
+    → (1 ≤ tankOf written (equipment class technology)) × (tankOf written (equipment class technology) ≤ tankLimit)
 unfolding tankOf
 tank-between zero class technology n h = let (low, high) = equipment-tank class technology n in (omega arith, omega arith)
 tank-between (suc tenths) class technology n h = (omega arith, h)

@@ -116,7 +116,8 @@ judges-then {c} {d} j k = record {
 
 -- one test, then the rest
 infixr 4 _⊳_
-pub _⊳_ : {wrong : Bool} {number place : ℕ} {A : Type 0} {d : Check} {E : Demands} → Tests wrong A → Judges d E → Judges (refuse wrong number place then d) (demand number place A next E)
+pub _⊳_ : {wrong : Bool} {number place : ℕ} {A : Type 0} {d : Check} {E : Demands}
+    → Tests wrong A → Judges d E → Judges (refuse wrong number place then d) (demand number place A next E)
 t ⊳ j = judges-then (judges-refuse t) j
 
 -- one check for each record judges one demand for each

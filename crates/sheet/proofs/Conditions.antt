@@ -38,6 +38,7 @@ numbersDemands s =
     demand 5 6 ((1 ≤ rowsOf s) × (rowsOf s ≤ rowsLimit)) next
     demand 6 7 (u8At s 7 ≡ 0)
 
+-- Head: the mark, then the numbers
 abbrev pub headDemands : List ℕ → Demands
 headDemands s = markDemands s next numbersDemands s
 
@@ -97,7 +98,7 @@ rowDemands s i =
     demand 20 place ((j : ℕ) → j < seasonsOf s → (size : Fraction) → Size (row .canister) size → AtMost3 (seasonAt s j) size (row .saturation)) next
     demand 21 place (row .reserved ≡ 0)
 
--- "records one after another", in table and file order
+-- the whole table, "in table and file order"
 abbrev pub demands : List ℕ → Demands
 demands s =
     headDemands s next
@@ -176,7 +177,8 @@ unfolding above3
 above3-tests season s saturation = tests-as (λ h size e. rw e h) (λ f. f s refl) (not-tests (≤-shows _ _))
 
 -- and for the size of the canister, if there is one
-pub saturation-tests : (c : Canister) (saturation : ℕ) (season : Season) → Tests (saturationWrong c saturation season) ((size : Fraction) → Size c size → AtMost3 season size saturation)
+pub saturation-tests : (c : Canister) (saturation : ℕ) (season : Season)
+    → Tests (saturationWrong c saturation season) ((size : Fraction) → Size c size → AtMost3 season size saturation)
 unfolding saturationWrong
 saturation-tests None saturation season = record { holds = λ _ size n. absurd n; fails = λ e. absurd (true-is-not-false (sym e)) }
 saturation-tests Small saturation season = above3-tests season (whole 2) saturation
@@ -184,7 +186,8 @@ saturation-tests Medium saturation season = above3-tests season (whole 1) satura
 saturation-tests Large saturation season = above3-tests season (5 /10^ 1) saturation
 
 -- a test at some season demands the same of every season
-some-tests : {P : Season → Type 0} (wrong : Season → Bool) → ((season : Season) → Tests (wrong season) (P season)) → (s : List ℕ) (n : ℕ) → Tests (someSeason wrong s n) ((j : ℕ) → j < n → P (seasonAt s j))
+some-tests : {P : Season → Type 0} (wrong : Season → Bool) → ((season : Season) → Tests (wrong season) (P season))
+    → (s : List ℕ) (n : ℕ) → Tests (someSeason wrong s n) ((j : ℕ) → j < n → P (seasonAt s j))
 unfolding someSeason
 some-tests wrong t s zero =
     record { holds = λ _ j l. absurd (omega arith); fails = λ e. absurd (true-is-not-false (sym e)) }
@@ -265,7 +268,9 @@ pub record Conditions (s : List ℕ) (p : ℕ) : Type 0 where
   pub durations : sheetCheck s ≡ Refused 8 p → (p ≡ 8) × ¬ ((1 ≤ total (durationCounts s)) × (total (durationCounts s) ≤ 1000))
   pub hours : sheetCheck s ≡ Refused 9 p → (p ≡ 56) × ¬ ((1 ≤ total (hourCounts s)) × (total (hourCounts s) ≤ 1000))
   pub days : sheetCheck s ≡ Refused 10 p → NotInSeason s p (λ (season : Season) (before : ℕ). ((1 ≤ season .days) × (season .days ≤ 366)) × (before + season .days ≤ 366))
-  pub temperatures : sheetCheck s ≡ Refused 11 p → NotInSeason s p (λ (season : Season) (before : ℕ). ((negᶠ (300 /10^ 1) ≤ᶠ signedTenths (season .lowest)) × (signedTenths (season .lowest) ≤ᶠ signedTenths (season .highest))) × (signedTenths (season .highest) ≤ᶠ 500 /10^ 1))
+  pub temperatures : sheetCheck s ≡ Refused 11 p
+      → NotInSeason s p (λ (season : Season) (before : ℕ). ((negᶠ (300 /10^ 1) ≤ᶠ signedTenths (season .lowest)) × (signedTenths (season .lowest) ≤ᶠ signedTenths (season .highest)))
+      × (signedTenths (season .highest) ≤ᶠ 500 /10^ 1))
   pub vapour-pressure : sheetCheck s ≡ Refused 12 p → NotInSeason s p (λ (season : Season) (before : ℕ). (300 ≤ season .vp) × (season .vp ≤ 1100))
   pub class-technology : sheetCheck s ≡ Refused 13 p → NotInRow s p (λ (row : Row) (place : ℕ). ¬ (equipmentAt s place ≡ Absent))
   pub canister-code : sheetCheck s ≡ Refused 14 p → NotInRow s p (λ (row : Row) (place : ℕ). (u8At s (place + 2) ≤ 3) ⊎ (u8At s (place + 2) ≡ 255))
@@ -274,10 +279,11 @@ pub record Conditions (s : List ℕ) (p : ℕ) : Type 0 where
   pub tank : sheetCheck s ≡ Refused 17 p → NotInRow s p (λ (row : Row) (place : ℕ). u16At s (place + 6) ≤ 1500)
   pub trips-minutes : sheetCheck s ≡ Refused 18 p → NotInRow s p (λ (row : Row) (place : ℕ). (row .trips ≤ 2000) × (row .minutes ≤ 1440))
   pub loads : sheetCheck s ≡ Refused 19 p → NotInRow s p (λ (row : Row) (place : ℕ). (row .load ≤ row .saturation) × (row .canister ≡ None → row .saturation ≡ 0))
-  pub saturation : sheetCheck s ≡ Refused 20 p → NotInRow s p (λ (row : Row) (place : ℕ). (j : ℕ) → j < seasonsOf s → (size : Fraction) → Size (row .canister) size → AtMost3 (seasonAt s j) size (row .saturation))
+  pub saturation : sheetCheck s ≡ Refused 20 p
+      → NotInRow s p (λ (row : Row) (place : ℕ). (j : ℕ) → j < seasonsOf s → (size : Fraction) → Size (row .canister) size → AtMost3 (seasonAt s j) size (row .saturation))
   pub bytes-20-to-23 : sheetCheck s ≡ Refused 21 p → NotInRow s p (λ (row : Row) (place : ℕ). row .reserved ≡ 0)
 
--- "Only where its condition holds"
+-- "a number is returned only where its condition holds"
 pub conditions : (s : List ℕ) (p : ℕ) → Conditions s p
 conditions s p =
     let only : (n : ℕ) → sheetCheck s ≡ Refused n p → Broken n p (demands s) = λ n h. broken n p (demands s) (refused s n p h) in

@@ -36,7 +36,8 @@ unfolding b _+ᶠ_ _-ᶠ_ negᶠ _*ᶠ_ _/10^_
 b-nonNegative h k = nonNegative-up (b-mono h k) (record { nonneg = lit≤ tt })
 
 -- a + b·s·m grows with T and m
-pub exponent-mono : (vp : Fraction) {T T' s m m' : Fraction} → NonNegative (b vp T) → NonNegative s → NonNegative m → T ≤ᶠ T' → m ≤ᶠ m' → a vp T +ᶠ b vp T *ᶠ s *ᶠ m ≤ᶠ a vp T' +ᶠ b vp T' *ᶠ s *ᶠ m'
+pub exponent-mono : (vp : Fraction) {T T' s m m' : Fraction} → NonNegative (b vp T) → NonNegative s → NonNegative m → T ≤ᶠ T' → m ≤ᶠ m'
+    → a vp T +ᶠ b vp T *ᶠ s *ᶠ m ≤ᶠ a vp T' +ᶠ b vp T' *ᶠ s *ᶠ m'
 exponent-mono vp {T} {T'} {s} b0 s0 m0 h k =
     let grows : b vp T ≤ᶠ b vp T' = b-mono (≤-refl vp) h in
     +-mono (a-mono vp h)

@@ -36,4 +36,6 @@ pub record RowInRange (season : Season) (row : Row) : Type 0 where
   pub minutes-most : row .minutes ≤ minutesLimit
   pub load-most : row .load ≤ row .saturation
   -- number 20 in whole numbers: a + b·s·m_sat ≤ 3 at the season's highest temperature, times 2·10⁷
-  pub exponent-most : (112000 + 10 * warmth (season .highest) - 15 * season .vp) * halves (row .canister) * row .saturation + 130000 * warmth (season .highest) ≤ 319000000 + 30000 * season .vp
+  pub exponent-most :
+      (112000 + 10 * warmth (season .highest) - 15 * season .vp) * halves (row .canister) * row .saturation
+      + 130000 * warmth (season .highest) ≤ 319000000 + 30000 * season .vp

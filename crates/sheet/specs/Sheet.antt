@@ -41,6 +41,7 @@ numbersCheck s =
     refuse (outside 1 rowsLimit (rowsOf s)) 5 6 then
     refuse (not (eqb (u8At s 7) 0)) 6 7
 
+-- Head: the mark, then the numbers
 unfoldable pub headCheck : List ℕ → Check
 headCheck s = markCheck s then numbersCheck s
 
@@ -130,7 +131,7 @@ rowCheck s i =
     refuse (someSeason (saturationWrong (row .canister) (row .saturation)) s (seasonsOf s)) 20 place then
     refuse (not (eqb (row .reserved) 0)) 21 place
 
--- "records one after another", in table and file order
+-- the whole table, "in table and file order"
 unfoldable pub sheetCheck : List ℕ → Check
 sheetCheck s =
     headCheck s then

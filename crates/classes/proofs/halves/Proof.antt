@@ -1,9 +1,9 @@
--- `row_checks::halves` meets its contract.
+-- `classes::halves` meets its contract.
 -- Assumes nothing.
 use borrow.Author.Needs.{needs}
 use Rattle.sheet.specs.Range.{halves}
-use Rattle.row_checks.proofs.halves.Statement.{statement}
-use Rattle.row_checks.proofs.halves.Tie as tie
+use Rattle.classes.proofs.halves.Statement.{statement}
+use Rattle.classes.proofs.halves.Tie as tie
 
 returns : tie.Need-returns
 unfolding halves
