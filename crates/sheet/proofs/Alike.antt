@@ -57,8 +57,8 @@ each-cong f g zero h = refl
 each-cong f g (suc n) h = cc (each-cong f g n (λ j l. h j (omega arith)), h n (omega arith))
 
 -- records of 24 bytes do not overlap
-apart : (q j i k m : ℕ) → k < 24 → m < 24 → q + 24 * j + k ≡ q + 24 * i + m → j ≡ i
-apart q j i k m h l e =
+rows-apart : (q j i k m : ℕ) → k < 24 → m < 24 → q + 24 * j + k ≡ q + 24 * i + m → j ≡ i
+rows-apart q j i k m h l e =
     elim (decLe (suc j) i) [
       | yes a ↦ absurd (omega arith)
       | no a ↦ elim (decLe (suc i) j) [ yes b ↦ absurd (omega arith) | no b ↦ omega arith ]
@@ -182,7 +182,7 @@ module _ (s s' : List ℕ) (i : ℕ) (c : Canister) (t : ℕ) (fitted : equipmen
   -- In another row than i all bytes are the same,
   other : (j : ℕ) → ¬ (j ≡ i) → Same s' s (rowPlace s j) (rowPlace s j) 24
   other j n =
-      let off : (k m : ℕ) → k < 24 → m < 24 → rowPlace s j + k ≡ rowPlace s i + m → ⊥ = λ k m l d e. n (apart (104 + 8 * seasonsOf s) j i k m l d e) in
+      let off : (k m : ℕ) → k < 24 → m < 24 → rowPlace s j + k ≡ rowPlace s i + m → ⊥ = λ k m l d e. n (rows-apart (104 + 8 * seasonsOf s) j i k m l d e) in
       record { byte = λ k l. w .elsewhere (rowPlace s j + k) (off k 2 l (omega arith)) (off k 6 l (omega arith)) (off k 7 l (omega arith)) }
 
   -- so every row counts and passes alike:

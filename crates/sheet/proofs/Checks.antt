@@ -141,6 +141,8 @@ pub met-passes : (c : Check) {D : Demands} → Judges c D → Met D → c ≡ Pa
 met-passes Pass j met = refl
 met-passes (Refused n p) {D} j met = absurd (unmet-not-met n p D (j .refuses n p refl) met)
 
+-- True and false.
+
 pub true-is-not-false : true ≡ false → ⊥
 true-is-not-false e = let z : _≡_ {A = ℕ} 0 1 = cc in omega arith
 
@@ -148,10 +150,12 @@ or-true : (b : Bool) → (b || true) ≡ true
 or-true true = refl
 or-true false = refl
 
+-- one of two that give true together is true
 or-cases : (b : Bool) {c : Bool} {A : Type 0} → (b || c) ≡ true → (b ≡ true → A) → (c ≡ true → A) → A
 or-cases true h f g = f refl
 or-cases false h f g = g h
 
+-- and where both are needed, both are
 and-both : (b : Bool) {c : Bool} → (b && c) ≡ true → (b ≡ true) × (c ≡ true)
 and-both true h = (refl, h)
 and-both false h = absurd (true-is-not-false (sym h))
@@ -164,6 +168,7 @@ numbers (demand number place A) = number ∷ []
 numbers (D next E) = numbers D ++ numbers E
 numbers (every n f) = numbers (f 0)
 
+-- a number is one of these
 abbrev pub among : ℕ → List ℕ → Bool
 among n [] = false
 among n (m ∷ ms) = eqb n m || among n ms
@@ -189,7 +194,7 @@ Unmet n p (demand number place A) = (n ≡ number) × (p ≡ place) × ¬ A
 Unmet n p (D next E) = choose (among n (numbers D)) (Unmet n p D) (Met D × Unmet n p E)
 Unmet n p (every k f) = (i : ℕ) × (i < k) × ((j : ℕ) → j < i → Met (f j)) × Unmet n p (f i)
 
--- a number among the first, or among the second
+-- a number among the first, or among the second, is among both together
 among-left : (n : ℕ) (ms ns : List ℕ) → among n ms ≡ true → among n (ms ++ ns) ≡ true
 among-left n [] ns h = absurd (true-is-not-false (sym h))
 among-left n (m ∷ ms) ns h = or-cases (eqb n m) h (λ e. rw e refl) (λ e. rw (among-left n ms ns e) (or-true (eqb n m)))

@@ -39,6 +39,7 @@ pub signed-is : (v : ℕ) → v < 65536 → warmth v ≤ warmthLimit → signedT
 unfolding signedTenths aboveColdest
 signed-is v h k = record { cross = omega arith }
 
+-- fewer tenths are colder, and back
 above-order : (j k : ℕ) → aboveColdest j ≤ᶠ aboveColdest k → j ≤ k
 unfolding aboveColdest
 above-order j k h = omega (arith, h .cross)
@@ -83,6 +84,7 @@ season-in-range l h cold o w vp =
 abbrev pub markWarmth : Season → ℕ → ℕ
 markWarmth season i = warmth (season .lowest) * 10 ^ 9 + (warmth (season .highest) - warmth (season .lowest)) * w i
 
+-- the warmth between two ends, d tenths apart
 between : (l d k : ℕ) → aboveColdest l +ᶠ (aboveColdest (l + d) -ᶠ aboveColdest l) *ᶠ k /10^ 9 ≈ᶠ degrees (l * 10 ^ 9 + d * k)
 unfolding aboveColdest _+ᶠ_ _-ᶠ_ negᶠ _*ᶠ_ _/10^_
 between l d k = record { cross = omega arith }
@@ -116,6 +118,7 @@ markWarmth-most i t = omega (arith, markWarmth-below-highest i t, t .warm)
 pub degrees-mono : {θ θ' : ℕ} → θ ≤ θ' → degrees θ ≤ᶠ degrees θ'
 degrees-mono h = omega arith
 
+-- tenths in the units of a mark
 above-degrees : (k : ℕ) → aboveColdest k ≈ᶠ degrees (k * 10 ^ 9)
 unfolding aboveColdest
 above-degrees k = record { cross = omega arith }
