@@ -5,7 +5,7 @@ use Rattle.fields.proofs.canister_at.Statement.{statement}
 use Rattle.fields.proofs.canister_at.Tie as tie
 
 returns : tie.Need-returns
-returns c = cc
+returns c = rw (← c .before .before .u8-at .ensures .0, ← c .before .equipment-at .ensures) (c .canister-of .ensures)
 
 pub canister-at-spec : {M : Type 1} → statement M
 canister-at-spec =
