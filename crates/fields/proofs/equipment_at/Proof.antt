@@ -7,7 +7,12 @@ use Rattle.fields.proofs.equipment_at.Tie as tie
 
 returns : tie.Need-returns
 unfolding equipmentAt
-returns c = cc
+returns c =
+    rw (
+      c .equipment-of .ensures,
+      c .before .u8-at2 .ensures .0,
+      c .before .before .u8-at .ensures .0,
+    )
 
 pub equipment-at-spec : {M : Type 1} → statement M
 equipment-at-spec =

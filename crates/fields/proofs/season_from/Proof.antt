@@ -7,7 +7,17 @@ use Rattle.fields.proofs.season_from.Tie as tie
 
 returns : tie.Need-returns
 unfolding seasonFrom
-returns c = (cc, search needs, search needs, search needs)
+returns c = (
+  rw (
+    c .u16-at4 .ensures .0,
+    c .before .u16-at3 .ensures .0,
+    c .before .before .u16-at2 .ensures .0,
+    c .before .before .before .u16-at .ensures .0,
+  ),
+  search needs,
+  search needs,
+  search needs,
+)
 
 pub season-from-spec : {M : Type 1} → statement M
 season-from-spec =

@@ -5,7 +5,15 @@ use Rattle.row_checks.proofs.use_check.Statement.{statement}
 use Rattle.row_checks.proofs.use_check.Tie as tie
 
 returns : tie.Need-returns
-returns c = cc
+returns c =
+    rw (
+      c .or-else2 .ensures,
+      c .before .or-else .ensures,
+      c .before .before .when3 .ensures,
+      c .before .before .before .when2 .ensures,
+      c .before .before .before .before .u16-at .ensures .0,
+      c .before .before .before .before .before .when .ensures,
+    )
 
 pub use-check-spec : {M : Type 1} → statement M
 use-check-spec =

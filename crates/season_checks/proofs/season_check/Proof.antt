@@ -10,7 +10,19 @@ add-days c = search needs
 
 returns : tie.Need-returns
 unfolding seasonCheck
-returns c = cc
+returns c =
+    rw (
+      c .or-else2 .ensures,
+      c .before .or-else .ensures,
+      c .before .before .when3 .ensures,
+      c .before .before .before .outside2 .ensures,
+      c .before .before .before .before .when2 .ensures,
+      c .before .before .before .before .before .temperatures-wrong .ensures,
+      c .before .before .before .before .before .before .when .ensures,
+      c .before .before .before .before .before .before .before .before .outside .ensures,
+      c .before .before .before .before .before .before .before .before .before .season-at .ensures .0,
+      c .before .before .before .before .before .before .before .before .before .before .before .pre .1,
+    )
 
 pub season-check-spec : {M : Type 1} → statement M
 season-check-spec =

@@ -7,7 +7,12 @@ use Rattle.checks.proofs.head.length_check.Tie as tie
 
 returns : tie.Need-returns
 unfolding lengthCheck
-returns c = cc
+returns c =
+    rw (
+      c .when .ensures,
+      c .before .rows-of .ensures .0,
+      c .before .before .seasons-of .ensures .0,
+    )
 
 pub length-check-spec : {M : Type 1} → statement M
 length-check-spec =

@@ -7,7 +7,22 @@ use Rattle.checks.proofs.head.numbers_check.Tie as tie
 
 returns : tie.Need-returns
 unfolding numbersCheck
-returns c = cc
+returns c =
+    rw (
+      c .or-else3 .ensures,
+      c .before .or-else2 .ensures,
+      c .before .before .or-else .ensures,
+      c .before .before .before .when4 .ensures,
+      c .before .before .before .before .u8-at3 .ensures .0,
+      c .before .before .before .before .before .when3 .ensures,
+      c .before .before .before .before .before .before .when2 .ensures,
+      c .before .before .before .before .before .before .before .when .ensures,
+      c .before .before .before .before .before .before .before .before .u16-at .ensures .0,
+      c .before .before .before .before .before .before .before .before .before .outside2 .ensures,
+      c .before .before .before .before .before .before .before .before .before .before .u8-at2 .ensures .0,
+      c .before .before .before .before .before .before .before .before .before .before .before .outside .ensures,
+      c .before .before .before .before .before .before .before .before .before .before .before .before .u8-at .ensures .0,
+    )
 
 pub numbers-check-spec : {M : Type 1} → statement M
 numbers-check-spec =

@@ -8,7 +8,16 @@ use Rattle.checks.proofs.parking.parking_check.Tie as tie
 
 returns : tie.Need-returns
 unfolding durationCounts hourCounts parkingCheck
-returns c = cc
+returns c =
+    rw (
+      c .or-else .ensures,
+      c .before .when2 .ensures,
+      c .before .before .outside2 .ensures,
+      c .before .before .before .counts-total2 .ensures,
+      c .before .before .before .before .when .ensures,
+      c .before .before .before .before .before .outside .ensures,
+      c .before .before .before .before .before .before .counts-total .ensures,
+    )
 
 pub parking-check-spec : {M : Type 1} → statement M
 parking-check-spec =
