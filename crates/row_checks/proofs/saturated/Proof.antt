@@ -32,7 +32,9 @@ saturation-wrong-requires c κs =
 
 loop-again : tie.Need-loop-again Inv-loop μ-loop
 unfolding someSeason
-loop-again c = (search needs, rw add-one (cc))
+loop-again c =
+    let l = c .before .before .before .loop in
+    (search needs, rw (add-one, l .inv .1, c .saturation-wrong .ensures, c .before .season-at .ensures .0))
 
 returns : tie.Need-returns Inv-loop μ-loop
 returns c = let l = c .before .loop in l .inv .1 ∙ ap (someSeason _ _) (le-antisymm (search needs) (search needs))

@@ -39,7 +39,7 @@ loop-again c =
     let s = at .before .before .before .args .s .now in
     let l = at .loop in
     let (days, rest) = season-judged s (l .i) .passes (sym (one .ensures) ∙ told .enum-told .given .1) in
-    (search needs, each-more _ (l .i) (l .inv .1) (one .ensures) (told .enum-told .given .1), rw add-one (cc), rw (l .inv .2, c .before .season-at .ensures .0) (days .1))
+    (search needs, each-more _ (l .i) (l .inv .1) (one .ensures) (told .enum-told .given .1), rw (add-one, l .inv .2, c .before .season-at .ensures .0), rw (l .inv .2, c .before .season-at .ensures .0) (days .1))
 
 returns-2 : tie.Need-returns-2 Inv-loop μ-loop
 returns-2 c =

@@ -14,7 +14,7 @@ returns c = simp (lt-ltb _ _ (c .if1 .taken))
 
 returns-2 : tie.Need-returns-2
 unfolding markCheck
-returns-2 c = passed _ _ _ (le-ltb _ _ (c .before .before .if1 .left)) (cc)
+returns-2 c = passed _ _ _ (le-ltb _ _ (c .before .before .if1 .left)) (rw (c .when .ensures, c .before .letters-missing .ensures))
 
 pub mark-check-spec : {M : Type 1} → statement M
 mark-check-spec =
