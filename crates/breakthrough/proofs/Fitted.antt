@@ -7,9 +7,10 @@ use Rattle.numbers.specs.Lists.{tab, at}
 use Rattle.numbers.proofs.Lists.{getD-tab, tab-ext}
 use Rattle.exact.specs.declared.Season.{Season}
 use Rattle.exact.specs.declared.Row.{Row}
-use Rattle.marks.specs.Range.{SeasonInRange}
-use Rattle.factors.specs.Range.{RowInRange}
-use Rattle.factors.specs.Escape.{halves, tenthGrams, loss, lossError, breakUnits}
+use Rattle.sheet.specs.Range.{SeasonInRange}
+use Rattle.sheet.specs.Range.{RowInRange}
+use Rattle.sheet.specs.Range.{halves}
+use Rattle.factors.specs.Escape.{tenthGrams, loss, lossError, breakUnits}
 use Rattle.factors.specs.Units.{gain, vapourUnits, throughUnits}
 use Rattle.factors.proofs.Gain.{gain-most}
 use Rattle.factors.proofs.Sizes.{growth-size, saturation-size, load-below, loss-exponent-most}

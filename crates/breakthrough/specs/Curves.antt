@@ -5,10 +5,11 @@ use Prim.Native.Nat.{ℕ, _+_, _<_}
 use Rattle.numbers.specs.Lists.{tab}
 use Rattle.exact.specs.declared.Season.{Season}
 use Rattle.exact.specs.declared.Row.{Row}
-use Rattle.marks.specs.Range.{SeasonInRange}
-use Rattle.marks.specs.Marks.{markWarmth}
-use Rattle.factors.specs.Escape.{halves, tenthGrams, base, growth, loss, lossError}
-use Rattle.factors.specs.Range.{RowInRange}
+use Rattle.sheet.specs.Range.{SeasonInRange}
+use Rattle.sheet.specs.Range.{markWarmth}
+use Rattle.sheet.specs.Range.{halves}
+use Rattle.factors.specs.Escape.{tenthGrams, base, growth, loss, lossError}
+use Rattle.sheet.specs.Range.{RowInRange}
 use Rattle.factors.specs.Units.{gain}
 use Rattle.breakthrough.specs.declared.curves.Curves.{Curves}
 

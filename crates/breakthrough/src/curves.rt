@@ -1,14 +1,15 @@
 // The canister that a row has, in a season: its curve at each mark, and what it has lost when a parking starts.
 use crate::curve::Curve;
 use crate::curve::loss;
-use exact::Canister;
+use classes::halves;
 use exact::Row;
 use exact::Season;
 ghost use mathlib.Core.Path.{_≡_};
 ghost use Prim.Native.Nat.{ℕ, _+_, _*_, _-_, _^_, _≤_};
 ghost use Rattle.bounds.specs.Exponential.{entries};
 ghost use Rattle.numbers.specs.Lists.{tab, at, AllAtMost};
-ghost use Rattle.factors.specs.Escape.{halves, tenthGrams, base, loss, lossError};
+ghost use Rattle.sheet.specs.Range.{halves};
+ghost use Rattle.factors.specs.Escape.{tenthGrams, base, loss, lossError};
 ghost use Rattle.breakthrough.specs.Through.{CurvesReady};
 ghost use Rattle.breakthrough.specs.Curves.{FitReady, CurvesOf};
 
@@ -39,18 +40,6 @@ const BASE_BY_PRESSURE: u64 = 150000000000;
 const GROWTH: u64 = 11200000000000;
 
 const GROWTH_BY_PRESSURE: u64 = 1500000000;
-
-// s in halves; 0 for no canister.
-pub fn halves(canister: Canister) -> u64
-    ensures { λ r. ⌜ (r ≡ halves canister) × (r ≤ 4) ⌝ }
-{
-    match canister {
-        Canister::None => 0,
-        Canister::Small => 4,
-        Canister::Medium => 2,
-        Canister::Large => 1,
-    }
-}
 
 // Tenths of a gram in units of 2^-40 g, cut.
 fn tenth_grams(m: u64) -> u64

@@ -1,5 +1,4 @@
 pub mod Open
 pub mod Marked
 pub mod Values
-pub mod Temperature
 pub mod Loss

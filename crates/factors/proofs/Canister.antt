@@ -15,12 +15,13 @@ use Rattle.exact.specs.declared.Canister.the-variants.{None, Small, Medium, Lar
 use Rattle.exact.specs.declared.Season.{Season}
 use Rattle.exact.specs.declared.Row.{Row}
 use Rattle.exact.specs.Canister.{a, b, breakthrough}
-use Rattle.exact.proofs.Temperature.{markθ-below-highest}
-use Rattle.marks.specs.Range.{shifted, SeasonInRange}
-use Rattle.marks.specs.Marks.{markWarmth}
-use Rattle.marks.proofs.Season.{season-temperate, warmth-most}
-use Rattle.factors.specs.Escape.{halves, tenthGrams, base, growth, breakUnits}
-use Rattle.factors.specs.Range.{RowInRange}
+use Rattle.sheet.proofs.Temperature.{warmth-below-highest}
+use Rattle.sheet.specs.Range.{warmth, SeasonInRange}
+use Rattle.sheet.specs.Range.{markWarmth}
+use Rattle.sheet.proofs.Temperature.{warmth-most}
+use Rattle.sheet.specs.Range.{halves}
+use Rattle.factors.specs.Escape.{tenthGrams, base, growth, breakUnits}
+use Rattle.sheet.specs.Range.{RowInRange}
 use Rattle.factors.proofs.Breakthrough.{double-unit-pos, loaded, break-within}
 
 -- "s = 2, 1, 0.5 for small, medium, large"
@@ -120,8 +121,8 @@ module _ {season : Season} {row : Row} (s : SeasonInRange season) (r : RowInRang
   unfolding markWarmth
   saturated i =
       loaded-≤ _ _ (row .saturation)
-      (lower-exponent (row .canister) (season .vp) (markWarmth season i) (shifted (season .highest)) (row .saturation) (s .vp-most)
-      (markθ-below-highest i (season-temperate s)) (r .exponent-most))
+      (lower-exponent (row .canister) (season .vp) (markWarmth season i) (warmth (season .highest)) (row .saturation) (s .vp-most)
+      (warmth-below-highest i s) (r .exponent-most))
 
   -- m_sat ≤ 368.5 g
   pub saturation-most : 0 < halves (row .canister) → row .saturation ≤ 3685

@@ -16,11 +16,11 @@ use Rattle.exact.specs.declared.Season.{Season}
 use Rattle.exact.specs.declared.Row.{Row}
 use Rattle.exact.specs.Canister.{breakthrough, escape}
 use Rattle.exact.specs.Factors.{total, mean}
-use Rattle.marks.specs.Range.{SeasonInRange}
-use Rattle.marks.specs.Marks.{markWarmth}
-use Rattle.factors.specs.Range.{RowInRange}
+use Rattle.sheet.specs.Range.{SeasonInRange}
+use Rattle.sheet.specs.Range.{markWarmth}
+use Rattle.sheet.specs.Range.{RowInRange}
 use Rattle.factors.specs.Means.{meanUnits}
-use Rattle.factors.specs.Escape.{halves}
+use Rattle.sheet.specs.Range.{halves}
 use Rattle.factors.specs.Units.{gain, vapourUnits, throughUnits, escapeUnits}
 use Rattle.factors.proofs.Gain.{exactGain, gain-within, gain-most}
 use Rattle.factors.proofs.Canister.{size, size-is, halves-pos, tenthGrams-within, through-within}

@@ -15,11 +15,11 @@ use Rattle.bounds.proofs.ExponentialBound.{exponential-within, exponentialError
 use Rattle.bounds.proofs.Within.{widen, within-≈, scaled-within, all-map, div-mono}
 use Rattle.exact.specs.declared.Season.{Season}
 use Rattle.exact.specs.declared.Row.{Row}
-use Rattle.marks.specs.Range.{SeasonInRange}
+use Rattle.sheet.specs.Range.{SeasonInRange}
 use Rattle.marks.proofs.Most.{exponential-most}
 use Rattle.marks.proofs.Rise as vapour
 use Rattle.factors.specs.Units.{gain}
-use Rattle.factors.specs.Range.{RowInRange}
+use Rattle.sheet.specs.Range.{RowInRange}
 
 -- (1 − h/100)·tank·0.025·E(0.0205·vp) of a row in a season
 abbrev pub exactGain : Season → Row → ℕ → Fraction

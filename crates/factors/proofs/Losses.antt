@@ -20,13 +20,14 @@ use Rattle.exact.specs.Day.{temperature}
 use Rattle.exact.specs.Vapour.{vapour, parkingVapour}
 use Rattle.exact.specs.Permeation.{permeation, parkingPermeation}
 use Rattle.exact.specs.Factors.{vp, rowVapour, rowEscape, escapeOver, openVapour, hours, endHour, duration, total, mean}
-use Rattle.marks.specs.Range.{SeasonInRange}
-use Rattle.marks.specs.Marks.{markWarmth, stepAt, raise, tenths, rate, passed, heatError, raisedError, rateError}
-use Rattle.marks.proofs.Season.{warmth-most, temperature-warmth}
+use Rattle.sheet.specs.Range.{SeasonInRange}
+use Rattle.sheet.specs.Range.{markWarmth}
+use Rattle.marks.specs.Marks.{stepAt, raise, tenths, rate, passed, heatError, raisedError, rateError}
+use Rattle.sheet.proofs.Temperature.{warmth-most, temperature-is}
 use Rattle.marks.proofs.Heat.{raise-within, raise-most}
 use Rattle.marks.proofs.Rise.{rises, rises-cong, vapour-rises, rise-within, rise-most}
 use Rattle.marks.proofs.Permeation.{permeation-cong, parkingPermeation-cong, rate-within, permeation-within}
-use Rattle.factors.specs.Range.{RowInRange}
+use Rattle.sheet.specs.Range.{RowInRange}
 use Rattle.factors.specs.Means.{meanUnits}
 use Rattle.factors.specs.Units.{startOf, endOf, parkingRise, parkingRates, escapeUnits, escapeOverUnits, openUnits}
 use Rattle.factors.proofs.Gain.{exactGain}
@@ -65,14 +66,14 @@ module _ {season : Season} {row : Row} (s : SeasonInRange season) (r : RowInRang
       escape-within s r counts p 450 startOf (parkingRise season)
       (λ (cell : ℕ). temperature season (startOf cell)) (λ n cell. rises n (λ i. degrees (markWarmth season i)) (endHour cell) (duration cell))
       (λ n cell. parkingVapour n (season .vp /10^ 1) (row .fill /10^ 2) (row .tank /10^ 1) (temperature season) (endHour cell) (duration cell))
-      (λ cell. temperature-warmth (startOf cell) s)
+      (λ cell. temperature-is (startOf cell) s)
       (λ cell. rise-most (markWarmth season) (λ i. warmth-most i s) (endHour cell) (duration cell) (duration-most cell))
       (λ cell.
       all-map (λ n a. widen {v = 24 * (2 * heatError)} a (omega (arith, duration-most cell)))
       (rise-within (markWarmth season) (λ i. warmth-most i s) (endHour cell) (duration cell) (omega (arith, duration-most cell))))
       (λ n cell.
       ≈-trans (vapour-rises n (season .vp /10^ 1) (row .fill /10^ 2) (row .tank /10^ 1) (temperature season) (endHour cell) (duration cell))
-      (*-cong (≈-refl _) (rises-cong n (endHour cell) (duration cell) (λ i. temperature-warmth i s))))
+      (*-cong (≈-refl _) (rises-cong n (endHour cell) (duration cell) (λ i. temperature-is i s))))
       (row .canister) refl 946 (omega arith) (omega arith)
 
   -- a raise of the temperature by k tenths, at most 6 °C, from a mark that each cell names
@@ -96,7 +97,7 @@ module _ {season : Season} {row : Row} (s : SeasonInRange season) (r : RowInRang
       unfolding rowVapour vapour vp
       raise-driven n cell =
           *-cong (≈-refl _)
-          (sub-cong (E-cong n (*-cong (≈-refl _) (raised (mark cell)))) (E-cong n (*-cong (≈-refl _) (temperature-warmth (mark cell) s))))
+          (sub-cong (E-cong n (*-cong (≈-refl _) (raised (mark cell)))) (E-cong n (*-cong (≈-refl _) (temperature-is (mark cell) s))))
 
       -- "escape from T to T + .."
       pub over-within :
@@ -106,7 +107,7 @@ module _ {season : Season} {row : Row} (s : SeasonInRange season) (r : RowInRang
       over-within =
           escape-within s r counts p 56 mark (λ (cell : ℕ). raise (tenths k) (markWarmth season (mark cell))) (λ (cell : ℕ). temperature season (mark cell))
           exactRise (λ n cell. rowVapour n season row (temperature season (mark cell)) (temperature season (mark cell) +ᶠ amount))
-          (λ cell. temperature-warmth (mark cell) s) raise-small raise-known raise-driven (row .canister) refl 114 (omega arith) (omega arith)
+          (λ cell. temperature-is (mark cell) s) raise-small raise-known raise-driven (row .canister) refl 114 (omega arith) (omega arith)
 
   -- "without canister the vapour from T to T + ..", from the end of the parking
   pub opened-within : (amount : Fraction) (k : ℕ) → k ≤ 60 → ((i : ℕ) → temperature season i +ᶠ amount ≈ᶠ degrees (markWarmth season i + tenths k))
@@ -118,7 +119,7 @@ module _ {season : Season} {row : Row} (s : SeasonInRange season) (r : RowInRang
       all-map (λ n a. widen a (omega arith))
       (open-within s r counts p 56 endOf (λ (cell : ℕ). raise (tenths k) (markWarmth season (endOf cell))) (λ (cell : ℕ). temperature season (endOf cell))
       (exactRise endOf amount k h raised) (λ n cell. rowVapour n season row (temperature season (endOf cell)) (temperature season (endOf cell) +ᶠ amount))
-      (λ cell. temperature-warmth (endOf cell) s) (raise-small endOf amount k h raised) (raise-known endOf amount k h raised)
+      (λ cell. temperature-is (endOf cell) s) (raise-small endOf amount k h raised) (raise-known endOf amount k h raised)
       (raise-driven endOf amount k h raised))
   opened-within amount k h raised Small = nothing counts
   opened-within amount k h raised Medium = nothing counts
@@ -149,7 +150,7 @@ module _ {season : Season} {row : Row} (s : SeasonInRange season) (r : RowInRang
       (λ cell.
       all-map
       (λ n a.
-      within-≈ (parkingPermeation-cong n (season .vp /10^ 1) (endHour cell) (duration cell) (λ i. ≈-sym (temperature-warmth i s)))
+      within-≈ (parkingPermeation-cong n (season .vp /10^ 1) (endHour cell) (duration cell) (λ i. ≈-sym (temperature-is i s)))
       (widen {v = 24 * rateError / 2 + 2} a (omega (arith, duration-most cell))))
       (permeation-within (season .vp) (markWarmth season) (s .vp-most) (λ i. omega (arith, warmth-most i s)) (endHour cell) (duration cell))))
 

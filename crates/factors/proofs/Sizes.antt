@@ -15,16 +15,18 @@ use Rattle.exact.specs.declared.Canister.the-variants.{None, Small, Medium, Lar
 use Rattle.exact.specs.declared.Season.{Season}
 use Rattle.exact.specs.declared.Row.{Row}
 use Rattle.exact.specs.Factors.{Factor, F1, F2, F3, F4, F5, F6, F7, endHour, duration, total}
-use Rattle.marks.specs.Range.{SeasonInRange}
-use Rattle.marks.specs.Marks.{markWarmth, stepAt, raise, tenths, rate, passed}
+use Rattle.sheet.specs.Range.{SeasonInRange}
+use Rattle.sheet.specs.Range.{markWarmth}
+use Rattle.marks.specs.Marks.{stepAt, raise, tenths, rate, passed}
 use Rattle.marks.proofs.Most.{within-most}
-use Rattle.marks.proofs.Season.{warmth-most}
+use Rattle.sheet.proofs.Temperature.{warmth-most}
 use Rattle.marks.proofs.Heat.{raise-most}
 use Rattle.marks.proofs.Rise.{rise-most}
 use Rattle.marks.proofs.Permeation.{rate-most, rates-most}
-use Rattle.factors.specs.Range.{RowInRange}
+use Rattle.sheet.specs.Range.{RowInRange}
 use Rattle.factors.specs.Means.{weighted, meanUnits}
-use Rattle.factors.specs.Escape.{halves, tenthGrams, base, growth, loss, breakUnits}
+use Rattle.sheet.specs.Range.{halves}
+use Rattle.factors.specs.Escape.{tenthGrams, base, growth, loss, breakUnits}
 use Rattle.factors.specs.Units.{startOf, endOf, parkingRise, parkingRates, vapourUnits, throughUnits, escapeUnits, escapeOverUnits, openUnits, diurnalUnits, soakUnits, runningUnits, carUnits, twoWheelerUnits, factorUnits, highMicrograms}
 use Rattle.factors.proofs.Gain.{gain-most}
 use Rattle.factors.proofs.Breakthrough.{E-most, exponent-most}

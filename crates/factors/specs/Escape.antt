@@ -3,14 +3,7 @@
 use Prim.Native.Nat.{ℕ, _+_, _*_, _-_, _/_, _^_, min}
 use Rattle.bounds.specs.Exponential.{exponential}
 use Rattle.exact.specs.declared.Canister.{Canister}
-use Rattle.exact.specs.declared.Canister.the-variants.{None, Small, Medium, Large}
-
--- s in halves
-unfoldable pub halves : Canister → ℕ
-halves None = 0
-halves Small = 4
-halves Medium = 2
-halves Large = 1
+use Rattle.sheet.specs.Range.{halves}
 
 -- tenths of a gram, cut
 unfoldable pub tenthGrams : ℕ → ℕ

@@ -1,4 +1,3 @@
-pub mod Range
 pub mod Escape
 pub mod Means
 pub mod Units

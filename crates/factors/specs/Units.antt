@@ -10,7 +10,8 @@ use Rattle.exact.specs.declared.Season.{Season}
 use Rattle.exact.specs.declared.Row.{Row}
 use Rattle.exact.specs.Day.{startMark}
 use Rattle.exact.specs.Factors.{Factor, F1, F2, F3, F4, F5, F6, F7, endHour, duration}
-use Rattle.marks.specs.Marks.{markWarmth, stepAt, raise, tenths, rate, passed}
+use Rattle.sheet.specs.Range.{markWarmth}
+use Rattle.marks.specs.Marks.{stepAt, raise, tenths, rate, passed}
 use Rattle.factors.specs.Escape.{tenthGrams, base, growth, breakUnits}
 use Rattle.factors.specs.Means.{meanUnits}
 

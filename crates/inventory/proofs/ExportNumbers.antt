@@ -3,15 +3,15 @@
 use mathlib.Core.Bool.{Bool}
 use mathlib.Core.List.{List}
 use mathlib.Core.Logic.{⊎-elim}
-use mathlib.Core.Path.{_≡_, refl}
+use mathlib.Core.Path.{_≡_, refl, sym}
 use Prim.Native.Nat.{ℕ, _<_}
 use native.Mathlib.Omega.{arith}
 use Rattle.sheet.specs.declared.Check.{Check}
 use Rattle.sheet.specs.declared.Check.the-variants.{Pass, Refused}
 use Rattle.sheet.specs.Check.{refuse, _then_}
 use Rattle.sheet.specs.Sheet.{sheetCheck}
-use Rattle.sheet.proofs.Checks.{then-refused, refuse-refused}
-use Rattle.sheet.proofs.Conditions.{refused}
+use Rattle.sheet.proofs.Checks.{then-refused, refuse-refused, true-is-not-false}
+use Rattle.sheet.proofs.Conditions.{refused-number}
 use Rattle.inventory.specs.FactorCall.{factorCheck, unitsAt, answered, factorAnswer}
 use Rattle.inventory.specs.ReportCall.{reportCheck}
 use Rattle.inventory.specs.Export.{checkNumbers, factorNumbers}
@@ -19,7 +19,7 @@ use Rattle.inventory.specs.Export.{checkNumbers, factorNumbers}
 -- no refusal has number 0: those of the sheet start at 1
 no-zero : (s : List ℕ) (wrong : Bool) (number place : ℕ) {p : ℕ} → 0 < number → sheetCheck s then refuse wrong number place ≡ Refused 0 p → ⊥
 no-zero s wrong number place {p} positive h =
-    ⊎-elim (λ a. let u = refused s 0 p a in omega (arith, u .0))
+    ⊎-elim (λ a. true-is-not-false (sym (refused-number s a)))
     (λ b. let u = refuse-refused wrong number place (b .1) in omega (arith, u .0)) (then-refused (sheetCheck s) _ h)
 
 -- the report call

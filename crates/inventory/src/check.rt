@@ -1,8 +1,8 @@
 // The checks of the two calls: those of the sheet first, then conditions 22 and 23.
+use checks::check_sheet;
+use fields::rows_of;
+use fields::seasons_of;
 use sheet::Check;
-use sheet::check_sheet;
-use sheet::fields::rows_of;
-use sheet::fields::seasons_of;
 ghost use mathlib.Core.Bool.{_||_};
 ghost use mathlib.Core.Path.{_≡_};
 ghost use Prim.Native.Nat.{_≤_};

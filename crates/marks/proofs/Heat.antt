@@ -12,7 +12,7 @@ use Rattle.numbers.proofs.Order.{≈-sym, *-mono-right, decimal-nonNegative}
 use Rattle.bounds.proofs.Within.{widen, weaken, within-≈, sub-within, all-map, all-map₂}
 use Rattle.bounds.proofs.Exponential.{E-cong, E-mono}
 use Rattle.bounds.proofs.ExponentialBound.{exponential-within, exponentialError-3·6, exponentialError-4·1}
-use Rattle.exact.proofs.Temperature.{degrees-mono}
+use Rattle.sheet.proofs.Temperature.{degrees-mono}
 use Rattle.marks.proofs.Most.{exponential-most}
 use Rattle.marks.specs.Marks.{heat, heatError, raisedError, raise}
 

@@ -6,14 +6,9 @@ use Rattle.bounds.specs.Power.{degrees}
 use Rattle.numbers.proofs.Order.{≈-refl, ≈-trans, +-cong}
 use Rattle.exact.specs.declared.Season.{Season}
 use Rattle.exact.specs.Day.{temperature}
-use Rattle.exact.proofs.Temperature.{Temperate, markθ-most, temperature-is}
-use Rattle.marks.specs.Range.{SeasonInRange}
-use Rattle.marks.specs.Marks.{markWarmth, tenths}
-
--- what a sheet says of a season makes it temperate
-pub season-temperate : {season : Season} → SeasonInRange season → Temperate season
-season-temperate s =
-    record { lowest-bits = s .lowest-bits; highest-bits = s .highest-bits; order = s .order; warm = s .warm }
+use Rattle.sheet.specs.Range.{markWarmth, SeasonInRange}
+use Rattle.sheet.proofs.Temperature.{temperature-is}
+use Rattle.marks.specs.Marks.{tenths}
 
 -- degrees θ + k/10
 degrees-tenths : (θ k : ℕ) → degrees θ +ᶠ k /10^ 1 ≈ᶠ degrees (θ + tenths k)
@@ -26,20 +21,10 @@ unfolding _+ᶠ_ whole
 degrees-whole θ k = omega arith
 
 module _ {season : Season} (i : ℕ) (s : SeasonInRange season) where
-  -- at most 50 °C
-  pub warmth-most : markWarmth season i ≤ 80 * 10 ^ 10
-  unfolding markWarmth
-  warmth-most = markθ-most i (season-temperate s)
-
-  -- T(i)
-  pub temperature-warmth : temperature season i ≈ᶠ degrees (markWarmth season i)
-  unfolding markWarmth
-  temperature-warmth = temperature-is i (season-temperate s)
-
   -- T(i) + k/10
   pub temperature-tenths : (k : ℕ) → temperature season i +ᶠ k /10^ 1 ≈ᶠ degrees (markWarmth season i + tenths k)
-  temperature-tenths k = ≈-trans (+-cong temperature-warmth (≈-refl (k /10^ 1))) (degrees-tenths (markWarmth season i) k)
+  temperature-tenths k = ≈-trans (+-cong (temperature-is i s) (≈-refl (k /10^ 1))) (degrees-tenths (markWarmth season i) k)
 
   -- T(i) + k
   pub temperature-whole : (k : ℕ) → temperature season i +ᶠ whole k ≈ᶠ degrees (markWarmth season i + tenths (10 * k))
-  temperature-whole k = ≈-trans (+-cong temperature-warmth (≈-refl (whole k))) (degrees-whole (markWarmth season i) k)
+  temperature-whole k = ≈-trans (+-cong (temperature-is i s) (≈-refl (whole k))) (degrees-whole (markWarmth season i) k)

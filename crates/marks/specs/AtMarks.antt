@@ -4,7 +4,8 @@ use Prim.Native.Nat.{ℕ, _+_}
 use Rattle.numbers.specs.Lists.{tab}
 use Rattle.exact.specs.declared.Season.{Season}
 use Rattle.marks.specs.declared.Marks.{Marks}
-use Rattle.marks.specs.Marks.{markWarmth, stepAt, raise, tenths, rate}
+use Rattle.sheet.specs.Range.{markWarmth}
+use Rattle.marks.specs.Marks.{stepAt, raise, tenths, rate}
 
 -- the raises of a mark's temperature by so many tenths of °C
 abbrev pub raisesBy : Season → ℕ → ℕ → ℕ

@@ -3,15 +3,7 @@
 use Prim.Native.Nat.{ℕ, suc, zero, _+_, _*_, _-_, _/_, _%_, _^_}
 use Rattle.bounds.specs.Exponential.{exponential}
 use Rattle.bounds.specs.Power.{power}
-use Rattle.exact.specs.declared.Season.{Season}
-use Rattle.bounds.specs.Weights.{w}
 use Rattle.exact.specs.Day.{startMark}
-use Rattle.marks.specs.Range.{shifted}
-
--- T(i), exactly
-unfoldable pub markWarmth : Season → ℕ → ℕ
-markWarmth season i =
-    shifted (season .lowest) * 10 ^ 9 + (shifted (season .highest) - shifted (season .lowest)) * w i
 
 -- E(0.0716·T), from below
 unfoldable pub heat : ℕ → ℕ

@@ -4,15 +4,17 @@ use bounds::fixed::mul_shift;
 use bounds::hours::weights_table;
 use bounds::power::power;
 use exact::Season;
+use fields::warmth;
 ghost use mathlib.Core.Path.{_≡_};
 ghost use Prim.Native.Nat.{ℕ, _+_, _*_, _-_, _/_, _%_, _^_, _<_, _≤_};
 ghost use lib.ListN.{getD};
 ghost use Rattle.bounds.specs.Exponential.{entries};
 ghost use Rattle.numbers.specs.Lists.{tab, AllAtMost};
 ghost use Rattle.bounds.specs.Weights.{weights};
-ghost use Rattle.marks.specs.Range.{shifted, SeasonInRange};
+ghost use Rattle.sheet.specs.Range.{warmth, SeasonInRange};
 ghost use Rattle.marks.specs.AtMarks.{AtMarks};
-ghost use Rattle.marks.specs.Marks.{markWarmth, heat, heatError, raisedError, pressureFactor, bracketUnits};
+ghost use Rattle.sheet.specs.Range.{markWarmth};
+ghost use Rattle.marks.specs.Marks.{heat, heatError, raisedError, pressureFactor, bracketUnits};
 
 // What a season needs at its marks 0 to 47.
 pub struct Marks {
@@ -55,14 +57,6 @@ const HEAT_ERROR: u64 = 291;
 
 const RAISED_ERROR: u64 = 475;
 
-// Tenths of °C above -30 °C, of a number of 16 bits in two's complement.
-fn shifted(v: u64) -> u64
-    requires { ⌜ v < 65536 ⌝ }
-    ensures { λ r. ⌜ r ≡ shifted v ⌝ }
-{
-    (v + 300) % 65536
-}
-
 // The temperature at a mark, from the lowest of the day, the span up to the highest, and the mark's weight.
 fn between(lowest: u64, span: u64, weight: u64) -> u64
     requires { ⌜ (lowest ≤ 800) × (span ≤ 800) × (weight ≤ 10 ^ 9) ⌝ }
@@ -90,8 +84,8 @@ fn season_temperatures(season: Season) -> [u64; 48]
     requires { ⌜ SeasonInRange season ⌝ }
     ensures { λ r. ⌜ (r ≡ tab (markWarmth season) 48) × AllAtMost (80 * 10 ^ 10) r ⌝ }
 {
-    let lowest = shifted(season.lowest);
-    let span = shifted(season.highest) - lowest;
+    let lowest = warmth(season.lowest);
+    let span = warmth(season.highest) - lowest;
     temperatures(lowest, span, weights_table())
 }
 

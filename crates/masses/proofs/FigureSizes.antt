@@ -11,8 +11,8 @@ use Rattle.numbers.specs.Lists.{tab}
 use Rattle.exact.specs.declared.Season.{Season}
 use Rattle.exact.specs.declared.Row.{Row}
 use Rattle.exact.specs.Factors.{Factor, F1, F2, F3, F4, F5, F6, F7}
-use Rattle.marks.specs.Range.{SeasonInRange}
-use Rattle.factors.specs.Range.{RowInRange}
+use Rattle.sheet.specs.Range.{SeasonInRange}
+use Rattle.sheet.specs.Range.{RowInRange}
 use Rattle.factors.specs.Units.{factorUnits, highMicrograms}
 use Rattle.factors.proofs.Sizes.{gramsLimit, highMicrograms-most}
 use Rattle.row_factors.specs.Seven.{sevenUnits}

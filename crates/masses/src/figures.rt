@@ -6,7 +6,7 @@ use row_factors::season::AtSeason;
 use row_factors::units::row_units;
 ghost use mathlib.Core.Path.{_≡_};
 ghost use Prim.Native.Nat.{_*_, _^_, _<_, _≤_};
-ghost use Rattle.factors.specs.Range.{RowInRange};
+ghost use Rattle.sheet.specs.Range.{RowInRange};
 ghost use Rattle.parking.specs.Grid.{cellsIn};
 ghost use Rattle.row_factors.specs.Season.{Lent};
 ghost use Rattle.masses.specs.Figures.{blended};

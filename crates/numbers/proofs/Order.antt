@@ -219,12 +219,6 @@ unfolding _+ᶠ_
 +-nonNegative {x} {y} h k =
     record { nonneg = omega (arith, mul-le-mul-right (y .den) (h .nonneg), mul-le-mul-right (x .den) (k .nonneg)) }
 
--- 0 < x and 0 ≤ y give 0 < x + y
-pub +-positive : {x y : Fraction} → Positive x → NonNegative y → Positive (x +ᶠ y)
-unfolding _+ᶠ_
-+-positive {x} {y} h k =
-    record { gt = omega (arith, mul-le-mul-right (y .den) (h .gt), mul-le-mul-right (x .den) (k .nonneg), y .pos) }
-
 -- x ≤ x + y where 0 ≤ y
 pub +-grows : (x : Fraction) {y : Fraction} → NonNegative y → x ≤ᶠ x +ᶠ y
 unfolding _+ᶠ_
@@ -241,11 +235,6 @@ neg-antitone h = omega arith
 pub neg-cong : {x y : Fraction} → x ≈ᶠ y → negᶠ x ≈ᶠ negᶠ y
 unfolding negᶠ
 neg-cong h = omega arith
-
--- −(−x) = x
-pub neg-neg : (x : Fraction) → negᶠ (negᶠ x) ≈ᶠ x
-unfolding negᶠ
-neg-neg x = omega arith
 
 -- a difference grows with its first part and falls with its second
 pub sub-mono : {x x' y y' : Fraction} → x ≤ᶠ x' → y' ≤ᶠ y → x -ᶠ y ≤ᶠ x' -ᶠ y'
@@ -354,18 +343,6 @@ pub *-nonNegative : {x y : Fraction} → NonNegative x → NonNegative y → Non
 unfolding _*ᶠ_
 *-nonNegative h k = record { nonneg = omega (arith, cross-mul (h .nonneg) (k .nonneg)) }
 
--- the same, strictly
-cross-mul-strict : {a b c d : ℕ} → a < b → c < d → a * d + b * c < a * c + b * d
-cross-mul-strict {a} {b} {c} {d} h k =
-    let (u, e) = le-dest h in
-    let (v, f) = le-dest k in
-    rw (← e, ← f) (omega arith)
-
--- 0 < x, y gives 0 < x·y
-pub *-positive : {x y : Fraction} → Positive x → Positive y → Positive (x *ᶠ y)
-unfolding _*ᶠ_
-*-positive h k = record { gt = omega (arith, cross-mul-strict (h .gt) (k .gt)) }
-
 -- The power.
 
 -- a power of a value of 0 or more is 0 or more
@@ -373,12 +350,6 @@ pub ^-nonNegative : {x : Fraction} (i : ℕ) → NonNegative x → NonNegative (
 unfolding _^ᶠ_
 ^-nonNegative zero h = whole-nonNegative 1
 ^-nonNegative (suc i) h = *-nonNegative (^-nonNegative i h) h
-
--- and grows with it
-pub ^-mono : {x y : Fraction} (i : ℕ) → NonNegative x → x ≤ᶠ y → x ^ᶠ i ≤ᶠ y ^ᶠ i
-unfolding _^ᶠ_
-^-mono zero n h = ≤-refl (whole 1)
-^-mono (suc i) n h = *-mono (^-nonNegative i (nonNegative-up h n)) n (^-mono i n h) h
 
 -- equal values have equal powers
 pub ^-cong : {x y : Fraction} (i : ℕ) → x ≈ᶠ y → x ^ᶠ i ≈ᶠ y ^ᶠ i
@@ -407,11 +378,6 @@ pub over-nonNegative : {x : Fraction} (k : ℕ) → NonNegative x → NonNegativ
 unfolding _over_
 over-nonNegative k h = omega arith
 
--- 0 < x gives 0 < x/k
-pub over-positive : {x : Fraction} (k : ℕ) → Positive x → Positive (x over k)
-unfolding _over_
-over-positive k h = omega arith
-
 -- k times x is the product with the whole number k
 pub times-is : (k : ℕ) (x : Fraction) → k times x ≈ᶠ whole k *ᶠ x
 unfolding _times_ _*ᶠ_ whole
@@ -425,18 +391,6 @@ times-mono {x} {y} k h = ≤-by (times-is k x) (times-is k y) (*-mono-right (who
 -- equal values have equal multiples
 pub times-cong : {x y : Fraction} (k : ℕ) → x ≈ᶠ y → k times x ≈ᶠ k times y
 times-cong {x} {y} k h = ≈-by (times-is k x) (times-is k y) (*-cong (≈-refl _) h)
-
--- 0 ≤ x gives 0 ≤ k·x
-pub times-nonNegative : {x : Fraction} (k : ℕ) → NonNegative x → NonNegative (k times x)
-unfolding _times_ whole
-times-nonNegative zero h = omega arith
-times-nonNegative {x} (suc k) h = record { nonneg = mul-le-mul-left (suc k) (h .nonneg) }
-
--- (k·x)/k = x
-pub times-over : (k : ℕ) (x : Fraction) → 0 < k → k times x over k ≈ᶠ x
-unfolding _times_ _over_
-times-over zero x h = absurd (omega arith)
-times-over (suc k) x h = record { cross = rw (idle h) (omega arith) }
 
 -- The inverse.
 

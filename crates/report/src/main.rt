@@ -1,9 +1,9 @@
 // The program `report`: reads one sheet from standard input and prints its report, or the number and the place where it stops.
+use fields::rows_of;
 use inventory::report;
 use libc::STDIN_FILENO;
 use libc::STDOUT_FILENO;
 use sheet::Check;
-use sheet::fields::rows_of;
 ghost use mathlib.Core.Path.{_≡_};
 ghost use Prim.Native.Nat.{_+_, _<_, _≤_};
 ghost use Rattle.sheet.specs.declared.Check.the-variants.{Pass};

@@ -1,32 +1,22 @@
 -- The seasons, rows and counts of an accepted sheet are in range, so that all its factors are enclosed and of limited size.
 -- Assumes nothing.
-use mathlib.Core.Bool.{not}
 use mathlib.Core.List.{List}
 use mathlib.Core.Path.{_≡_, refl, ap, _∙_}
 use Prim.Native.Nat.{ℕ, suc, zero, _+_, _*_, _≤_, _<_}
 use native.Mathlib.Nat.{mul-le-mul, mul-pos}
 use native.Mathlib.Omega.{arith}
-use borrow.Author.Tests.{ltb-false}
 use lib.ListN.{length}
-use Rattle.numbers.specs.Fraction.{Fraction, _≈ᶠ_, whole, _/10^_, _over_}
-use Rattle.numbers.proofs.Order.{test-true}
-use Rattle.exact.specs.declared.Canister.{Canister}
-use Rattle.exact.specs.declared.Canister.the-variants.{None, Small, Medium, Large}
 use Rattle.exact.specs.declared.Season.{Season}
 use Rattle.exact.specs.Factors.{total}
-use Rattle.marks.specs.Range.{shifted, SeasonInRange}
-use Rattle.factors.specs.Escape.{halves}
-use Rattle.factors.specs.Range.{RowInRange}
 use Rattle.parking.specs.Grid.{CellsInRange}
 use Rattle.parking.proofs.Products.{products-length, products-total}
 use Rattle.factors.proofs.FactorBound.{low-≤-factor, factor-≤-high}
 use Rattle.factors.proofs.Sizes.{highMicrograms-most}
 use Rattle.sheet.specs.Limits.{countsLimit}
 use Rattle.sheet.specs.Bytes.{seasonsOf, rowsOf, countsAt, durationCounts, hourCounts, cellsOf, seasonAt, seasonsFrom, seasonList, rowAt}
-use Rattle.sheet.specs.Sheet.{daysBefore, above3}
-use Rattle.sheet.proofs.Conditions.{Size, AtMost3}
-use Rattle.sheet.proofs.Accepted.{Bytes, AcceptedSeason, AcceptedRow, Accepted}
-use Rattle.sheet.proofs.Saturation.{most, reached, above3-is}
+use Rattle.sheet.specs.Sheet.{daysBefore}
+use Rattle.sheet.proofs.Accepted.{Bytes, AcceptedRow, Accepted}
+use Rattle.sheet.proofs.InRange.{row-in-range}
 use Rattle.masses.specs.Figures.{allDays}
 use Rattle.masses.proofs.MassBound.{Shares, Enclosed, Every}
 use Rattle.masses.proofs.MassSizes.{Sized, RowSized}
@@ -64,42 +54,6 @@ cells-in-range {s} a = record {
   total-most = omega (arith, cells-most a);
 }
 
--- season i
-pub season-in-range : {s : List ℕ} {i : ℕ} → Bytes s → AcceptedSeason s i → SeasonInRange (seasonAt s i)
-season-in-range bytes a =
-    let t = a .temperatures bytes in
-    record { lowest-bits = t .lowest-bits; highest-bits = t .highest-bits; order = t .order; warm = t .warm; vp-most = a .vp-most }
-
--- check 20 in whole numbers, for a canister of size s in so many halves
-reached-most : (season : Season) (s : Fraction) (halved saturation : ℕ) → SeasonInRange season → s ≈ᶠ whole halved over 2
-    → AtMost3 season s saturation → reached (season .vp) (shifted (season .highest)) halved saturation ≤ most (season .vp)
-unfolding above3
-reached-most season s halved saturation r size at3 =
-    ltb-false _ _ (above3-is season s halved saturation (r .highest-bits) (r .warm) (r .vp-most) size ∙ ap not (test-true at3))
-
--- for each canister, and without one
-exponent-most : (season : Season) (c : Canister) (saturation : ℕ) → SeasonInRange season
-    → ((size : Fraction) → Size c size → AtMost3 season size saturation)
-    → reached (season .vp) (shifted (season .highest)) (halves c) saturation ≤ most (season .vp)
-unfolding halves whole _over_ _/10^_
-exponent-most season None saturation r at3 = omega (arith, r .warm)
-exponent-most season Small saturation r at3 = reached-most season (whole 2) 4 saturation r (record { cross = omega arith }) (at3 (whole 2) refl)
-exponent-most season Medium saturation r at3 = reached-most season (whole 1) 2 saturation r (record { cross = omega arith }) (at3 (whole 1) refl)
-exponent-most season Large saturation r at3 = reached-most season (5 /10^ 1) 1 saturation r (record { cross = omega arith }) (at3 (5 /10^ 1) refl)
-
--- row i in season j
-pub row-in-range : {s : List ℕ} {i j : ℕ} → Bytes s → Accepted s → i < rowsOf s → j < seasonsOf s → RowInRange (seasonAt s j) (rowAt s i)
-row-in-range {s} {i} {j} bytes a row season =
-    let r = a .row i row in
-    record {
-      fill-most = r .fill-most;
-      tank-most = r .tank-most;
-      minutes-most = r .minutes-most;
-      load-most = r .load-most;
-      exponent-most =
-          omega (arith, exponent-most (seasonAt s j) ((rowAt s i) .canister) ((rowAt s i) .saturation) (season-in-range bytes (a .season j season)) (r .exponent j season));
-    }
-
 -- the shares of row i
 pub row-shares : {s : List ℕ} {i : ℕ} → AcceptedRow s i → Shares (rowAt s i)
 row-shares r = record { carburettor-most = r .carburettor-most; hot-most = r .hot-most }
@@ -107,7 +61,7 @@ row-shares r = record { carburettor-most = r .carburettor-most; hot-most = r .ho
 -- every factor of an accepted sheet lies between its figures in micrograms
 pub enclosed : {s : List ℕ} {i j : ℕ} → Bytes s → Accepted s → i < rowsOf s → j < seasonsOf s → Enclosed (cellsOf s) (seasonAt s j) (rowAt s i)
 enclosed {s} {i} {j} bytes a row season =
-    let in-season = season-in-range bytes (a .season j season) in
+    let in-season = a .season j season .in-range bytes in
     let in-row = row-in-range bytes a row season in
     record {
       above = low-≤-factor (seasonAt s j) (rowAt s i) (cellsOf s) in-season in-row (cells-least a);
@@ -117,7 +71,7 @@ enclosed {s} {i} {j} bytes a row season =
 -- and is no larger than the limits let it be
 pub sized : {s : List ℕ} {i j : ℕ} → Bytes s → Accepted s → i < rowsOf s → j < seasonsOf s → Sized (cellsOf s) (rowAt s i) (seasonAt s j)
 sized {s} {i} {j} bytes a row season =
-    record { most = highMicrograms-most (season-in-range bytes (a .season j season)) (row-in-range bytes a row season) (cellsOf s) }
+    record { most = highMicrograms-most (a .season j season .in-range bytes) (row-in-range bytes a row season) (cellsOf s) }
 
 -- All seasons.
 

@@ -8,12 +8,13 @@ use Rattle.numbers.proofs.Lists.{tab-ext, tab-at-most}
 use Rattle.exact.specs.declared.Season.{Season}
 use Rattle.exact.specs.declared.Row.{Row}
 use Rattle.marks.specs.declared.Marks.{Marks}
-use Rattle.marks.specs.Range.{SeasonInRange}
-use Rattle.marks.specs.Marks.{markWarmth, stepAt}
+use Rattle.sheet.specs.Range.{SeasonInRange}
+use Rattle.sheet.specs.Range.{markWarmth}
+use Rattle.marks.specs.Marks.{stepAt}
 use Rattle.marks.specs.AtMarks.{AtMarks}
 use Rattle.marks.proofs.Rise.{step-most}
-use Rattle.marks.proofs.Season.{warmth-most}
-use Rattle.factors.specs.Range.{RowInRange}
+use Rattle.sheet.proofs.Temperature.{warmth-most}
+use Rattle.sheet.specs.Range.{RowInRange}
 use Rattle.factors.specs.Units.{parkingRise}
 use Rattle.parking.specs.Grid.{cellsIn, passedIn}
 use Rattle.parking.proofs.Passed.{passedIn-tab}
@@ -23,7 +24,7 @@ use Rattle.masses.specs.Day.{UseInRange}
 use Rattle.sheet.specs.Bytes.{seasonsOf, rowsOf, seasonAt, rowAt}
 use Rattle.sheet.proofs.Accepted.{Bytes, Accepted, accepted}
 use Rattle.report_words.specs.Years.{SheetLent, SeasonLent}
-use Rattle.report_words.proofs.AcceptedRange.{season-in-range, row-in-range}
+use Rattle.sheet.proofs.InRange.{row-in-range}
 
 -- the shares and trips of row i
 pub use-in-range : {s : List ℕ} → Accepted s → {i : ℕ} → i < rowsOf s → UseInRange (rowAt s i)

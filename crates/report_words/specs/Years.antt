@@ -7,7 +7,7 @@ use lib.ListN.{length, getD, take, drop}
 use Rattle.numbers.specs.Lists.{tab, sum}
 use Rattle.bounds.specs.Exponential.{entries}
 use Rattle.exact.specs.declared.Season.{Season}
-use Rattle.factors.specs.Range.{RowInRange}
+use Rattle.sheet.specs.Range.{RowInRange}
 use Rattle.parking.specs.Grid.{cellsIn, GridReady}
 use Rattle.row_factors.specs.declared.season.AtSeason.{AtSeason}
 use Rattle.row_factors.specs.Season.{Lent}

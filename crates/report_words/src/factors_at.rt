@@ -1,12 +1,12 @@
 // The seven factors of a season and a row of an accepted sheet.
 use crate::parkings::sheet_grid;
 use bounds::exp::tables;
+use fields::row_at;
+use fields::season_at;
 use marks::at_marks;
 use parking::walk::walk;
 use row_factors::season::at_season;
 use row_factors::units::row_units;
-use sheet::fields::row_at;
-use sheet::fields::season_at;
 ghost use mathlib.Core.Path.{_≡_};
 ghost use Prim.Native.Nat.{_<_};
 ghost use Rattle.masses.specs.Day.{UnitsInRange};

@@ -1,8 +1,8 @@
 // The parking counts of an accepted sheet.
+use fields::duration_counts;
+use fields::hour_counts;
 use parking::cells::products;
 use parking::grid::grid_of;
-use sheet::fields::duration_counts;
-use sheet::fields::hour_counts;
 ghost use mathlib.Core.Path.{_≡_};
 ghost use Rattle.parking.specs.Grid.{CellsInRange, cellsIn, GridReady};
 ghost use Rattle.sheet.specs.declared.Check.the-variants.{Pass};

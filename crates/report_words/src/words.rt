@@ -1,10 +1,10 @@
 // The words of the report: milligrams of each row, and their sums.
 use crate::year::add_year;
 use crate::year::clear;
-use sheet::fields::row_place;
-use sheet::fields::rows_of;
-use sheet::fields::u8_at;
-use sheet::fields::u32_at;
+use fields::row_place;
+use fields::rows_of;
+use fields::u8_at;
+use fields::u32_at;
 ghost use mathlib.Core.Path.{_≡_};
 ghost use Prim.Native.Nat.{_+_, _*_, _/_, _^_, _≤_, _<_};
 ghost use lib.ListN.{length, getD, take};

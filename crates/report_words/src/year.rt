@@ -1,15 +1,15 @@
 // The figures of a year, added up season by season in the six words of each row.
 use crate::parkings::sheet_grid;
 use bounds::exp::tables;
+use fields::row_at;
+use fields::rows_of;
+use fields::season_at;
+use fields::seasons_of;
 use marks::at_marks;
 use masses::figures::row_figures;
 use parking::walk::walk;
 use row_factors::season::AtSeason;
 use row_factors::season::at_season;
-use sheet::fields::row_at;
-use sheet::fields::rows_of;
-use sheet::fields::season_at;
-use sheet::fields::seasons_of;
 ghost use mathlib.Core.Path.{_≡_};
 ghost use Prim.Native.Nat.{ℕ, _+_, _*_, _≤_, _<_};
 ghost use lib.ListN.{length, take};

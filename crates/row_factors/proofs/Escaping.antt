@@ -13,17 +13,18 @@ use Rattle.exact.specs.declared.Canister.{Canister}
 use Rattle.exact.specs.declared.Canister.the-variants.{None, Small, Medium, Large}
 use Rattle.exact.specs.declared.Season.{Season}
 use Rattle.exact.specs.declared.Row.{Row}
-use Rattle.marks.specs.Marks.{markWarmth, raise, rate, tenths}
+use Rattle.sheet.specs.Range.{markWarmth}
+use Rattle.marks.specs.Marks.{raise, rate, tenths}
 use Rattle.exact.specs.Factors.{endHour, duration}
 use Rattle.marks.specs.AtMarks.{raisesBy, ratesAt}
 use Rattle.marks.proofs.Heat.{raise-most}
 use Rattle.marks.proofs.Permeation.{rate-most}
 use Rattle.marks.proofs.Rise.{rise-most}
-use Rattle.marks.proofs.Season.{warmth-most}
+use Rattle.sheet.proofs.Temperature.{warmth-most}
 use Rattle.factors.proofs.Losses.{duration-most}
-use Rattle.factors.specs.Range.{RowInRange}
-use Rattle.marks.specs.Range.{SeasonInRange}
-use Rattle.factors.specs.Escape.{halves}
+use Rattle.sheet.specs.Range.{RowInRange}
+use Rattle.sheet.specs.Range.{SeasonInRange}
+use Rattle.sheet.specs.Range.{halves}
 use Rattle.factors.specs.Means.{meanUnits}
 use Rattle.factors.specs.Units.{gain, parkingRise, parkingRates, vapourUnits, throughUnits, escapeUnits, escapeOverUnits, openUnits, startOf, endOf}
 use Rattle.factors.proofs.Mean.{meanUnits-most}

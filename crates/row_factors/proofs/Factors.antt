@@ -9,10 +9,10 @@ use lib.Dec.{leb}
 use Rattle.exact.specs.declared.Season.{Season}
 use Rattle.exact.specs.declared.Row.{Row}
 use Rattle.exact.specs.Factors.{Factor, F1, F2, F3, F4, F5, F6, F7}
-use Rattle.marks.specs.Range.{SeasonInRange}
+use Rattle.sheet.specs.Range.{SeasonInRange}
 use Rattle.marks.specs.AtMarks.{ratesAt}
 use Rattle.factors.specs.Units.{endOf, diurnalUnits, soakUnits, runningUnits, carUnits, twoWheelerUnits, factorUnits}
-use Rattle.factors.specs.Range.{RowInRange}
+use Rattle.sheet.specs.Range.{RowInRange}
 use Rattle.factors.proofs.Mean.{meanUnits-most}
 use Rattle.factors.proofs.Sizes.{gramsLimit, raised-rate-most, factorUnits-most}
 use Rattle.row_factors.specs.declared.season.Means.{Means}

@@ -7,9 +7,9 @@ use Rattle.bounds.specs.Exponential.{entries}
 use Rattle.exact.specs.declared.Season.{Season}
 use Rattle.exact.specs.declared.Row.{Row}
 use Rattle.marks.specs.declared.Marks.{Marks}
-use Rattle.marks.specs.Range.{SeasonInRange}
+use Rattle.sheet.specs.Range.{SeasonInRange}
 use Rattle.marks.specs.AtMarks.{AtMarks, raisesBy, ratesAt}
-use Rattle.factors.specs.Range.{RowInRange}
+use Rattle.sheet.specs.Range.{RowInRange}
 use Rattle.factors.specs.Means.{meanUnits}
 use Rattle.factors.specs.Units.{startOf, endOf, parkingRise, parkingRates, gain}
 use Rattle.parking.specs.Grid.{cellsIn, GridReady}

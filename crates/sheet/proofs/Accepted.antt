@@ -11,13 +11,14 @@ use Rattle.exact.specs.declared.Canister.the-variants.{None}
 use Rattle.exact.specs.declared.Equipment.the-variants.{Absent}
 use Rattle.exact.specs.Classes.{equipment}
 use Rattle.exact.specs.Factors.{total}
-use Rattle.exact.proofs.Temperature.{Temperate, temperate}
 use Rattle.sheet.specs.declared.Check.the-variants.{Pass}
 use Rattle.sheet.specs.Limits.{seasonsLimit, rowsLimit, countsLimit, daysLimit, vpLeast, vpLimit, percentLimit, tankLimit, vehiclesLimit, tripsLimit, minutesLimit}
 use Rattle.sheet.specs.Bytes.{u8At, u16At, versionOf, seasonsOf, rowsOf, durationCounts, hourCounts, seasonPlace, rowPlace, seasonFrom, seasonAt, rowFrom, rowAt, equipmentAt, tankOf}
 use Rattle.sheet.specs.Sheet.{daysBefore, sheetCheck}
+use Rattle.sheet.specs.Range.{SeasonInRange}
 use Rattle.sheet.proofs.Checks.{Met}
 use Rattle.sheet.proofs.Equipment.{equipment-tank, equipment-class}
+use Rattle.sheet.proofs.Temperature.{season-in-range}
 use Rattle.sheet.proofs.Conditions.{seasonDemands, rowDemands, Size, AtMost3, sheet-judged}
 
 -- each element is a byte
@@ -29,9 +30,9 @@ pub record AcceptedSeason (s : List ℕ) (i : ℕ) : Type 0 where
   pub days-least : 1 ≤ (seasonAt s i) .days
   pub days-most : (seasonAt s i) .days ≤ daysLimit
   pub days-together : daysBefore s (suc i) ≤ daysLimit
-  pub temperatures : Bytes s → Temperate (seasonAt s i)
   pub vp-least : vpLeast ≤ (seasonAt s i) .vp
   pub vp-most : (seasonAt s i) .vp ≤ vpLimit
+  pub in-range : Bytes s → SeasonInRange (seasonAt s i)
 
 -- row i, counted from 0
 pub record AcceptedRow (s : List ℕ) (i : ℕ) : Type 0 where
@@ -78,14 +79,14 @@ season-accepted s i (((least, most), together), (((cold, order), warm), (vp-leas
   days-least = least;
   days-most = most;
   days-together = together;
-  temperatures = λ b.
-      temperate (seasonAt s i) (u16-bits b (seasonPlace s i + 2)) (u16-bits b (seasonPlace s i + 4)) cold order warm;
   vp-least = vp-least;
   vp-most = vp-most;
+  in-range = λ b. season-in-range (u16-bits b (seasonPlace s i + 2)) (u16-bits b (seasonPlace s i + 4)) cold order warm vp-most;
 }
 
 -- a tank that is written, or the class's
-tank-between : (written class technology : ℕ) → ¬ (equipment class technology ≡ Absent) → written ≤ tankLimit → (1 ≤ tankOf written (equipment class technology)) × (tankOf written (equipment class technology) ≤ tankLimit)
+tank-between : (written class technology : ℕ) → ¬ (equipment class technology ≡ Absent) → written ≤ tankLimit
+    → (1 ≤ tankOf written (equipment class technology)) × (tankOf written (equipment class technology) ≤ tankLimit)
 unfolding tankOf
 tank-between zero class technology n h = let (low, high) = equipment-tank class technology n in (omega arith, omega arith)
 tank-between (suc tenths) class technology n h = (omega arith, h)
@@ -124,7 +125,7 @@ days-together s (suc n) h = h n (omega arith)
 pub accepted : (s : List ℕ) → sheetCheck s ≡ Pass → Accepted s
 accepted s h =
     let (head, (length-is, ((durations, hours), (seasons, rows)))) = sheet-judged s .passes h in
-    let (long, (letters, (version, (season-count, (row-count, zero-byte))))) = head in
+    let (mark, (version, (season-count, (row-count, zero-byte)))) = head in
     record {
       length-is = length-is;
       version-is = version;

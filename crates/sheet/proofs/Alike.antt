@@ -1,28 +1,28 @@
 -- A canister or a tank that is written, and one left to the class that stands for the same, count alike: the sheet is accepted
 -- or refused alike, and gives the same values to all that follows.
 -- Assumes nothing.
-use mathlib.Core.Bool.{Bool, not}
+use mathlib.Core.Bool.{Bool}
 use mathlib.Core.List.{List}
 use mathlib.Core.Logic.{_⊎_, inl, inr, ⊎-elim}
-use mathlib.Core.Path.{_≡_, refl, sym, ap, subst, _∙_}
+use mathlib.Core.Path.{_≡_, refl, ap, _∙_}
 use Prim.Native.Nat.{ℕ, suc, zero, _+_, _*_, _/_, _%_, _≤_, _<_}
 use native.Mathlib.Decide.{decLe, ℕ-discrete}
 use native.Mathlib.Omega.{arith}
 use borrow.Author.Tests.{le-ltb}
-use lib.Dec.{T, ltb, eqb, ltb→lt}
+use lib.Dec.{ltb}
 use lib.ListN.{length, set, length-set}
 use lib.Seq.{getD-set-same, getD-set-other}
-use Rattle.bounds.proofs.Table.{both, both-left}
 use Rattle.exact.specs.declared.Canister.{Canister}
 use Rattle.exact.specs.declared.Canister.the-variants.{None, Small, Medium, Large}
 use Rattle.exact.specs.declared.Equipment.the-variants.{Fitted}
 use Rattle.exact.specs.declared.Season.{Season}
 use Rattle.sheet.specs.declared.Check.{Check}
 use Rattle.sheet.specs.Limits.{tankLimit}
-use Rattle.sheet.specs.Bytes.{u8At, u16At, u32At, seasonsOf, rowsOf, countsAt, durationCounts, hourCounts, cellsOf, seasonPlace, rowPlace, seasonFrom, seasonAt, seasonsFrom, seasonList, rowFrom, rowAt, equipmentAt, fittedCanister, fittedTank, writtenCanister, canisterOf, tankOf}
+use Rattle.sheet.specs.Bytes.{u8At, u16At, seasonsOf, rowsOf, durationCounts, hourCounts, cellsOf, seasonPlace, rowPlace, seasonAt, seasonsFrom, seasonList, rowFrom, rowAt, equipmentAt, fittedCanister, fittedTank, writtenCanister, canisterOf, tankOf}
 use Rattle.sheet.specs.Check.{each}
-use Rattle.sheet.specs.Sheet.{lettersMissing, headCheck, lengthCheck, parkingCheck, daysBefore, seasonCheck, codeWrong, someSeason, rowCheck, sheetCheck}
+use Rattle.sheet.specs.Sheet.{lettersMissing, markCheck, numbersCheck, headCheck, lengthCheck, parkingCheck, daysBefore, seasonCheck, codeWrong, someSeason, rowCheck, sheetCheck}
 use Rattle.sheet.proofs.Equipment.{equipment-tank}
+use Rattle.sheet.proofs.Local.{Same, byte-at, word-at, season-same, equipment-same, row-counts, row-same, counts-same}
 
 -- "canister (0 none, 1 small, 2 medium, 3 large, 255 by class)"
 abbrev pub codeOf : Canister → ℕ
@@ -57,24 +57,12 @@ each-cong f g zero h = refl
 each-cong f g (suc n) h = cc (each-cong f g n (λ j l. h j (omega arith)), h n (omega arith))
 
 -- records of 24 bytes do not overlap
-apart : (q j i k m : ℕ) → k < 24 → m < 24 → q + 24 * j + k ≡ q + 24 * i + m → (j ≡ i) × (k ≡ m)
-apart q j i k m h l e =
+rows-apart : (q j i k m : ℕ) → k < 24 → m < 24 → q + 24 * j + k ≡ q + 24 * i + m → j ≡ i
+rows-apart q j i k m h l e =
     elim (decLe (suc j) i) [
       | yes a ↦ absurd (omega arith)
-      | no a ↦
-          elim (decLe (suc i) j) [
-            | yes b ↦ absurd (omega arith)
-            | no b ↦ (omega arith, omega arith)
-          ]
+      | no a ↦ elim (decLe (suc i) j) [ yes b ↦ absurd (omega arith) | no b ↦ omega arith ]
     ]
-
--- the bytes of a row other than its canister and its tank
-abbrev plain : ℕ → Bool
-plain k = both (ltb k 24) (both (not (eqb k 2)) (both (not (eqb k 6)) (not (eqb k 7))))
-
--- they are bytes of the row
-plain-below : (k : ℕ) → T (plain k) → k < 24
-plain-below k h = ltb→lt k 24 (both-left (ltb k 24) (both (not (eqb k 2)) (both (not (eqb k 6)) (not (eqb k 7)))) h)
 
 -- a canister's code passes as 255 does,
 code-counts : (c : Canister) → codeWrong (codeOf c) ≡ codeWrong 255
@@ -105,10 +93,42 @@ tank-passes s p {c} {t} e =
     let most = equipment-tank (u8At s p) (u8At s (p + 1)) (λ a. let z : _≡_ {A = ℕ} 0 1 = cc in omega arith) .1 in
     le-ltb tankLimit t (omega (arith, ap fittedTank e))
 
+-- what is read of the row at p counts and passes alike
+record RowAlike (s s' : List ℕ) (p : ℕ) : Type 0 where
+  row : rowFrom s' p ≡ rowFrom s p
+  equipment : equipmentAt s' p ≡ equipmentAt s p
+  code : codeWrong (u8At s' (p + 2)) ≡ codeWrong (u8At s (p + 2))
+  limit : ltb tankLimit (u16At s' (p + 6)) ≡ ltb tankLimit (u16At s (p + 6))
+
+-- where all its bytes are the same
+same-alike : {s s' : List ℕ} {p : ℕ} → Same s' s p p 24 → RowAlike s s' p
+same-alike {p} h = record {
+  row = row-same h;
+  equipment = equipment-same h (omega arith);
+  code = ap codeWrong (byte-at h 2 (p + 2) (p + 2) refl refl (omega arith));
+  limit = ap (ltb tankLimit) (word-at h 6 (p + 6) (p + 6) refl refl (omega arith));
+}
+
+-- and where the canister or the tank is written
+written-alike : {s s' : List ℕ} {p t : ℕ} {c : Canister} → equipmentAt s p ≡ Fitted c t → Written s s' p c t → RowAlike s s' p
+written-alike {s} {s'} {p} {t} {c} fitted w =
+    let class : Same s' s p p 2 = record { byte = λ k l. w .elsewhere (p + k) (λ e. omega arith) (λ e. omega arith) (λ e. omega arith) } in
+    let shares : Same s' s (p + 3) (p + 3) 3 = record { byte = λ k l. w .elsewhere (p + 3 + k) (λ e. omega arith) (λ e. omega arith) (λ e. omega arith) } in
+    let rest : Same s' s (p + 8) (p + 8) 16 = record { byte = λ k l. w .elsewhere (p + 8 + k) (λ e. omega arith) (λ e. omega arith) (λ e. omega arith) } in
+    let equipment : equipmentAt s' p ≡ equipmentAt s p = equipment-same class (omega arith) in
+    let (code, canister) : (codeWrong (u8At s' (p + 2)) ≡ codeWrong (u8At s (p + 2))) × (canisterOf (u8At s' (p + 2)) (equipmentAt s p) ≡ canisterOf (u8At s (p + 2)) (equipmentAt s p))
+    = ⊎-elim (λ h. (cc, cc)) (λ (h, g). (cc (code-counts c), cc (canister-counts c t))) (w .canister) in
+    let (limit, tank) : (ltb tankLimit (u16At s' (p + 6)) ≡ ltb tankLimit (u16At s (p + 6))) × (tankOf (u16At s' (p + 6)) (equipmentAt s p) ≡ tankOf (u16At s (p + 6)) (equipmentAt s p))
+    = ⊎-elim (λ h. (cc, cc)) (λ (h, g). (cc (tank-passes s p fitted), cc (tank-counts c t))) (w .tank) in
+    record { row = row-counts class shares rest (cc) (cc); equipment = equipment; code = code; limit = limit }
+
 module _ (s s' : List ℕ) (i : ℕ) (c : Canister) (t : ℕ) (fitted : equipmentAt s (rowPlace s i) ≡ Fitted c t) (w : Written s s' (rowPlace s i) c t) where
   -- bytes before the rows are the same
   early : (k : ℕ) → k < rowPlace s 0 → u8At s' k ≡ u8At s k
   early k h = w .elsewhere k (λ e. omega arith) (λ e. omega arith) (λ e. omega arith)
+
+  before : (p n : ℕ) → p + n ≤ rowPlace s 0 → Same s' s p p n
+  before p n h = record { byte = λ k l. early (p + k) (omega arith) }
 
   -- so the counts of seasons and rows,
   seasons : seasonsOf s' ≡ seasonsOf s
@@ -117,22 +137,10 @@ module _ (s s' : List ℕ) (i : ℕ) (c : Canister) (t : ℕ) (fitted : equipmen
   rows : rowsOf s' ≡ rowsOf s
   rows = early 6 (omega arith)
 
-  -- the parking counts,
-  counts : (k n : ℕ) → k + 2 * n ≤ 104 → countsAt s' k n ≡ countsAt s k n
-  unfolding countsAt
-  counts k zero h = refl
-  counts k (suc n) h = cc (early k (omega arith), early (k + 1) (omega arith), counts (k + 2) n (omega arith))
-
-  -- two bytes together,
-  word : (k : ℕ) → k + 1 < rowPlace s 0 → u16At s' k ≡ u16At s k
-  word k h = cc (early k (omega arith), early (k + 1) h)
-
   -- each season,
   season : (j : ℕ) → j < seasonsOf s → seasonAt s' j ≡ seasonAt s j
-  unfolding seasonAt seasonFrom
-  season j h =
-      let p : ℕ = seasonPlace s j in
-      rw (word p (omega arith), word (p + 2) (omega arith), word (p + 4) (omega arith), word (p + 6) (omega arith))
+  unfolding seasonAt
+  season j h = season-same (before (seasonPlace s j) 8 (omega arith)) (omega arith)
 
   -- all of them,
   season-list : (j n : ℕ) → j + n ≤ seasonsOf s → seasonsFrom s' j n ≡ seasonsFrom s j n
@@ -154,106 +162,46 @@ module _ (s s' : List ℕ) (i : ℕ) (c : Canister) (t : ℕ) (fitted : equipmen
 
   -- the head passes or is refused alike,
   head : headCheck s' ≡ headCheck s
-  unfolding headCheck lettersMissing
+  unfolding headCheck markCheck numbersCheck lettersMissing
   head = cc (w .same-length, early 0 (omega arith), early 1 (omega arith), early 2 (omega arith), early 3 (omega arith), early 4 (omega arith), seasons, rows, early 7 (omega arith))
 
-  -- and so do the parking counts,
-  parking : parkingCheck s' ≡ parkingCheck s
-  unfolding parkingCheck durationCounts hourCounts
-  parking = cc (counts 8 24 (omega arith), counts 56 24 (omega arith))
+  -- the parking counts are the same,
+  durations : durationCounts s' ≡ durationCounts s
+  unfolding durationCounts
+  durations = counts-same 8 8 24 (before 8 48 (omega arith))
 
-  -- of which the cells are the same,
-  cells : cellsOf s' ≡ cellsOf s
-  unfolding cellsOf durationCounts hourCounts
-  cells = cc (counts 8 24 (omega arith), counts 56 24 (omega arith))
+  hours : hourCounts s' ≡ hourCounts s
+  unfolding hourCounts
+  hours = counts-same 56 56 24 (before 56 48 (omega arith))
 
-  -- and each season.
+  -- and each season passes or is refused alike.
   season-check : (j : ℕ) → j < seasonsOf s → seasonCheck s' j ≡ seasonCheck s j
   unfolding seasonCheck
   season-check j h = cc (season j h, days j (omega arith))
 
-  -- In every row the plain bytes are the same,
-  row-byte : (j k q : ℕ) → q ≡ rowPlace s j + k → T (plain k) → u8At s' q ≡ u8At s q
-  row-byte j k q place h =
-      let off : (m : ℕ) → m < 24 → (T (plain m) → ⊥) → q ≡ rowPlace s i + m → ⊥
-      = λ m l no e. no (subst (λ (x : ℕ). T (plain x)) (apart (104 + 8 * seasonsOf s) j i k m (plain-below k h) l (sym place ∙ e) .1) h) in
-      w .elsewhere q (off 2 (omega arith) (λ no. no)) (off 6 (omega arith) (λ no. no)) (off 7 (omega arith) (λ no. no))
+  -- In another row than i all bytes are the same,
+  other : (j : ℕ) → ¬ (j ≡ i) → Same s' s (rowPlace s j) (rowPlace s j) 24
+  other j n =
+      let off : (k m : ℕ) → k < 24 → m < 24 → rowPlace s j + k ≡ rowPlace s i + m → ⊥ = λ k m l d e. n (rows-apart (104 + 8 * seasonsOf s) j i k m l d e) in
+      record { byte = λ k l. w .elsewhere (rowPlace s j + k) (off k 2 l (omega arith)) (off k 6 l (omega arith)) (off k 7 l (omega arith)) }
 
-  -- two of them together,
-  row-word : (j k q : ℕ) → q ≡ rowPlace s j + k → T (plain k) → T (plain (k + 1)) → u16At s' q ≡ u16At s q
-  row-word j k q place h l = cc (row-byte j k q place h, row-byte j (k + 1) (q + 1) (omega arith) l)
+  -- so every row counts and passes alike:
+  row-alike : (j : ℕ) → RowAlike s s' (rowPlace s j)
+  row-alike j = elim (ℕ-discrete j i) [ yes e ↦ rw e (written-alike fitted w) | no n ↦ same-alike (other j n) ]
 
-  -- four of them,
-  row-long : (j k q : ℕ) → q ≡ rowPlace s j + k → T (plain k) → T (plain (k + 1)) → T (plain (k + 2)) → T (plain (k + 2 + 1)) → u32At s' q ≡ u32At s q
-  row-long j k q place a b c d = cc (row-word j k q place a b, row-word j (k + 2) (q + 2) (omega arith) c d)
-
-  -- and what class and technology stand for.
-  row-equipment : (j : ℕ) → equipmentAt s' (rowPlace s j) ≡ equipmentAt s (rowPlace s j)
-  unfolding equipmentAt
-  row-equipment j = cc (row-byte j 0 (rowPlace s j) (omega arith) tt, row-byte j 1 (rowPlace s j + 1) refl tt)
-
-  -- In another row than i all bytes are the same
-  other-byte : (j k q : ℕ) → q ≡ rowPlace s j + k → k < 24 → ¬ (j ≡ i) → u8At s' q ≡ u8At s q
-  other-byte j k q place l n =
-      let off : (m : ℕ) → m < 24 → q ≡ rowPlace s i + m → ⊥ = λ m d e. n (apart (104 + 8 * seasonsOf s) j i k m l d (sym place ∙ e) .0) in
-      w .elsewhere q (off 2 (omega arith)) (off 6 (omega arith)) (off 7 (omega arith))
-
-  -- So in every row the canister's code passes alike and stands for the same canister,
-  row-canister : (j : ℕ) → (codeWrong (u8At s' (rowPlace s j + 2)) ≡ codeWrong (u8At s (rowPlace s j + 2))) × (canisterOf (u8At s' (rowPlace s j + 2)) (equipmentAt s (rowPlace s j)) ≡ canisterOf (u8At s (rowPlace s j + 2)) (equipmentAt s (rowPlace s j)))
-  row-canister j =
-      elim (ℕ-discrete j i) [
-        | yes e ↦ rw e (⊎-elim (λ h. (cc, cc)) (λ (h, g). (cc (code-counts c), cc (canister-counts c t))) (w .canister))
-        | no n ↦ let h = other-byte j 2 (rowPlace s j + 2) refl (omega arith) n in (cc, cc)
-      ]
-
-  -- the tank passes alike and counts the same,
-  row-tank : (j : ℕ) → (ltb tankLimit (u16At s' (rowPlace s j + 6)) ≡ ltb tankLimit (u16At s (rowPlace s j + 6))) × (tankOf (u16At s' (rowPlace s j + 6)) (equipmentAt s (rowPlace s j)) ≡ tankOf (u16At s (rowPlace s j + 6)) (equipmentAt s (rowPlace s j)))
-  row-tank j =
-      elim (ℕ-discrete j i) [
-        | yes e ↦ rw e (⊎-elim (λ h. (cc, cc)) (λ (h, g). (cc (tank-passes s (rowPlace s i) fitted), cc (tank-counts c t))) (w .tank))
-        | no n ↦
-            let h = other-byte j 6 (rowPlace s j + 6) refl (omega arith) n in
-            let g = other-byte j 7 (rowPlace s j + 6 + 1) (omega arith) (omega arith) n in
-            (cc, cc)
-      ]
-
-  -- the record that starts at the row's place gives the same values,
-  row-from : (j : ℕ) → rowFrom s' (rowPlace s j) ≡ rowFrom s (rowPlace s j)
-  unfolding rowFrom
-  row-from j =
-      let p : ℕ = rowPlace s j in
-      rw (
-        row-equipment j,
-        row-canister j .1,
-        row-tank j .1,
-        row-byte j 0 p (omega arith) tt,
-        row-byte j 3 (p + 3) refl tt,
-        row-byte j 4 (p + 4) refl tt,
-        row-byte j 5 (p + 5) refl tt,
-        row-long j 8 (p + 8) refl tt tt tt tt,
-        row-word j 12 (p + 12) refl tt tt,
-        row-word j 14 (p + 14) refl tt tt,
-        row-word j 16 (p + 16) refl tt tt,
-        row-word j 18 (p + 18) refl tt tt,
-        row-long j 20 (p + 20) refl tt tt tt tt,
-      )
-
-  -- which are the row's,
+  -- its values are the same,
   row : (j : ℕ) → rowAt s' j ≡ rowAt s j
   unfolding rowAt
-  row j = rw seasons (row-from j)
+  row j = rw seasons (row-alike j .row)
 
-  -- and the row passes or is refused alike.
+  -- and it passes or is refused alike.
   row-check : (j : ℕ) → rowCheck s' j ≡ rowCheck s j
   unfolding rowCheck
-  row-check j =
-      let (code, canister) = row-canister j in
-      let (limit, tank) = row-tank j in
-      cc (seasons, row j, row-equipment j, some _ (seasonsOf s) (omega arith))
+  row-check j = let r = row-alike j in cc (seasons, row j, some _ (seasonsOf s) (omega arith))
 
   -- accepted or refused alike, with the same values
   pub alike : Alike s s'
-  unfolding sheetCheck lengthCheck seasonList
+  unfolding sheetCheck lengthCheck parkingCheck cellsOf seasonList
   alike = record {
     length-same = w .same-length;
     seasons-same = seasons;
@@ -261,8 +209,8 @@ module _ (s s' : List ℕ) (i : ℕ) (c : Canister) (t : ℕ) (fitted : equipmen
     check-same =
         let checks : each (seasonCheck s') (seasonsOf s) ≡ each (seasonCheck s) (seasonsOf s) = each-cong (seasonCheck s') (seasonCheck s) (seasonsOf s) season-check in
         let rest : each (rowCheck s') (rowsOf s) ≡ each (rowCheck s) (rowsOf s) = each-cong (rowCheck s') (rowCheck s) (rowsOf s) (λ j _. row-check j) in
-        cc (w .same-length, seasons, rows, head, parking, checks, rest);
-    cells-same = cells;
+        cc (w .same-length, seasons, rows, head, durations, hours, checks, rest);
+    cells-same = cc (durations, hours);
     season-same = season;
     season-list-same = cc (seasons, season-list 0 (seasonsOf s) (omega arith));
     row-same = λ j _. row j;
@@ -273,7 +221,8 @@ pub nothing-written : (s : List ℕ) (p : ℕ) (c : Canister) (t : ℕ) → Writ
 nothing-written s p c t = record { same-length = refl; elsewhere = λ k a b d. refl; canister = inl refl; tank = inl refl }
 
 -- the canister written, where the row left it to the class
-pub canister-written : {s s' : List ℕ} {p : ℕ} {c : Canister} {t : ℕ} → p + 24 ≤ length s → u8At s (p + 2) ≡ 255 → Written s s' p c t → Written s (set s' (p + 2) (codeOf c)) p c t
+pub canister-written : {s s' : List ℕ} {p : ℕ} {c : Canister} {t : ℕ} → p + 24 ≤ length s → u8At s (p + 2) ≡ 255 → Written s s' p c t
+    → Written s (set s' (p + 2) (codeOf c)) p c t
 canister-written {s} {s'} {p} {c} inside h w =
     let kept : (k : ℕ) → ¬ (k ≡ p + 2) → u8At (set s' (p + 2) (codeOf c)) k ≡ u8At s' k = λ k a. getD-set-other s' (p + 2) k (codeOf c) 0 a in
     let tank : u16At (set s' (p + 2) (codeOf c)) (p + 6) ≡ u16At s' (p + 6) = cc (kept (p + 6) (λ e. omega arith), kept (p + 6 + 1) (λ e. omega arith)) in
@@ -285,7 +234,8 @@ canister-written {s} {s'} {p} {c} inside h w =
     }
 
 -- the tank written, where the row left it to the class
-pub tank-written : {s s' : List ℕ} {p : ℕ} {c : Canister} {t : ℕ} → p + 24 ≤ length s → u16At s (p + 6) ≡ 0 → Written s s' p c t → Written s (set (set s' (p + 6) (t % 256)) (p + 7) (t / 256)) p c t
+pub tank-written : {s s' : List ℕ} {p : ℕ} {c : Canister} {t : ℕ} → p + 24 ≤ length s → u16At s (p + 6) ≡ 0 → Written s s' p c t
+    → Written s (set (set s' (p + 6) (t % 256)) (p + 7) (t / 256)) p c t
 tank-written {s} {s'} {p} {c} {t} inside h w =
     let low : List ℕ = set s' (p + 6) (t % 256) in
     let kept : (k : ℕ) → ¬ (k ≡ p + 6) → ¬ (k ≡ p + 7) → u8At (set low (p + 7) (t / 256)) k ≡ u8At s' k
@@ -304,13 +254,20 @@ tank-written {s} {s'} {p} {c} {t} inside h w =
     }
 
 -- Row i, inside the sheet, whose class stands for canister c and tank t: the class's canister may be written for 255,
-pub canister-alike : (s : List ℕ) (i : ℕ) {c : Canister} {t : ℕ} → equipmentAt s (rowPlace s i) ≡ Fitted c t → rowPlace s i + 24 ≤ length s → u8At s (rowPlace s i + 2) ≡ 255 → Alike s (set s (rowPlace s i + 2) (codeOf c))
+pub canister-alike : (s : List ℕ) (i : ℕ) {c : Canister} {t : ℕ} → equipmentAt s (rowPlace s i) ≡ Fitted c t
+    → rowPlace s i + 24 ≤ length s → u8At s (rowPlace s i + 2) ≡ 255
+    → Alike s (set s (rowPlace s i + 2) (codeOf c))
 canister-alike s i {c} {t} fitted inside h = alike s _ i c t fitted (canister-written inside h (nothing-written s (rowPlace s i) c t))
 
 -- its tank for 0,
-pub tank-alike : (s : List ℕ) (i : ℕ) {c : Canister} {t : ℕ} → equipmentAt s (rowPlace s i) ≡ Fitted c t → rowPlace s i + 24 ≤ length s → u16At s (rowPlace s i + 6) ≡ 0 → Alike s (set (set s (rowPlace s i + 6) (t % 256)) (rowPlace s i + 7) (t / 256))
+pub tank-alike : (s : List ℕ) (i : ℕ) {c : Canister} {t : ℕ} → equipmentAt s (rowPlace s i) ≡ Fitted c t
+    → rowPlace s i + 24 ≤ length s → u16At s (rowPlace s i + 6) ≡ 0
+    → Alike s (set (set s (rowPlace s i + 6) (t % 256)) (rowPlace s i + 7) (t / 256))
 tank-alike s i {c} {t} fitted inside h = alike s _ i c t fitted (tank-written inside h (nothing-written s (rowPlace s i) c t))
 
 -- and both.
-pub both-alike : (s : List ℕ) (i : ℕ) {c : Canister} {t : ℕ} → equipmentAt s (rowPlace s i) ≡ Fitted c t → rowPlace s i + 24 ≤ length s → u8At s (rowPlace s i + 2) ≡ 255 → u16At s (rowPlace s i + 6) ≡ 0 → Alike s (set (set (set s (rowPlace s i + 2) (codeOf c)) (rowPlace s i + 6) (t % 256)) (rowPlace s i + 7) (t / 256))
+pub both-alike : (s : List ℕ) (i : ℕ) {c : Canister} {t : ℕ} → equipmentAt s (rowPlace s i) ≡ Fitted c t → rowPlace s i + 24 ≤ length s
+    → u8At s (rowPlace s i + 2) ≡ 255
+    → u16At s (rowPlace s i + 6) ≡ 0
+    → Alike s (set (set (set s (rowPlace s i + 2) (codeOf c)) (rowPlace s i + 6) (t % 256)) (rowPlace s i + 7) (t / 256))
 both-alike s i {c} {t} fitted inside h k = alike s _ i c t fitted (tank-written inside k (canister-written inside h (nothing-written s (rowPlace s i) c t)))

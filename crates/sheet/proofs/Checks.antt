@@ -3,11 +3,12 @@
 -- Assumes nothing.
 use mathlib.Core.Bool.{Bool, true, false, not, _&&_, _||_}
 use mathlib.Core.Logic.{_⊎_, inl, inr, ⊎-elim}
-use mathlib.Core.Path.{_≡_, refl, sym}
+use mathlib.Core.List.{List, [], _∷_, _++_}
+use mathlib.Core.Path.{_≡_, refl, sym, _∙_}
 use Prim.Native.Nat.{ℕ, suc, zero, _≤_, _<_}
-use native.Mathlib.Decide.{decLe}
+use native.Mathlib.Decide.{decLe, ℕ-discrete}
 use native.Mathlib.Omega.{arith}
-use borrow.Author.Tests.{ltb-true, ltb-false, lt-ltb, le-ltb, eqb-true, eqb-false, not-true, not-false}
+use borrow.Author.Tests.{ltb-true, ltb-false, eqb-true, eqb-false, eq-eqb, ne-eqb, not-true, not-false}
 use lib.Dec.{ltb, eqb}
 use Rattle.numbers.specs.Fraction.{Fraction, _≤ᶠ_, _≤?_}
 use Rattle.numbers.proofs.Order.{test-cases}
@@ -115,7 +116,8 @@ judges-then {c} {d} j k = record {
 
 -- one test, then the rest
 infixr 4 _⊳_
-pub _⊳_ : {wrong : Bool} {number place : ℕ} {A : Type 0} {d : Check} {E : Demands} → Tests wrong A → Judges d E → Judges (refuse wrong number place then d) (demand number place A next E)
+pub _⊳_ : {wrong : Bool} {number place : ℕ} {A : Type 0} {d : Check} {E : Demands}
+    → Tests wrong A → Judges d E → Judges (refuse wrong number place then d) (demand number place A next E)
 t ⊳ j = judges-then (judges-refuse t) j
 
 -- one check for each record judges one demand for each
@@ -139,24 +141,48 @@ pub met-passes : (c : Check) {D : Demands} → Judges c D → Met D → c ≡ Pa
 met-passes Pass j met = refl
 met-passes (Refused n p) {D} j met = absurd (unmet-not-met n p D (j .refuses n p refl) met)
 
+-- True and false.
+
+pub true-is-not-false : true ≡ false → ⊥
+true-is-not-false e = let z : _≡_ {A = ℕ} 0 1 = cc in omega arith
+
+or-true : (b : Bool) → (b || true) ≡ true
+or-true true = refl
+or-true false = refl
+
+-- one of two that give true together is true
+or-cases : (b : Bool) {c : Bool} {A : Type 0} → (b || c) ≡ true → (b ≡ true → A) → (c ≡ true → A) → A
+or-cases true h f g = f refl
+or-cases false h f g = g h
+
+-- and where both are needed, both are
+and-both : (b : Bool) {c : Bool} → (b && c) ≡ true → (b ≡ true) × (c ≡ true)
+and-both true h = (refl, h)
+and-both false h = absurd (true-is-not-false (sym h))
+
 -- From the number alone to its demand.
 
--- the first number, and one past the last, where numbers rise
-abbrev pub least : Demands → ℕ
-least (demand number place A) = number
-least (D next E) = least D
-least (every n f) = least (f 0)
+-- the numbers of demands, the same for every record
+abbrev pub numbers : Demands → List ℕ
+numbers (demand number place A) = number ∷ []
+numbers (D next E) = numbers D ++ numbers E
+numbers (every n f) = numbers (f 0)
 
-abbrev pub top : Demands → ℕ
-top (demand number place A) = suc number
-top (D next E) = top E
-top (every n f) = top (f 0)
+-- a number is one of these
+abbrev pub among : ℕ → List ℕ → Bool
+among n [] = false
+among n (m ∷ ms) = eqb n m || among n ms
 
--- the numbers run on, the same for every record
-abbrev pub Rising : Demands → Type 0
-Rising (demand number place A) = Unit
-Rising (D next E) = (top D ≡ least E) × Rising D × Rising E
-Rising (every n f) = (i : ℕ) → (least (f i) ≡ least (f 0)) × (top (f i) ≡ top (f 0)) × Rising (f i)
+-- none of the one is among the other
+abbrev pub apart : List ℕ → List ℕ → Bool
+apart [] ns = true
+apart (m ∷ ms) ns = not (among m ns) && apart ms ns
+
+-- no number stands for two demands
+abbrev pub Once : Demands → Type 0
+Once (demand number place A) = Unit
+Once (D next E) = (apart (numbers D) (numbers E) ≡ true) × Once D × Once E
+Once (every n f) = (i : ℕ) → (numbers (f i) ≡ numbers (f 0)) × Once (f i)
 
 abbrev pub choose : Bool → Type 0 → Type 0 → Type 0
 choose true A B = A
@@ -165,36 +191,50 @@ choose false A B = B
 -- the demand of this number is not met at this place, and all before it are; at a numeral this computes to that demand
 abbrev pub Unmet : ℕ → ℕ → Demands → Type 0
 Unmet n p (demand number place A) = (n ≡ number) × (p ≡ place) × ¬ A
-Unmet n p (D next E) = choose (ltb n (top D)) (Unmet n p D) (Met D × Unmet n p E)
+Unmet n p (D next E) = choose (among n (numbers D)) (Unmet n p D) (Met D × Unmet n p E)
 Unmet n p (every k f) = (i : ℕ) × (i < k) × ((j : ℕ) → j < i → Met (f j)) × Unmet n p (f i)
 
-least-below-top : (D : Demands) → Rising D → least D < top D
-least-below-top (demand number place A) r = omega arith
-least-below-top (D next E) r = omega (arith, least-below-top D (r .1), least-below-top E (r .2), r .0)
-least-below-top (every n f) r = least-below-top (f 0) (r 0 .2)
+-- a number among the first, or among the second, is among both together
+among-left : (n : ℕ) (ms ns : List ℕ) → among n ms ≡ true → among n (ms ++ ns) ≡ true
+among-left n [] ns h = absurd (true-is-not-false (sym h))
+among-left n (m ∷ ms) ns h = or-cases (eqb n m) h (λ e. rw e refl) (λ e. rw (among-left n ms ns e) (or-true (eqb n m)))
 
-number-between : (n p : ℕ) (D : Demands) → Rising D → FirstUnmet n p D → (least D ≤ n) × (n < top D)
-number-between n p (demand number place A) r u = (omega arith, omega arith)
-number-between n p (D next E) r u =
-    ⊎-elim (λ a. let h = number-between n p D (r .1) a in let k = least-below-top E (r .2) in (h .0, omega (arith, r .0)))
-    (λ (m, a). let h = number-between n p E (r .2) a in let k = least-below-top D (r .1) in (omega (arith, r .0), h .1)) u
-number-between n p (every k f) r (i, l, before, a) =
-    let h = number-between n p (f i) (r i .2) a in
-    (omega (arith, r i .0), omega (arith, r i .1))
+among-right : (n : ℕ) (ms ns : List ℕ) → among n ns ≡ true → among n (ms ++ ns) ≡ true
+among-right n [] ns h = h
+among-right n (m ∷ ms) ns h = rw (among-right n ms ns h) (or-true (eqb n m))
+
+-- a number among the second is not among the first
+apart-not : (n : ℕ) (ms ns : List ℕ) → apart ms ns ≡ true → among n ns ≡ true → among n ms ≡ false
+apart-not n [] ns a h = refl
+apart-not n (m ∷ ms) ns a h =
+    let (absent, rest) = and-both (not (among m ns)) a in
+    rw (apart-not n ms ns rest h)
+    (elim (ℕ-discrete n m) [
+      | yes e ↦ absurd (true-is-not-false (sym (rw e at h) ∙ not-true (among m ns) absent))
+      | no e ↦ rw (ne-eqb n m e) refl
+    ])
+
+-- the first demand that is not met has one of the numbers
+pub number-among : (n p : ℕ) (D : Demands) → Once D → FirstUnmet n p D → among n (numbers D) ≡ true
+number-among n p (demand number place A) r u = rw (eq-eqb n number (u .0)) refl
+number-among n p (D next E) r u =
+    ⊎-elim (λ a. among-left n (numbers D) (numbers E) (number-among n p D (r .1) a))
+    (λ (m, a). among-right n (numbers D) (numbers E) (number-among n p E (r .2) a)) u
+number-among n p (every k f) r (i, l, before, a) = rw (← r i .0) (number-among n p (f i) (r i .1) a)
 
 -- the first demand that is not met is the one of its number
-pub unmet : (n p : ℕ) (D : Demands) → Rising D → FirstUnmet n p D → Unmet n p D
+pub unmet : (n p : ℕ) (D : Demands) → Once D → FirstUnmet n p D → Unmet n p D
 unmet n p (demand number place A) r u = u
 unmet n p (D next E) r u =
     ⊎-elim
-    (λ a. rw (lt-ltb n (top D) (number-between n p D (r .1) a .1)) (unmet n p D (r .1) a))
-    (λ (m, a). rw (le-ltb n (top D) (omega (arith, r .0, number-between n p E (r .2) a .0))) (m, unmet n p E (r .2) a)) u
-unmet n p (every k f) r (i, l, before, a) = (i, l, before, unmet n p (f i) (r i .2) a)
+    (λ a. rw (number-among n p D (r .1) a) (unmet n p D (r .1) a))
+    (λ (m, a). rw (apart-not n (numbers D) (numbers E) (r .0) (number-among n p E (r .2) a)) (m, unmet n p E (r .2) a)) u
+unmet n p (every k f) r (i, l, before, a) = (i, l, before, unmet n p (f i) (r i .1) a)
 
 -- the demand of this number is not met at this place
 abbrev pub Broken : ℕ → ℕ → Demands → Type 0
 Broken n p (demand number place A) = (p ≡ place) × ¬ A
-Broken n p (D next E) = choose (ltb n (top D)) (Broken n p D) (Broken n p E)
+Broken n p (D next E) = choose (among n (numbers D)) (Broken n p D) (Broken n p E)
 Broken n p (every k f) = (i : ℕ) × (i < k) × Broken n p (f i)
 
 choose-cong : (b : Bool) {A B C D : Type 0} → (A → C) → (B → D) → choose b A B → choose b C D
@@ -204,13 +244,10 @@ choose-cong false f g y = g y
 -- so it is, where also all before it are met
 pub broken : (n p : ℕ) (D : Demands) → Unmet n p D → Broken n p D
 broken n p (demand number place A) (m, q, fails) = (q, fails)
-broken n p (D next E) u = choose-cong (ltb n (top D)) (broken n p D) (λ (m, a). broken n p E a) u
+broken n p (D next E) u = choose-cong (among n (numbers D)) (broken n p D) (λ (m, a). broken n p E a) u
 broken n p (every k f) (i, l, before, a) = (i, l, broken n p (f i) a)
 
 -- Tests and what they demand.
-
-pub true-is-not-false : true ≡ false → ⊥
-true-is-not-false e = let z : _≡_ {A = ℕ} 0 1 = cc in omega arith
 
 -- the test is true where A holds, and false where not
 pub record Shows (right : Bool) (A : Type 0) : Type 0 where
@@ -230,6 +267,18 @@ pub ||-tests : {b c : Bool} {A B : Type 0} → Tests b A → Tests c B → Tests
 pub &&-tests : {b c : Bool} {A B : Type 0} → Tests b A → Tests c B → Tests (b && c) (A ⊎ B)
 &&-tests {b = true} s t = record { holds = λ e. inr (t .holds e); fails = λ e. ⊎-elim (s .fails refl) (t .fails e) }
 &&-tests {b = false} s t = record { holds = λ e. inl (s .holds refl); fails = λ e. absurd (true-is-not-false (sym e)) }
+
+-- two tests of one demand are equal
+pub tests-same : {b c : Bool} {A : Type 0} → Tests b A → Tests c A → b ≡ c
+tests-same {b = true} {c = true} s t = refl
+tests-same {b = true} {c = false} s t = absurd (s .fails refl (t .holds refl))
+tests-same {b = false} {c = true} s t = absurd (t .fails refl (s .holds refl))
+tests-same {b = false} {c = false} s t = refl
+
+-- where the demand is met the test is false
+pub tests-met : {b : Bool} {A : Type 0} → Tests b A → A → b ≡ false
+tests-met {b = true} t a = absurd (t .fails refl a)
+tests-met {b = false} t a = refl
 
 -- a demand in other words
 pub tests-as : {b : Bool} {A B : Type 0} → (A → B) → (B → A) → Tests b A → Tests b B

@@ -1,7 +1,7 @@
 -- "Where a sheet stops", numbers 1 to 21 of document 01 as demands in plain arithmetic, each with its place: a sheet is accepted
 -- where all are met, and else the first that is not met gives the number and the place.
 -- Assumes nothing.
-use mathlib.Core.Bool.{Bool}
+use mathlib.Core.Bool.{Bool, true}
 use mathlib.Core.List.{List}
 use mathlib.Core.Logic.{_⊎_}
 use mathlib.Core.Path.{_≡_, refl, sym}
@@ -21,18 +21,26 @@ use Rattle.exact.specs.Factors.{total}
 use Rattle.sheet.specs.declared.Check.the-variants.{Pass, Refused}
 use Rattle.sheet.specs.Limits.{seasonsLimit, rowsLimit, countsLimit, daysLimit, coldLimit, warmLimit, vpLeast, vpLimit, percentLimit, tankLimit, vehiclesLimit, tripsLimit, minutesLimit}
 use Rattle.sheet.specs.Bytes.{u8At, u16At, versionOf, seasonsOf, rowsOf, durationCounts, hourCounts, seasonPlace, rowPlace, seasonAt, rowAt, equipmentAt}
-use Rattle.sheet.specs.Sheet.{outside, lettersMissing, headCheck, lengthCheck, parkingCheck, daysBefore, temperaturesWrong, seasonCheck, isAbsent, codeWrong, percentWrong, loadWrong, above3, saturationWrong, someSeason, rowCheck, sheetCheck}
-use Rattle.sheet.proofs.Checks.{Demands, demand, _next_, every, Tests, Judges, Rising, Met, Unmet, unmet, Broken, broken, met-passes, true-is-not-false, below-suc, judges-refuse, judges-then, judges-each, _⊳_, ltb-tests, ||-tests, &&-tests, tests-as, not-tests, eqb-shows, ≤-shows, &&-shows}
+use Rattle.sheet.specs.Sheet.{outside, lettersMissing, markCheck, numbersCheck, headCheck, lengthCheck, parkingCheck, daysBefore, temperaturesWrong, seasonCheck, isAbsent, codeWrong, percentWrong, loadWrong, above3, saturationWrong, someSeason, rowCheck, sheetCheck}
+use Rattle.sheet.proofs.Checks.{Demands, demand, _next_, every, Tests, Judges, numbers, among, number-among, Once, Met, Unmet, unmet, Broken, broken, met-passes, true-is-not-false, below-suc, judges-refuse, judges-then, judges-each, _⊳_, ltb-tests, ||-tests, &&-tests, tests-as, not-tests, eqb-shows, ≤-shows, &&-shows}
 
--- Head | 1 under 8 bytes; 2 mark; 3 version; 4 S; 5 R; 6 byte 7 | 0; 0; 3; 5; 6; 7
-abbrev pub headDemands : List ℕ → Demands
-headDemands s =
+-- Head | 1 under 8 bytes; 2 mark | 0; 0
+abbrev pub markDemands : List ℕ → Demands
+markDemands s =
     demand 1 0 (8 ≤ length s) next
-    demand 2 0 (((u8At s 0 ≡ 0x45) × (u8At s 1 ≡ 0x56)) × (u8At s 2 ≡ 0x50)) next
+    demand 2 0 (((u8At s 0 ≡ 0x45) × (u8At s 1 ≡ 0x56)) × (u8At s 2 ≡ 0x50))
+
+-- Head | 3 version; 4 S; 5 R; 6 byte 7 | 3; 5; 6; 7
+abbrev pub numbersDemands : List ℕ → Demands
+numbersDemands s =
     demand 3 3 (versionOf s ≡ 1) next
     demand 4 5 ((1 ≤ seasonsOf s) × (seasonsOf s ≤ seasonsLimit)) next
     demand 5 6 ((1 ≤ rowsOf s) × (rowsOf s ≤ rowsLimit)) next
     demand 6 7 (u8At s 7 ≡ 0)
+
+-- Head: the mark, then the numbers
+abbrev pub headDemands : List ℕ → Demands
+headDemands s = markDemands s next numbersDemands s
 
 -- Length | 7 not 104 + 8S + 24R | 0
 abbrev pub lengthDemand : List ℕ → Demands
@@ -90,7 +98,7 @@ rowDemands s i =
     demand 20 place ((j : ℕ) → j < seasonsOf s → (size : Fraction) → Size (row .canister) size → AtMost3 (seasonAt s j) size (row .saturation)) next
     demand 21 place (row .reserved ≡ 0)
 
--- "records one after another", in table and file order
+-- the whole table, "in table and file order"
 abbrev pub demands : List ℕ → Demands
 demands s =
     headDemands s next
@@ -104,16 +112,25 @@ outside-tests : (least most x : ℕ) → Tests (outside least most x) ((least �
 unfolding outside
 outside-tests least most x = ||-tests (ltb-tests x least) (ltb-tests most x)
 
--- what headCheck judges
-pub head-judged : (s : List ℕ) → Judges (headCheck s) (headDemands s)
-unfolding headCheck lettersMissing
-head-judged s =
-    ltb-tests _ _ ⊳
-    not-tests (&&-shows (&&-shows (eqb-shows _ _) (eqb-shows _ _)) (eqb-shows _ _)) ⊳
+-- what markCheck judges
+pub mark-judged : (s : List ℕ) → Judges (markCheck s) (markDemands s)
+unfolding markCheck lettersMissing
+mark-judged s =
+    ltb-tests _ _ ⊳ judges-refuse (not-tests (&&-shows (&&-shows (eqb-shows _ _) (eqb-shows _ _)) (eqb-shows _ _)))
+
+-- numbersCheck
+numbers-judged : (s : List ℕ) → Judges (numbersCheck s) (numbersDemands s)
+unfolding numbersCheck
+numbers-judged s =
     not-tests (eqb-shows _ _) ⊳
     outside-tests _ _ _ ⊳
     outside-tests _ _ _ ⊳
     judges-refuse (not-tests (eqb-shows _ _))
+
+-- headCheck
+pub head-judged : (s : List ℕ) → Judges (headCheck s) (headDemands s)
+unfolding headCheck
+head-judged s = judges-then (mark-judged s) (numbers-judged s)
 
 -- lengthCheck
 pub length-judged : (s : List ℕ) → Judges (lengthCheck s) (lengthDemand s)
@@ -160,7 +177,8 @@ unfolding above3
 above3-tests season s saturation = tests-as (λ h size e. rw e h) (λ f. f s refl) (not-tests (≤-shows _ _))
 
 -- and for the size of the canister, if there is one
-saturation-tests : (c : Canister) (saturation : ℕ) (season : Season) → Tests (saturationWrong c saturation season) ((size : Fraction) → Size c size → AtMost3 season size saturation)
+pub saturation-tests : (c : Canister) (saturation : ℕ) (season : Season)
+    → Tests (saturationWrong c saturation season) ((size : Fraction) → Size c size → AtMost3 season size saturation)
 unfolding saturationWrong
 saturation-tests None saturation season = record { holds = λ _ size n. absurd n; fails = λ e. absurd (true-is-not-false (sym e)) }
 saturation-tests Small saturation season = above3-tests season (whole 2) saturation
@@ -168,7 +186,8 @@ saturation-tests Medium saturation season = above3-tests season (whole 1) satura
 saturation-tests Large saturation season = above3-tests season (5 /10^ 1) saturation
 
 -- a test at some season demands the same of every season
-some-tests : {P : Season → Type 0} (wrong : Season → Bool) → ((season : Season) → Tests (wrong season) (P season)) → (s : List ℕ) (n : ℕ) → Tests (someSeason wrong s n) ((j : ℕ) → j < n → P (seasonAt s j))
+some-tests : {P : Season → Type 0} (wrong : Season → Bool) → ((season : Season) → Tests (wrong season) (P season))
+    → (s : List ℕ) (n : ℕ) → Tests (someSeason wrong s n) ((j : ℕ) → j < n → P (seasonAt s j))
 unfolding someSeason
 some-tests wrong t s zero =
     record { holds = λ _ j l. absurd (omega arith); fails = λ e. absurd (true-is-not-false (sym e)) }
@@ -200,18 +219,18 @@ sheet-judged s =
     (judges-then (parking-judged s)
     (judges-then (judges-each (seasonsOf s) (season-judged s)) (judges-each (rowsOf s) (row-judged s)))))
 
--- the numbers 1 to 21 run on
-rising : (s : List ℕ) → Rising (demands s)
-rising s = (
+-- no number stands for two demands
+once : (s : List ℕ) → Once (demands s)
+once s = (
   refl,
-  (refl, tt, (refl, tt, (refl, tt, (refl, tt, (refl, tt, tt))))),
+  (refl, (refl, tt, tt), (refl, tt, (refl, tt, (refl, tt, tt)))),
   (
     refl,
     tt,
     (
       refl,
       (refl, tt, tt),
-      (refl, (λ i. (refl, refl, (refl, tt, (refl, tt, tt)))), (λ i. (refl, refl, (refl, tt, (refl, tt, (refl, tt, (refl, tt, (refl, tt, (refl, tt, (refl, tt, (refl, tt, tt))))))))))),
+      (refl, (λ i. (refl, (refl, tt, (refl, tt, tt)))), (λ i. (refl, (refl, tt, (refl, tt, (refl, tt, (refl, tt, (refl, tt, (refl, tt, (refl, tt, (refl, tt, tt))))))))))),
     ),
   ),
 )
@@ -223,7 +242,11 @@ met-accepted s met = met-passes (sheetCheck s) (sheet-judged s) met
 -- a number is returned only where its demand is not met, and all before it are: at each numeral 1 to 21 this computes to the
 -- line of that number in the tables above, with its place, and those before it
 pub refused : (s : List ℕ) (n p : ℕ) → sheetCheck s ≡ Refused n p → Unmet n p (demands s)
-refused s n p h = unmet n p (demands s) (rising s) (sheet-judged s .refuses n p h)
+refused s n p h = unmet n p (demands s) (once s) (sheet-judged s .refuses n p h)
+
+-- and has a line there
+pub refused-number : (s : List ℕ) {n p : ℕ} → sheetCheck s ≡ Refused n p → among n (numbers (demands s)) ≡ true
+refused-number s h = number-among _ _ (demands s) (once s) (sheet-judged s .refuses _ _ h)
 
 -- in some season, whose record starts at p, this does not hold of it and of the days before it
 abbrev pub NotInSeason : List ℕ → ℕ → (Season → ℕ → Type 0) → Type 0
@@ -245,7 +268,9 @@ pub record Conditions (s : List ℕ) (p : ℕ) : Type 0 where
   pub durations : sheetCheck s ≡ Refused 8 p → (p ≡ 8) × ¬ ((1 ≤ total (durationCounts s)) × (total (durationCounts s) ≤ 1000))
   pub hours : sheetCheck s ≡ Refused 9 p → (p ≡ 56) × ¬ ((1 ≤ total (hourCounts s)) × (total (hourCounts s) ≤ 1000))
   pub days : sheetCheck s ≡ Refused 10 p → NotInSeason s p (λ (season : Season) (before : ℕ). ((1 ≤ season .days) × (season .days ≤ 366)) × (before + season .days ≤ 366))
-  pub temperatures : sheetCheck s ≡ Refused 11 p → NotInSeason s p (λ (season : Season) (before : ℕ). ((negᶠ (300 /10^ 1) ≤ᶠ signedTenths (season .lowest)) × (signedTenths (season .lowest) ≤ᶠ signedTenths (season .highest))) × (signedTenths (season .highest) ≤ᶠ 500 /10^ 1))
+  pub temperatures : sheetCheck s ≡ Refused 11 p
+      → NotInSeason s p (λ (season : Season) (before : ℕ). ((negᶠ (300 /10^ 1) ≤ᶠ signedTenths (season .lowest)) × (signedTenths (season .lowest) ≤ᶠ signedTenths (season .highest)))
+      × (signedTenths (season .highest) ≤ᶠ 500 /10^ 1))
   pub vapour-pressure : sheetCheck s ≡ Refused 12 p → NotInSeason s p (λ (season : Season) (before : ℕ). (300 ≤ season .vp) × (season .vp ≤ 1100))
   pub class-technology : sheetCheck s ≡ Refused 13 p → NotInRow s p (λ (row : Row) (place : ℕ). ¬ (equipmentAt s place ≡ Absent))
   pub canister-code : sheetCheck s ≡ Refused 14 p → NotInRow s p (λ (row : Row) (place : ℕ). (u8At s (place + 2) ≤ 3) ⊎ (u8At s (place + 2) ≡ 255))
@@ -254,10 +279,11 @@ pub record Conditions (s : List ℕ) (p : ℕ) : Type 0 where
   pub tank : sheetCheck s ≡ Refused 17 p → NotInRow s p (λ (row : Row) (place : ℕ). u16At s (place + 6) ≤ 1500)
   pub trips-minutes : sheetCheck s ≡ Refused 18 p → NotInRow s p (λ (row : Row) (place : ℕ). (row .trips ≤ 2000) × (row .minutes ≤ 1440))
   pub loads : sheetCheck s ≡ Refused 19 p → NotInRow s p (λ (row : Row) (place : ℕ). (row .load ≤ row .saturation) × (row .canister ≡ None → row .saturation ≡ 0))
-  pub saturation : sheetCheck s ≡ Refused 20 p → NotInRow s p (λ (row : Row) (place : ℕ). (j : ℕ) → j < seasonsOf s → (size : Fraction) → Size (row .canister) size → AtMost3 (seasonAt s j) size (row .saturation))
+  pub saturation : sheetCheck s ≡ Refused 20 p
+      → NotInRow s p (λ (row : Row) (place : ℕ). (j : ℕ) → j < seasonsOf s → (size : Fraction) → Size (row .canister) size → AtMost3 (seasonAt s j) size (row .saturation))
   pub bytes-20-to-23 : sheetCheck s ≡ Refused 21 p → NotInRow s p (λ (row : Row) (place : ℕ). row .reserved ≡ 0)
 
--- "Only where its condition holds"
+-- "a number is returned only where its condition holds"
 pub conditions : (s : List ℕ) (p : ℕ) → Conditions s p
 conditions s p =
     let only : (n : ℕ) → sheetCheck s ≡ Refused n p → Broken n p (demands s) = λ n h. broken n p (demands s) (refused s n p h) in

@@ -1,5 +1,5 @@
 -- The fields of a sheet, version 1, as document 01 places them. "Integers are little-endian, offsets decimal". Definitions only.
-use mathlib.Core.Bool.{Bool, true, false}
+use mathlib.Core.Bool.{true, false}
 use mathlib.Core.List.{List, [], _∷_}
 use Prim.Native.Nat.{ℕ, suc, zero, _+_, _*_}
 use lib.Dec.{eqb}
@@ -22,7 +22,7 @@ u16At s i = u8At s i + 256 * u8At s (i + 1)
 abbrev pub u32At : List ℕ → ℕ → ℕ
 u32At s i = u16At s i + 65536 * u16At s (i + 2)
 
--- "Head, 8 bytes: letters EVP; u16 version 1; u8 seasons S, 1 to 12; u8 rows R, 1 to 32; a zero byte."
+-- "Head, 8 bytes: letters EVP (hexadecimal 45 56 50); u16 version 1; u8 seasons S, 1 to 12; u8 rows R, 1 to 32; a zero byte."
 abbrev pub versionOf : List ℕ → ℕ
 versionOf s = u16At s 3
 
@@ -55,7 +55,7 @@ seasonPlace s i = 104 + 8 * i
 abbrev pub rowPlace : List ℕ → ℕ → ℕ
 rowPlace s i = 104 + 8 * seasonsOf s + 24 * i
 
--- "Season, 8 bytes: u16 days; i16 lowest and i16 highest temperature; u16 vapour pressure", the record that starts at p
+-- "Season, 8 bytes: u16 days .. i16 lowest and i16 highest temperature .. u16 vapour pressure vp", the record that starts at p
 unfoldable pub seasonFrom : List ℕ → ℕ → Season
 seasonFrom s p = record { days = u16At s p; lowest = u16At s (p + 2); highest = u16At s (p + 4); vp = u16At s (p + 6) }
 
@@ -98,9 +98,9 @@ unfoldable pub tankOf : ℕ → Equipment → ℕ
 tankOf zero e = fittedTank e
 tankOf (suc tenths) e = suc tenths
 
--- "Row, 24 bytes: 0 class; 1 technology; 2 canister; 3 share c of carburettor or fuel-return vehicles; 4 hot-trip share p;
--- 5 fill level h; 6 u16 tank; 8 u32 vehicles; 12 u16 trips a day in hundredths; 14 u16 minutes per trip;
--- 16 u16 canister load at parking start, 18 u16 saturating load; 20 four zero bytes." The record that starts at p.
+-- "Row, 24 bytes: 0 class; 1 technology; 2 canister .. 3 share c of carburettor or fuel-return vehicles; 4 hot-trip share p;
+-- 5 fill level h .. 6 u16 tank .. 8 u32 vehicles .. 12 u16 trips a day in hundredths .. 14 u16 minutes per trip ..
+-- 16 u16 canister load at parking start, 18 u16 saturating load m_sat .. 20 four zero bytes." The record that starts at p.
 unfoldable pub rowFrom : List ℕ → ℕ → Row
 rowFrom s p = record {
   class = u8At s p;

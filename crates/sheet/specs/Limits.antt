@@ -1,4 +1,4 @@
--- The limits of a sheet, version 1, each named once for the definitions; src/limits.rt names them for the code.
+-- The limits of a sheet, version 1, each named once for the definitions; fields/src/limits.rt names them for the code.
 -- Definitions only.
 use Prim.Native.Nat.{ℕ}
 

@@ -1,8 +1,8 @@
 -- "Where a sheet stops": the table of document 01, numbers 1 to 21. Definitions only.
 use mathlib.Core.Bool.{Bool, true, false, not, _&&_, _||_}
-use mathlib.Core.List.{List, [], _∷_}
+use mathlib.Core.List.{List}
 use Prim.Native.Nat.{ℕ, suc, zero, _+_, _*_}
-use lib.Dec.{leb, ltb, eqb}
+use lib.Dec.{ltb, eqb}
 use lib.ListN.{length}
 use Rattle.numbers.specs.Fraction.{Fraction, _+ᶠ_, negᶠ, _*ᶠ_, whole, _/10^_, _≤?_}
 use Rattle.exact.specs.declared.Canister.{Canister}
@@ -15,7 +15,6 @@ use Rattle.exact.specs.Day.{signedTenths}
 use Rattle.exact.specs.Canister.{a, b}
 use Rattle.exact.specs.Factors.{total}
 use Rattle.sheet.specs.declared.Check.{Check}
-use Rattle.sheet.specs.declared.Check.the-variants.{Pass, Refused}
 use Rattle.sheet.specs.Limits.{seasonsLimit, rowsLimit, countsLimit, daysLimit, coldLimit, warmLimit, vpLeast, vpLimit, percentLimit, tankLimit, vehiclesLimit, tripsLimit, minutesLimit}
 use Rattle.sheet.specs.Bytes.{u8At, u16At, versionOf, seasonsOf, rowsOf, durationCounts, hourCounts, seasonPlace, rowPlace, seasonAt, rowAt, equipmentAt}
 use Rattle.sheet.specs.Check.{refuse, _then_, each}
@@ -28,15 +27,23 @@ outside least most x = ltb x least || ltb most x
 unfoldable pub lettersMissing : List ℕ → Bool
 lettersMissing s = not (eqb (u8At s 0) 0x45 && eqb (u8At s 1) 0x56 && eqb (u8At s 2) 0x50)
 
--- Head | 1 under 8 bytes; 2 mark; 3 version; 4 S; 5 R; 6 byte 7 | 0; 0; 3; 5; 6; 7
-unfoldable pub headCheck : List ℕ → Check
-headCheck s =
+-- Head | 1 under 8 bytes; 2 mark | 0; 0
+unfoldable pub markCheck : List ℕ → Check
+markCheck s =
     refuse (ltb (length s) 8) 1 0 then
-    refuse (lettersMissing s) 2 0 then
+    refuse (lettersMissing s) 2 0
+
+-- Head | 3 version; 4 S; 5 R; 6 byte 7 | 3; 5; 6; 7
+unfoldable pub numbersCheck : List ℕ → Check
+numbersCheck s =
     refuse (not (eqb (versionOf s) 1)) 3 3 then
     refuse (outside 1 seasonsLimit (seasonsOf s)) 4 5 then
     refuse (outside 1 rowsLimit (rowsOf s)) 5 6 then
     refuse (not (eqb (u8At s 7) 0)) 6 7
+
+-- Head: the mark, then the numbers
+unfoldable pub headCheck : List ℕ → Check
+headCheck s = markCheck s then numbersCheck s
 
 -- Length | 7 not 104 + 8S + 24R | 0
 unfoldable pub lengthCheck : List ℕ → Check
@@ -124,7 +131,7 @@ rowCheck s i =
     refuse (someSeason (saturationWrong (row .canister) (row .saturation)) s (seasonsOf s)) 20 place then
     refuse (not (eqb (row .reserved) 0)) 21 place
 
--- "records one after another", in table and file order
+-- the whole table, "in table and file order"
 unfoldable pub sheetCheck : List ℕ → Check
 sheetCheck s =
     headCheck s then

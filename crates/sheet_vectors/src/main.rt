@@ -32,7 +32,7 @@ fn with_sheet(s: &[u8], v: Vector, position: u64, number: u64, tally: Tally) -> 
     }
     let start = v.start;
     let end = v.end;
-    let found = sheet::check_sheet(&s[start..end]);
+    let found = checks::check_sheet(&s[start..end]);
     let right = agrees(found, v);
     if !right {
         print_other(position, v, found);

@@ -4,15 +4,15 @@ use borrow.Author.Needs.{needs}
 use Rattle.numbers.specs.Lists.{tab}
 use Rattle.numbers.proofs.Lists.{tab-at-most}
 use Rattle.bounds.proofs.Weights.{w-most}
-use Rattle.marks.specs.Marks.{markWarmth}
-use Rattle.marks.proofs.Season.{warmth-most}
+use Rattle.sheet.specs.Range.{markWarmth}
+use Rattle.sheet.proofs.Temperature.{warmth-most}
 use Rattle.marks.proofs.season_temperatures.Statement.{statement}
 use Rattle.marks.proofs.season_temperatures.Tie as tie
 
 same : (c : tie.After-temperatures) → c .temperatures .result ≡ tab (markWarmth (c .before .before .before .before .args .season)) 48
 unfolding markWarmth
 same c =
-    rw (c .before .before .before .shifted .ensures, c .before .before .shifted2 .ensures, c .before .weights-table .ensures) at (c .temperatures .ensures)
+    rw (c .before .before .before .warmth .ensures, c .before .before .warmth2 .ensures, c .before .weights-table .ensures) at (c .temperatures .ensures)
 
 returns : tie.Need-returns
 returns c =

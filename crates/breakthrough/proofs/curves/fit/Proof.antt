@@ -4,8 +4,8 @@ use Prim.Native.Nat.{ℕ, _+_, _*_, _-_, _^_, _≤_, _<_}
 use native.Mathlib.Omega.{arith}
 use Rattle.numbers.specs.Lists.{tab, at, AllAtMost}
 use Rattle.numbers.proofs.Lists.{tab-ext, getD-tab, tab-at-most}
-use Rattle.marks.specs.Marks.{markWarmth}
-use Rattle.marks.proofs.Season.{warmth-most}
+use Rattle.sheet.specs.Range.{markWarmth}
+use Rattle.sheet.proofs.Temperature.{warmth-most}
 use Rattle.factors.specs.Escape.{base, growth}
 use Rattle.factors.proofs.Canister.{saturation-most}
 use Rattle.breakthrough.specs.Curves.{baseAt, growthAt}

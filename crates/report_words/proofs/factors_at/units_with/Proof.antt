@@ -1,11 +1,10 @@
 -- `report_words::factors_at::units_with` meets its contract: the season and the row of an accepted sheet are in range.
 use mathlib.Core.Path.{_≡_, _∙_}
-use Rattle.marks.specs.Range.{SeasonInRange}
+use Rattle.sheet.specs.Range.{SeasonInRange}
 use Rattle.row_factors.specs.Seven.{sevenUnits}
 use Rattle.row_factors.specs.Season.{MarksReady}
 use Rattle.sheet.specs.Bytes.{cellsOf, seasonAt, rowAt}
 use Rattle.sheet.proofs.Accepted.{Bytes, accepted}
-use Rattle.report_words.proofs.AcceptedRange.{season-in-range}
 use Rattle.report_words.proofs.Places.{season-there, row-there}
 use Rattle.report_words.proofs.SeasonWork.{steps-most, marks-ready, season-lent}
 use Rattle.masses.proofs.FigureSizes.{units-in-range}
@@ -21,7 +20,7 @@ bytes c = record { byte = λ k. c .shared-slice-known .given k .fits }
 in-range : (c : tie.After-season-at) → SeasonInRange (c .season-at .result)
 in-range c =
     let start = c .before .before in
-    rw (c .season-at .ensures .0) (season-in-range (bytes (c .before)) (accepted (start .args .s .now) (start .pre .0 .passes) .season _ (start .pre .1)))
+    rw (c .season-at .ensures .0) (accepted (start .args .s .now) (start .pre .0 .passes) .season _ (start .pre .1) .in-range (bytes (c .before)))
 
 -- its marks and rises are ready
 ready : (c : tie.After-walk) → MarksReady (c .before .before .before .before .season-at .result) (c .before .before .before .at-marks .result) (c .walk .result)

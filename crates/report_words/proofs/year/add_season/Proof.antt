@@ -1,9 +1,8 @@
 -- `report_words::year::add_season` meets its contract: the words then hold one season more.
 use mathlib.Core.Path.{_≡_, _∙_}
-use Rattle.marks.specs.Range.{SeasonInRange}
+use Rattle.sheet.specs.Range.{SeasonInRange}
 use Rattle.row_factors.specs.Season.{MarksReady}
 use Rattle.sheet.proofs.Accepted.{Bytes, accepted}
-use Rattle.report_words.proofs.AcceptedRange.{season-in-range}
 use Rattle.report_words.proofs.Places.{season-there}
 use Rattle.report_words.proofs.SeasonWork.{steps-most, marks-ready, season-lent}
 use Rattle.report_words.proofs.SeasonWords.{season-fits, season-stored}
@@ -19,7 +18,7 @@ bytes c = record { byte = λ k. c .before .shared-slice-known .given k .fits }
 in-range : (c : tie.After-season-at) → SeasonInRange (c .season-at .result)
 in-range c =
     let start = c .before .before .before in
-    rw (c .season-at .ensures .0) (season-in-range (bytes (c .before)) (accepted (start .args .s .now) (start .pre .0 .passes) .season _ (start .pre .1)))
+    rw (c .season-at .ensures .0) (accepted (start .args .s .now) (start .pre .0 .passes) .season _ (start .pre .1) .in-range (bytes (c .before)))
 
 -- its marks and rises are ready
 ready : (c : tie.After-walk) → MarksReady (c .before .before .before .before .season-at .result) (c .before .before .before .at-marks .result) (c .walk .result)

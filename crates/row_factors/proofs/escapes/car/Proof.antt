@@ -1,7 +1,7 @@
 -- `row_factors::escapes::car` meets its contract: without canister, each escape is the vapour of a mean rise.
 use mathlib.Core.Path.{_≡_, _∙_}
 use native.Mathlib.Omega.{arith}
-use Rattle.factors.specs.Escape.{halves}
+use Rattle.sheet.specs.Range.{halves}
 use Rattle.factors.specs.Units.{startOf, endOf}
 use Rattle.factors.proofs.Gain.{gain-most}
 use Rattle.row_factors.proofs.Escaping.{five-most, rise-mean-most, raise-mean-most, open-parking, open-raise, open-trip}
