@@ -203,7 +203,7 @@ fn report(s: &[u8]) -> bool {
 }
 
 fn main() {
-    let mut buffer = io::large_buffer();
+    let mut buffer = vectors::input::buffer();
     let n = io::read_full(STDIN_FILENO, &mut buffer);
     if !report(&buffer[..n]) {
         text(b"the input is not of the length that it says\n");

@@ -117,7 +117,7 @@ fn report(s: &[u8]) {
 }
 
 fn main() {
-    let mut buffer = io::large_buffer();
+    let mut buffer = vectors::input::buffer();
     let n = io::read_full(STDIN_FILENO, &mut buffer);
     report(&buffer[..n]);
 }

@@ -24,9 +24,6 @@ use words::sums_right;
 ghost use Prim.Native.Nat.{_+_, _/_, _<_, _≤_};
 ghost use lib.ListN.{length};
 
-// The largest input
-const ROOM: usize = 262144;
-
 // The bytes before each sheet, five numbers of two: its length and rows, the words of the buffer, and the number and place at which it is
 // refused, both 0 where it is accepted
 const HEAD: usize = 10;
@@ -231,7 +228,7 @@ fn report(s: &[u8]) {
 }
 
 fn main() {
-    let mut buffer = [0u8; ROOM];
+    let mut buffer = vectors::input::buffer();
     let n = io::read_full(STDIN_FILENO, &mut buffer);
     report(&buffer[..n]);
 }

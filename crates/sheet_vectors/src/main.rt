@@ -16,9 +16,6 @@ use vectors::tally::next;
 ghost use Prim.Native.Nat.{_+_, _≤_};
 ghost use lib.ListN.{length};
 
-// The largest input
-const ROOM: usize = 262144;
-
 // The bytes before each sheet: its length (two), a number (one) and a place (two). No list is behind it.
 const HEAD: usize = 5;
 
@@ -123,7 +120,7 @@ fn report(s: &[u8]) {
 }
 
 fn main() {
-    let mut buffer = [0u8; ROOM];
+    let mut buffer = vectors::input::buffer();
     let n = io::read_full(STDIN_FILENO, &mut buffer);
     report(&buffer[..n]);
 }

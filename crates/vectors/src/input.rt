@@ -13,6 +13,13 @@ pub struct Record {
     pub end: usize,
 }
 
+// Zeros for the longest input. The `ensures` gives only the length, which lending the array as a slice needs.
+pub fn buffer() -> [u8; 262144]
+    ensures { λ r. ⌜ 262144 ≡ length r ⌝ }
+{
+    [0; 262144]
+}
+
 fn wide(b: u8) -> u64
     ensures { λ r. ⌜ r < 256 ⌝ }
 {
