@@ -7,7 +7,6 @@ mod words;
 use band::mass_at;
 use libc::STDIN_FILENO;
 use sheet::Check;
-use vectors::answer::Answer;
 use vectors::input::COUNT;
 use vectors::input::record_at;
 use vectors::input::u16_at;
@@ -107,16 +106,18 @@ fn with_verdict(right: bool, sheet: u64, tally: Tally) -> Tally {
     tally.with(Verdict::bare(right))
 }
 
-// The answer of the report into the first words of a buffer
-fn answer_of(s: &[u8], room: usize, words: &mut [u64]) -> Answer
+// The report into the first words of a buffer
+fn report_into(s: &[u8], room: usize, words: &mut [u64]) -> Check
     requires { ⌜ room ≤ length (now words) ⌝ }
 {
-    match inventory::report(s, &mut words[0..room]) {
-        Check::Pass => Answer {
-            number: 0,
-            place: 0,
-        },
-        Check::Refused(number, place) => Answer { number, place },
+    inventory::report(s, &mut words[0..room])
+}
+
+// Whether the answer is the one that is expected
+fn answers(found: Check, head: Head) -> bool {
+    match found {
+        Check::Pass => head.number == 0,
+        Check::Refused(number, place) => (number == head.number) & (place == head.place),
     }
 }
 
@@ -142,8 +143,7 @@ fn with_sheet(s: &[u8], rows: &[u8], head: Head, pass: usize, sheet: u64, tally:
         return tally;
     }
     let mut words = [OLD; 256];
-    let found = answer_of(s, room, &mut words);
-    let right = (found.number == head.number) & (found.place == head.place);
+    let right = answers(report_into(s, room, &mut words), head);
     if pass == REFUSALS {
         return with_verdict(right & kept(&words, 0), sheet, tally);
     }
