@@ -1,41 +1,96 @@
 // Holds the factor call against the exact factors that tools/factors.py put into standard input: for each of the seven, how many lie in
 // their bands, how wide these are and how far off their middles the factors lie; and how many calls are refused as expected.
-mod answer;
-
-use answer::Call;
-use answer::call_at;
-use answer::print_other;
-use answer::verdict_of;
+use inventory::FactorAnswer;
 use libc::STDIN_FILENO;
+use vectors::factor::Reply;
+use vectors::factor::reply_at;
 use vectors::input::COUNT;
 use vectors::input::record_at;
 use vectors::input::u32_at;
+use vectors::input::u64_at;
 use vectors::print::number;
 use vectors::print::text;
 use vectors::tally::Tally;
 use vectors::tally::next;
+ghost use Prim.Native.Nat.{_+_, _*_, _≤_};
+ghost use lib.ListN.{length};
 
-// The bytes before each sheet, its length and the number of its calls, and those of a call
+// The bytes before each sheet, its length and the number of its calls, and those of a call: season, row and factor, and the reply that
+// is expected
 const HEAD: usize = 4;
 
 const CALL: usize = 56;
 
 const LAST_FACTOR: u64 = 7;
 
+// A call's season, row and factor
+struct Call {
+    season: u64,
+    row: u64,
+    factor: u64,
+}
+
+fn call_at(s: &[u8], at: usize) -> Call
+    requires { ⌜ at + 24 ≤ length (now s) ⌝ }
+{
+    Call {
+        season: u64_at(s, at),
+        row: u64_at(s, at + 8),
+        factor: u64_at(s, at + 16),
+    }
+}
+
+fn reply_of(found: FactorAnswer) -> Reply {
+    match found {
+        FactorAnswer::Refused(number, place) => Reply {
+            number,
+            place,
+            low: 0,
+            high: 0,
+        },
+        FactorAnswer::Band(low, high) => Reply {
+            number: 0,
+            place: 0,
+            low,
+            high,
+        },
+    }
+}
+
+fn found_by(s: &[u8], c: Call) -> Reply {
+    reply_of(inventory::factor(s, c.season, c.row, c.factor))
+}
+
 // The calls that are told apart: those to be refused, as kind 0, and the others by their factor
-fn kind_of(c: Call) -> u64 {
-    if c.number == 0 { c.factor } else { 0 }
+fn kind_of(expected: u64, factor: u64) -> u64 {
+    if expected == 0 { factor } else { 0 }
+}
+
+// A line for a call whose answer is not right; sheets and the calls on each are counted from 1, as tools/factors.py lists them.
+fn print_other(sheet: u64, call: u64, c: Call, expected: Reply, found: Reply) {
+    number(b"sheet ", sheet);
+    number(b" call ", call);
+    number(b": season ", c.season);
+    number(b" row ", c.row);
+    number(b" factor ", c.factor);
+    expected.print(b": expected ", b" ng");
+    found.print(b", found ", b" ug");
+    text(b"\n");
 }
 
 // A tally with one call more, where it is of this kind
-fn with_call(s: &[u8], c: Call, sheet: u64, call: u64, kind: u64, tally: Tally) -> Tally {
-    if kind_of(c) != kind {
+fn with_call(s: &[u8], calls: &[u8], i: usize, sheet: u64, kind: u64, tally: Tally) -> Tally
+    requires { ⌜ 56 * i + 56 ≤ length (now calls) ⌝ }
+{
+    let c = call_at(calls, CALL * i);
+    let expected = reply_at(calls, CALL * i + 24);
+    if kind_of(expected.number, c.factor) != kind {
         return tally;
     }
-    let found = inventory::factor(s, c.season, c.row, c.factor);
-    let verdict = verdict_of(found, c);
+    let found = found_by(s, c);
+    let verdict = found.verdict(expected);
     if !verdict.right {
-        print_other(sheet, call, c, found);
+        print_other(sheet, i as u64 + 1, c, expected, found);
     }
     tally.with(verdict)
 }
@@ -45,8 +100,7 @@ fn tally_sheet(s: &[u8], calls: &[u8], sheet: u64, kind: u64, before: Tally) -> 
     let mut tally = before;
     let mut i = 0;
     while i < calls.len() / CALL {
-        let call = i as u64 + 1;
-        tally = with_call(s, call_at(calls, CALL * i), sheet, call, kind, tally);
+        tally = with_call(s, calls, i, sheet, kind, tally);
         i += 1;
     }
     tally
@@ -98,6 +152,19 @@ fn report_factors(s: &[u8]) -> Tally {
     all
 }
 
+// The lines of the factors, and that of the refusals; how many calls they count
+fn print_all(s: &[u8]) -> u64 {
+    let factors = report_factors(s);
+    text(b"factors");
+    print_factors(factors);
+    let refused = tally_of(s, 0);
+    number(b"refused calls ", refused.tried);
+    number(b" alike ", refused.right);
+    text(b"\n");
+    let all = factors.plus(refused);
+    all.tried
+}
+
 // A call that is cut off, or of an accepted factor that is none of the seven, is missing from the tallies; the count that the input
 // gives shows it.
 fn report(s: &[u8]) {
@@ -105,15 +172,8 @@ fn report(s: &[u8]) {
         vectors::print::no_count();
         return;
     }
-    let factors = report_factors(&s[COUNT..]);
-    text(b"factors");
-    print_factors(factors);
-    let refused = tally_of(&s[COUNT..], 0);
-    number(b"refused calls ", refused.tried);
-    number(b" alike ", refused.right);
-    text(b"\n");
-    let all = factors.plus(refused);
-    vectors::print::count(all.tried, u32_at(s, 0), b" calls\n");
+    let tried = print_all(&s[COUNT..]);
+    vectors::print::count(tried, u32_at(s, 0), b" calls\n");
 }
 
 fn main() {

@@ -1,35 +1,37 @@
 // Holds the report against the exact masses that tools/reports.py put into standard input: how many of the rows' bands enclose their
 // masses and are as narrow as they should be, how many sheets have subtotals and totals that are sums of their rows' words, and how
 // many are refused as expected with every word of the buffer left as it was.
-mod band;
-mod words;
-
-use band::mass_at;
 use libc::STDIN_FILENO;
 use sheet::Check;
 use vectors::input::COUNT;
 use vectors::input::record_at;
 use vectors::input::u16_at;
 use vectors::input::u32_at;
+use vectors::mass::ROW;
+use vectors::mass::mass_at;
+use vectors::mass::print_other;
+use vectors::mass::verdict_of;
 use vectors::print::number;
 use vectors::print::text;
 use vectors::tally::Tally;
 use vectors::tally::Verdict;
 use vectors::tally::next;
-use words::OLD;
-use words::WORDS;
-use words::kept;
-use words::sums_right;
+use vectors::tally::smaller;
+use vectors::words::OLD;
+use vectors::words::kept;
+use vectors::words::sums_right;
+ghost use mathlib.Core.Path.{_≡_};
 ghost use Prim.Native.Nat.{_+_, _/_, _<_, _≤_};
 ghost use lib.ListN.{length};
+
+// The words of the buffer
+const WORDS: usize = 256;
 
 // The bytes before each sheet, five numbers of two: its length and rows, the words of the buffer, and the number and place at which it is
 // refused, both 0 where it is accepted
 const HEAD: usize = 10;
 
-// The bytes of a row, and of as many rows as a sheet can have
-const ROW: usize = 72;
-
+// The bytes of as many rows as a sheet can have
 const ROWS: usize = 2304;
 
 // What is looked at in one pass: the bands of mass 0, 1 or 2, the sums of the accepted sheets, or the refusals
@@ -37,7 +39,7 @@ const SUMS: usize = 3;
 
 const REFUSALS: usize = 4;
 
-// The words of a sheet's buffer, and the answer that is expected
+// The words of a sheet's buffer, as far as there is room, and the answer that is expected
 struct Head {
     room: usize,
     number: u64,
@@ -46,19 +48,13 @@ struct Head {
 
 fn head_at(s: &[u8], at: usize) -> Head
     requires { ⌜ at + 10 ≤ length (now s) ⌝ }
+    ensures { λ r. ⌜ r .room ≤ 256 ⌝ }
 {
     Head {
-        room: u16_at(s, at + 4) as usize,
+        room: smaller(u16_at(s, at + 4) as usize, WORDS),
         number: u16_at(s, at + 6),
         place: u16_at(s, at + 8),
     }
-}
-
-fn print_row(sheet: u64, row: usize, mass: usize) {
-    number(b"sheet ", sheet);
-    number(b" row ", row as u64);
-    number(b" mass ", mass as u64);
-    text(b": ");
 }
 
 // A tally with one band more
@@ -76,10 +72,9 @@ fn with_band(
     let low = words[at];
     let high = words[at + 1];
     let m = mass_at(rows, ROW * row, mass);
-    let verdict = band::verdict_of(low, high, m);
+    let verdict = verdict_of(low, high, m);
     if !verdict.right {
-        print_row(sheet, row + 1, mass);
-        band::print_other(low, high, m);
+        print_other(sheet, row as u64 + 1, mass as u64, m, low, high);
     }
     tally.with(verdict)
 }
@@ -121,36 +116,20 @@ fn answers(found: Check, head: Head) -> bool {
     }
 }
 
-// A tally with the bands of an accepted sheet, or with its sums
-fn with_report(words: &[u64; 256], rows: &[u8], pass: usize, sheet: u64, tally: Tally) -> Tally
-    requires { ⌜ (length (now rows) ≤ 2304) × (pass ≤ 3) ⌝ }
-{
-    if pass == SUMS {
-        return with_verdict(sums_right(words, rows), sheet, tally);
-    }
-    with_bands(words, rows, pass, sheet, tally)
-}
-
-// A tally with one sheet more
+// A tally with one sheet more: all its bands of one mass, its sums or its refusal
 fn with_sheet(s: &[u8], rows: &[u8], head: Head, pass: usize, sheet: u64, tally: Tally) -> Tally
-    requires { ⌜ pass ≤ 4 ⌝ }
+    requires { ⌜ (head .room ≤ 256) × (length (now rows) ≤ 2304) × (pass ≤ 4) ⌝ }
 {
     let room = head.room;
-    if WORDS < room {
-        return tally;
-    }
-    if ROWS < rows.len() {
-        return tally;
-    }
     let mut words = [OLD; 256];
     let right = answers(report_into(s, room, &mut words), head);
     if pass == REFUSALS {
         return with_verdict(right & kept(&words, 0), sheet, tally);
     }
-    if !right {
-        return with_verdict(false, sheet, tally);
+    if pass == SUMS {
+        return with_verdict(right & sums_right(&words, rows), sheet, tally);
     }
-    with_report(&words, rows, pass, sheet, tally)
+    with_bands(&words, rows, pass, sheet, tally)
 }
 
 // Whether a pass looks at the sheets with this number
@@ -177,10 +156,11 @@ fn tally_of(s: &[u8], pass: usize) -> Tally
         if s.len() < end {
             return tally;
         }
+        let rows = list + smaller(end - list, ROWS);
         sheet = next(sheet);
         let head = head_at(s, at);
         if looks_at(pass, head.number) {
-            tally = with_sheet(&s[start..list], &s[list..end], head, pass, sheet, tally);
+            tally = with_sheet(&s[start..list], &s[list..rows], head, pass, sheet, tally);
         }
         at = end;
     }
@@ -216,8 +196,7 @@ fn print_passes(s: &[u8]) -> u64 {
     both.tried
 }
 
-// A sheet that is cut off, or with more words or rows than there is room for, is missing from the tallies; the count that the input
-// gives shows it.
+// A sheet that is cut off is missing from the tallies; the count that the input gives shows it.
 fn report(s: &[u8]) {
     if s.len() < COUNT {
         vectors::print::no_count();

@@ -1,4 +1,5 @@
 // What came of the vectors that were tried.
+ghost use Prim.Native.Nat.{_≤_};
 
 // Whether an answer is right; of a band its width, and how far off the exact value was
 pub struct Verdict {
@@ -18,6 +19,12 @@ pub struct Tally {
 
 pub fn larger(a: u64, b: u64) -> u64 {
     if a < b { b } else { a }
+}
+
+pub fn smaller(a: usize, b: usize) -> usize
+    ensures { λ r. ⌜ (r ≤ a) × (r ≤ b) ⌝ }
+{
+    if a < b { a } else { b }
 }
 
 // One more than a count

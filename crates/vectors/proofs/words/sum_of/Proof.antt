@@ -1,9 +1,9 @@
--- `report_vectors::words::sum_of` is safe and ends. The loop's invariant: no more rows are passed than there are. The measure is what is left of them.
+-- `vectors::words::sum_of` is safe and ends. The loop's invariant: no more rows are passed than there are. The measure is what is left of them.
 use Prim.Native.Nat.{_≤_, _-_, _/_}
 use borrow.Author.Needs.{needs}
 use lib.ListN.{length}
-use Rattle.report_vectors.proofs.words.sum_of.Statement.{statement}
-use Rattle.report_vectors.proofs.words.sum_of.Tie as tie
+use Rattle.vectors.proofs.words.sum_of.Statement.{statement}
+use Rattle.vectors.proofs.words.sum_of.Tie as tie
 
 abbrev Inv-loop : tie.InvT-loop
 Inv-loop words rows subtotal j sum₀ i₀ sum i = i ≤ length rows / 72

@@ -1,10 +1,14 @@
-// The band of a mass, and whether it is right: around the exact mass, and as narrow as it should be.
-use vectors::input::u64_at;
-use vectors::print::band;
-use vectors::print::text;
-use vectors::tally::Verdict;
+// The band of a row's mass in a report, and whether it is right: around the exact mass, and as narrow as it should be.
+use crate::input::u64_at;
+use crate::print::band;
+use crate::print::number;
+use crate::print::text;
+use crate::tally::Verdict;
 ghost use Prim.Native.Nat.{_+_, _≤_};
 ghost use lib.ListN.{length};
+
+// The bytes of a row that is expected: nine numbers, the category first
+pub const ROW: usize = 72;
 
 // The widths allowed: 2 mg, and a hundredth of a milligram for each time that a factor counts
 const ENDS: u64 = 2;
@@ -69,8 +73,12 @@ pub fn verdict_of(low: u64, high: u64, m: Mass) -> Verdict {
     }
 }
 
-pub fn print_other(low: u64, high: u64, m: Mass) {
-    band(b"expected ", m.below, m.above);
+// A line for a mass whose band is not right; sheets and rows are counted from 1.
+pub fn print_other(sheet: u64, row: u64, mass: u64, m: Mass, low: u64, high: u64) {
+    number(b"sheet ", sheet);
+    number(b" row ", row);
+    number(b" mass ", mass);
+    band(b": expected ", m.below, m.above);
     band(b" mg, found ", low, high);
     text(b" mg\n");
 }

@@ -1,8 +1,8 @@
--- `report_vectors::words::subtotals_right` is safe and ends. The measure is the sums that are left.
+-- `vectors::words::subtotals_right` is safe and ends. The measure is the sums that are left.
 use Prim.Native.Nat.{_≤_, _-_}
 use borrow.Author.Needs.{needs}
-use Rattle.report_vectors.proofs.words.subtotals_right.Statement.{statement}
-use Rattle.report_vectors.proofs.words.subtotals_right.Tie as tie
+use Rattle.vectors.proofs.words.subtotals_right.Statement.{statement}
+use Rattle.vectors.proofs.words.subtotals_right.Tie as tie
 
 abbrev Inv-loop : tie.InvT-loop
 Inv-loop words rows at k₀ k = k ≤ 24

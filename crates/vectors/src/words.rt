@@ -1,13 +1,13 @@
-// The words of a buffer that a report was written to: those that were left as they were, and the sums of the rows' words.
-use crate::ROW;
-use vectors::input::u64_at;
+// The words of a buffer that a report was written to, and the rows that are expected of it: words left as they were, and sums.
+use crate::input::u64_at;
+use crate::mass::ROW;
 ghost use Prim.Native.Nat.{_≤_, _<_};
 ghost use lib.ListN.{length};
 
 // What the buffer holds before a call, larger than any mass
 pub const OLD: u64 = 17361641481138401520;
 
-pub const WORDS: usize = 256;
+const WORDS: usize = 256;
 
 // The words of the subtotals, six each for cars, light-duty, two-wheelers and all rows
 const SUMS: usize = 24;
