@@ -20,15 +20,13 @@ import math
 import sys
 from collections import Counter, namedtuple
 from fractions import Fraction
-from itertools import product
-from pathlib import Path
+from itertools import chain, product
 
 import evaporation
 import sheets
+from inputs import TOP, answer_text, packed, serve
 from sheets import BY_CLASS, EMPTY, PAIRS, ROW, SEASON, Chance, Plan, chance_plan, most
 
-TOP = Path(__file__).resolve().parent.parent
-TARGET = TOP / "crates" / "factor_vectors" / "stdin"
 ROOM = 65536  # what the program can read
 TERMS = (40, 60)
 NANOGRAMS = 10 ** 9
@@ -240,40 +238,20 @@ def missing(found):
         yield "not every number"
 
 
-def encoded(group):
-    numbers = b"".join(number.to_bytes(8, "little") for call in group.calls for number in call)
-    return len(group.data).to_bytes(2, "little") + len(group.calls).to_bytes(2, "little") + group.data + numbers
+def encoded(found):
+    parts = [packed(4, [sum(len(group.calls) for group in found)])]
+    for group in found:
+        parts += [packed(2, [len(group.data), len(group.calls)]), group.data, packed(8, chain.from_iterable(group.calls))]
+    return b"".join(parts)
 
 
-def made(found):
-    """The bytes of the file."""
-    count = sum(len(group.calls) for group in found)
-    return count.to_bytes(4, "little") + b"".join(encoded(group) for group in found)
-
-
-def listed(found):
+def lines(found):
     for sheet, group in enumerate(found, 1):
         for position, call in enumerate(group.calls, 1):
-            answer = "refused %d at %d" % (call.number, call.place) if call.number else "%d ng" % call.below
-            print("sheet %d call %d: season %d row %d factor %d  %s  %s" % (
-                sheet, position, *call[:3], answer, group.words))
-
-
-def main():
-    if sys.argv[1:] not in ([], ["--check"], ["--list"]):
-        sys.exit(__doc__)
-    found = all_groups()
-    data = made(found)
-    faults = [*missing(found), *(["more than %d bytes" % ROOM] if len(data) > ROOM else [])]
-    if faults:
-        sys.exit("factors: " + "; ".join(faults))
-    if sys.argv[1:] == ["--list"]:
-        listed(found)
-    elif not sys.argv[1:]:
-        TARGET.write_bytes(data)
-    elif not TARGET.exists() or TARGET.read_bytes() != data:
-        sys.exit("crates/factor_vectors/stdin is not what tools/factors.py writes")
+            answer = answer_text(call.number, call.place) if call.number else "%d ng" % call.below
+            yield "sheet %d call %d: season %d row %d factor %d  %s  %s" % (
+                sheet, position, *call[:3], answer, group.words)
 
 
 if __name__ == "__main__":
-    main()
+    serve(__doc__, "factor_vectors", ROOM, all_groups, encoded, missing, lines)

@@ -17,18 +17,16 @@ the whole milligrams below and above the exact mass, at n = 40 and for most
 sheets at n = 60 too. Every number has its lowest byte first.
 """
 
-import sys
 from collections import namedtuple
 from dataclasses import replace
-from pathlib import Path
+from itertools import chain
 
 import evaporation
 import sheets
 from factors import few_cells, one_cell, whole
+from inputs import TOP, answer_text, packed, serve
 from sheets import EMPTY, PAIRS, ROW, SEASON, Chance, Plan, chance_plan
 
-TOP = Path(__file__).resolve().parent.parent
-TARGET = TOP / "crates" / "report_vectors" / "stdin"
 ROOM = 2 ** 18  # what the program can read
 WORDS = 256  # the words of its buffer
 MILLIGRAMS = 1000
@@ -190,38 +188,18 @@ def missing(vectors):
             yield "not all %s" % words
 
 
-def encoded(v):
-    head = (len(v.case.data), len(v.rows), v.case.room, *v.answer)
-    numbers = b"".join(number.to_bytes(8, "little") for row in v.rows for number in row)
-    return b"".join(number.to_bytes(2, "little") for number in head) + v.case.data + numbers
+def encoded(vectors):
+    parts = [packed(4, [len(vectors)])]
+    for v in vectors:
+        head = (len(v.case.data), len(v.rows), v.case.room, *v.answer)
+        parts += [packed(2, head), v.case.data, packed(8, chain.from_iterable(v.rows))]
+    return b"".join(parts)
 
 
-def made(vectors):
-    """The bytes of the file."""
-    return len(vectors).to_bytes(4, "little") + b"".join(encoded(v) for v in vectors)
-
-
-def listed(vectors):
+def lines(vectors):
     for position, v in enumerate(vectors, 1):
-        answer = "refused %d at %d" % v.answer if v.answer[0] else "accepted"
-        print("%4d  %-17s  %s" % (position, answer, v.case.words))
-
-
-def main():
-    if sys.argv[1:] not in ([], ["--check"], ["--list"]):
-        sys.exit(__doc__)
-    vectors = all_vectors()
-    data = made(vectors)
-    faults = [*missing(vectors), *(["more than %d bytes" % ROOM] if len(data) > ROOM else [])]
-    if faults:
-        sys.exit("reports: " + "; ".join(faults))
-    if sys.argv[1:] == ["--list"]:
-        listed(vectors)
-    elif not sys.argv[1:]:
-        TARGET.write_bytes(data)
-    elif not TARGET.exists() or TARGET.read_bytes() != data:
-        sys.exit("crates/report_vectors/stdin is not what tools/reports.py writes")
+        yield "%4d  %-17s  %s" % (position, answer_text(*v.answer), v.case.words)
 
 
 if __name__ == "__main__":
-    main()
+    serve(__doc__, "report_vectors", ROOM, all_vectors, encoded, missing, lines)

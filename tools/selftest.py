@@ -7,10 +7,13 @@ Prints one line for each thing checked; the first failure ends the run with a
 message and exit status 1.
 """
 
+import contextlib
+import io
 import math
 import os
 import random
 import sys
+import tempfile
 import time
 from fractions import Fraction
 
@@ -66,7 +69,7 @@ def check_writer():
         ("durations 1\n\nhoors 1", "line 3: "),
         ("durations 1 2", "line 1: durations: 24 counts wanted, 2 found"),
         ("hours" + " 1" * 25, "line 1: hours: 24 counts wanted, 25 found"),
-        ("# a\nseason days=1 lowest=20.05 highest=3 vp=60", "line 2: lowest: 20.05"),
+        ("# a\nseason days=1 lowest=20.05 highest=3 vp=60", "line 2: lowest: 20.05 has 2 decimal places"),
         ("season days=1 lowest=-4000 highest=3 vp=60", "line 1: lowest: -4000 does not fit"),
         ("season days=1 lowest=1 highest=3", "line 1: season: vp is missing"),
         ("row class=256 technology=0", "line 1: class: 256 does not fit"),
@@ -75,6 +78,45 @@ def check_writer():
         ("row class=1 technology=0 fuel=1", "line 1: 'fuel': no such field"),
         ("row technology=0", "line 1: row: class is missing"),
         ("letters 4556", "line 1: letters: 3 bytes wanted"),
+        # a field of whole things takes no point, be it for thousands or for a part
+        ("\nrow class=1 technology=0 vehicles=12.000", "line 2: vehicles: 12.000 has a point"),
+        ("season days=92.0 lowest=1 highest=3 vp=60", "line 1: days: 92.0 has a point"),
+        ("durations 1 2 3.0", "line 1: durations: 3.0 has a point"),
+        ("hours 1 2 3.", "line 1: hours: '3.' is no number"),
+        ("row class=1.0 technology=0", "line 1: class: 1.0 has a point"),
+        ("row class=1 technology=0.0", "line 1: technology: 0.0 has a point"),
+        ("row class=1 technology=0 canister=1.0", "line 1: canister: 1.0 has a point"),
+        ("row class=1 technology=0 carburettor=40.0", "line 1: carburettor: 40.0 has a point"),
+        ("row class=1 technology=0 hot=30.5", "line 1: hot: 30.5 has a point"),
+        ("row class=1 technology=0 fill=35.0", "line 1: fill: 35.0 has a point"),
+        ("row class=1 technology=0 minutes=20.0", "line 1: minutes: 20.0 has a point"),
+        ("version 1.0", "line 1: version: 1.0 has a point"),
+        # more places than the field holds, zeros too
+        ("row class=1 technology=0 trips=2.505", "line 1: trips: 2.505 has 3 decimal places, and the field holds 2"),
+        ("row class=1 technology=0 trips=2.500", "line 1: trips: 2.500 has 3 decimal places"),
+        ("row class=1 technology=0 tank=50.55", "line 1: tank: 50.55 has 2 decimal places, and the field holds 1"),
+        ("row class=1 technology=0 load=1.25", "line 1: load: 1.25 has 2 decimal places"),
+        ("season days=1 lowest=1 highest=3 vp=60.25", "line 1: vp: 60.25 has 2 decimal places"),
+        # forms that are no plain number
+        ("row class=1 technology=0 vehicles=1e3", "line 1: vehicles: '1e3' is no number"),
+        ("row class=1 technology=0 vehicles=1_000", "line 1: vehicles: '1_000' is no number"),
+        ("row class=1 technology=0 vehicles=1,000", "line 1: vehicles: '1,000' is no number"),
+        ("row class=1 technology=0 vehicles=1 000", "line 1: '000': name=value wanted"),
+        ("row class=1 technology=0 vehicles= 1000", "line 1: '1000': name=value wanted"),
+        ("row class=1 technology=0 vehicles=", "line 1: vehicles: '' is no number"),
+        ("row class=1 technology=0 vehicles=1/2", "line 1: vehicles: '1/2' is no number"),
+        ("row class=1 technology=0 vehicles=\u0663", "line 1: vehicles: '\u0663' is no number"),
+        ("row class=1 technology=0 tank=.5", "line 1: tank: '.5' is no number"),
+        ("row class=1 technology=0 vehicles=+5", "line 1: vehicles: +5 has a sign"),
+        ("row class=1 technology=0 tank=-5.0", "line 1: tank: -5.0 has a sign"),
+        ("row class=1 technology=0 vehicles=-0", "line 1: vehicles: -0 has a sign"),
+        # values beyond the field
+        ("row class=1 technology=0 vehicles=4294967296", "line 1: vehicles: 4294967296 does not fit"),
+        ("row class=1 technology=0 vehicles=" + "9" * 5000, "line 1: vehicles: 999"),
+        ("row class=1 technology=0 tank=6553.6", "line 1: tank: 6553.6 does not fit"),
+        ("row class=1 technology=0 trips=655.36", "line 1: trips: 655.36 does not fit"),
+        ("season days=1 lowest=1 highest=3276.8 vp=60", "line 1: highest: 3276.8 does not fit"),
+        ("durations 65536", "line 1: durations: 65536 does not fit"),
     )
     for text, expected in faults:
         try:
@@ -85,6 +127,82 @@ def check_writer():
         else:
             raise Failure("writer: %r was taken" % text)
     return "%d texts that cannot be read: each named with its line" % len(faults)
+
+
+def check_edges():
+    """The last values that fit, signs where a field has one, zeros in front."""
+    text = ("durations 65535" + " 0" * 23 + "\nhours 007" + " 0" * 23 + "\n"
+            "season days=1 lowest=-3276.8 highest=+3276.7 vp=6553.5\n"
+            "row class=255 technology=0 canister=2 vehicles=4294967295 tank=6553.5 trips=655.35 load=0.1 saturation=7\n")
+    data = writer.write(text)
+    for at, size, signed, expected in (
+        (8, 2, False, 65535), (56, 2, False, 7), (106, 2, True, -32768), (108, 2, True, 32767), (110, 2, False, 65535),
+        (112, 1, False, 255), (114, 1, False, 2), (118, 2, False, 65535), (120, 4, False, 2 ** 32 - 1),
+        (124, 2, False, 65535), (128, 2, False, 1), (130, 2, False, 70),
+    ):
+        same(int.from_bytes(data[at:at + size], "little", signed=signed), expected, "byte %d of the edges" % at)
+    same(writer.write(writer.read(data)), data, "the edges read back")
+    return "the last values that fit a field, read back the same"
+
+
+def run_writer(*words):
+    """The exit status of the command, and what it said."""
+    out, kept = io.StringIO(), sys.argv
+    sys.argv = ["sheet.py", *words]
+    try:
+        with contextlib.redirect_stdout(out), contextlib.redirect_stderr(out):
+            status = writer.main()
+    finally:
+        sys.argv = kept
+    return status, out.getvalue()
+
+
+def check_write():
+    """What the command writes and says, and that it leaves its text alone."""
+    text = sample("example", ".txt")
+    with tempfile.TemporaryDirectory() as folder:
+        def at(name):
+            return os.path.join(folder, name)
+
+        def put(name, content):
+            with open(at(name), "wb") as file:
+                file.write(content)
+
+        def content(name):
+            with open(at(name), "rb") as file:
+                return file.read()
+
+        put("a.txt", text)
+        same(run_writer("write", at("a.txt")), (0, "%s: 136 bytes, accepted\n" % at("a.evp")), "write")
+        same(content("a.evp"), sample("example", ".evp"), "bytes written")
+        for line, said in (
+            ("cut 7", "7 bytes, refused 1 at 0 (under 8 bytes)"),
+            ("season days=0 lowest=1 highest=2 vp=60",
+             "144 bytes, refused 10 at 112 (season 2: days 0, above 366, or above 366 with the seasons before)"),
+            ("row class=9 technology=3",
+             "160 bytes, refused 13 at 136 (row 2: class and technology not in the table)"),
+        ):
+            put("b.txt", text + line.encode() + b"\n")
+            same(run_writer("write", at("b.txt"), at("b.evp")), (0, "%s: %s\n" % (at("b.evp"), said)), line)
+        # the text under its own name, another path, a link and a second name
+        put("c.evp", text)
+        os.symlink(at("c.evp"), at("link"))
+        os.link(at("c.evp"), at("second"))
+        os.mkdir(at("below"))
+        for words in ((at("c.evp"),), (at("c.evp"), at("below/../c.evp")), (at("c.evp"), at("link")),
+                      (at("link"), at("c.evp")), (at("c.evp"), at("second"))):
+            status, said = run_writer("write", *words)
+            want(status == 2 and "overwrite" in said, "write %r: %r", words, said)
+            same(content("c.evp"), text, "text after write %r" % (words,))
+        # a text that cannot be read leaves no sheet
+        put("d.txt", text + b"row class=1 technology=0 vehicles=12.000\n")
+        status, said = run_writer("write", at("d.txt"))
+        want(status == 2 and "line 7: vehicles: 12.000" in said, "write of 12.000 vehicles: %r", said)
+        want(not os.path.exists(at("d.evp")), "a sheet of 12.000 vehicles was written")
+        same(run_writer("write", at("none.txt"))[0], 2, "write of no file")
+        same(run_writer("write", at("a.txt"), at("below"))[0], 2, "write to a folder")
+    same(sorted(writer.MEANINGS), list(range(1, 22)), "numbers with a meaning")
+    return "the command: what it wrote and whether it is accepted; its text never overwritten"
 
 
 def check_table_3_5():
@@ -533,6 +651,8 @@ def check_p_examples():
 CHECKS = (
     check_samples,
     check_writer,
+    check_edges,
+    check_write,
     check_p_examples,
     check_weights,
     check_class_table,

@@ -6,8 +6,11 @@
   python3 tools/sheet.py read SHEET           prints the text
 
 The writer puts down what the text says and refuses no value that its field
-can hold, so that faulty sheets can be made too. Exit status: 0 done, 2 for a
-text or sheet that cannot be read, with the line.
+can hold, so that faulty sheets can be made too. It rounds nothing: a number
+with more places than its field has, or with a point where the field counts
+whole things, is an error. It says what it wrote and whether the sheet would be
+accepted, and never writes over the text. Exit status: 0 done, 2 for a text or
+sheet that cannot be read, with the line.
 
 The text, one record to a line, # starts a comment:
 
@@ -37,8 +40,10 @@ For faulty sheets only:
 """
 
 import os
+import re
 import sys
-from fractions import Fraction
+
+import evaporation
 
 CANISTERS = {"none": 0, "small": 1, "medium": 2, "large": 3, "class": 255}
 
@@ -65,29 +70,61 @@ ROW_FIELDS = (
 )
 
 
+# What is wrong where a sheet stops, by number.
+MEANINGS = {
+    1: "under 8 bytes",
+    2: "the letters EVP are missing",
+    3: "the version is not 1",
+    4: "seasons not 1 to 12",
+    5: "rows not 1 to 32",
+    6: "byte 7 is not 0",
+    7: "the length is not 104 + 8S + 24R",
+    8: "duration counts sum to 0 or above 1,000",
+    9: "end-hour counts sum to 0 or above 1,000",
+    10: "days 0, above 366, or above 366 with the seasons before",
+    11: "temperatures below -30.0, above 50.0, or lowest above highest",
+    12: "vapour pressure not 30.0 to 110.0 kPa",
+    13: "class and technology not in the table",
+    14: "canister code not 0 to 3 or 255",
+    15: "a share or the fill level above 100 %",
+    16: "more than 10,000,000 vehicles",
+    17: "tank above 150.0 l",
+    18: "more than 20.00 trips a day or 1,440 minutes a trip",
+    19: "load above m_sat, or either without canister",
+    20: "a + b.s.m_sat above 3 at some season's highest temperature",
+    21: "bytes 20 to 23 of the row are not zero",
+}
+
+
 class TextError(Exception):
     """A text that cannot be read; the message names the line."""
 
 
+# No field holds a number of more digits.
+MOST_DIGITS = 12
+
+
 def _number(word, name, size, signed, parts):
     """A decimal word as the bytes of its field."""
-    try:
-        if not set(word) <= set("+-.0123456789"):
-            raise ValueError
-        value = Fraction(word) * parts
-    except ValueError:
-        raise TextError("%s: %r is no number" % (name, word)) from None
-    if value.denominator != 1:
-        places = len(str(parts)) - 1
-        held = "%d decimal place%s" % (places, "" if places == 1 else "s") if places else "no fraction"
-        raise TextError("%s: %s, but the field holds %s" % (name, word, held))
-    try:
-        return int(value).to_bytes(size, "little", signed=signed)
-    except OverflowError:
-        bits = 8 * size
-        low, high = (-(1 << bits - 1), (1 << bits - 1) - 1) if signed else (0, (1 << bits) - 1)
-        raise TextError("%s: %s does not fit the field (%s to %s)" % (
-            name, word, _decimal(low, parts), _decimal(high, parts))) from None
+    form = re.fullmatch(r"([+-]?)0*([0-9]+)(?:\.([0-9]+))?", word, re.ASCII)
+    if form is None:
+        raise TextError("%s: %r is no number" % (name, word))
+    sign, whole, fraction = form[1], form[2], form[3] or ""
+    if sign and not signed:
+        raise TextError("%s: %s has a sign, and the field has none" % (name, word))
+    places = len(str(parts)) - 1
+    if form[3] is not None and not places:
+        raise TextError("%s: %s has a point, and the field is a whole number" % (name, word))
+    if len(fraction) > places:
+        raise TextError("%s: %s has %d decimal places, and the field holds %d" % (name, word, len(fraction), places))
+    bits = 8 * size
+    low, high = (-(1 << bits - 1), (1 << bits - 1) - 1) if signed else (0, (1 << bits) - 1)
+    if len(whole) <= MOST_DIGITS:
+        value = int(sign + whole + fraction.ljust(places, "0"))
+        if low <= value <= high:
+            return value.to_bytes(size, "little", signed=signed)
+    raise TextError("%s: %s does not fit the field (%s to %s)" % (
+        name, word, _decimal(low, parts), _decimal(high, parts)))
 
 
 def _hexadecimal(word, name, size=None):
@@ -254,15 +291,37 @@ def read(data):
     return "\n".join(lines) + "\n"
 
 
+def verdict(data):
+    """Whether the bytes are accepted; where they are not, why, in words."""
+    refusal = evaporation.check(data)
+    if refusal is None:
+        return "accepted"
+    number, place = refusal
+    where = ""
+    if 10 <= number <= 12:
+        where = "season %d: " % ((place - 104) // 8 + 1)
+    if 13 <= number <= 21:
+        where = "row %d: " % ((place - 104 - 8 * data[5]) // 24 + 1)
+    return "refused %d at %d (%s%s)" % (number, place, where, MEANINGS[number])
+
+
+def write_file(source, target):
+    """Makes the sheet of a text's file, and says what was written."""
+    with open(source, encoding="utf-8") as file:
+        data = write(file.read())
+    # the same file under another name, or through a link, too
+    if os.path.exists(target) and os.path.samefile(source, target):
+        raise TextError("the sheet would overwrite its text; name another file")
+    with open(target, "wb") as file:
+        file.write(data)
+    print("%s: %d bytes, %s" % (target, len(data), verdict(data)))
+
+
 def main():
     words = sys.argv[1:]
     try:
         if words[:1] == ["write"] and len(words) in (2, 3):
-            target = words[2] if len(words) == 3 else os.path.splitext(words[1])[0] + ".evp"
-            with open(words[1], encoding="utf-8") as file:
-                data = write(file.read())
-            with open(target, "wb") as file:
-                file.write(data)
+            write_file(words[1], words[2] if len(words) == 3 else os.path.splitext(words[1])[0] + ".evp")
             return 0
         if words[:1] == ["read"] and len(words) == 2:
             with open(words[1], "rb") as file:

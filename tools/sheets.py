@@ -21,12 +21,11 @@ import sys
 from collections import Counter, namedtuple
 from dataclasses import dataclass, replace
 from itertools import chain, combinations, product
-from pathlib import Path
 
 import evaporation
 import sheet
+from inputs import answer_text, packed, serve
 
-TARGET = Path(__file__).resolve().parent.parent / "crates" / "sheet_vectors" / "stdin"
 ROOM = 2 ** 18  # what the program can read
 
 # `answer` is (number, place), or None where only evaporation.py tells.
@@ -629,37 +628,18 @@ def missing(cases):
             yield "number %d: not in the first and in the last record" % number
 
 
-def encoded(case):
-    number, place = case.answer
-    return len(case.data).to_bytes(2, "little") + bytes([number]) + place.to_bytes(2, "little") + case.data
+def encoded(cases):
+    parts = [packed(4, [len(cases)])]
+    for case in cases:
+        number, place = case.answer
+        parts += [packed(2, [len(case.data)]), packed(1, [number]), packed(2, [place]), case.data]
+    return b"".join(parts)
 
 
-def made(cases):
-    """The bytes of the file."""
-    return len(cases).to_bytes(4, "little") + b"".join(encoded(case) for case in cases)
-
-
-def listed(cases):
+def lines(cases):
     for position, case in enumerate(cases, 1):
-        answer = "refused %d at %d" % case.answer if case.answer[0] else "accepted"
-        print("%4d  %-17s  %s" % (position, answer, case.words))
-
-
-def main():
-    if sys.argv[1:] not in ([], ["--check"], ["--list"]):
-        sys.exit(__doc__)
-    cases = all_cases()
-    data = made(cases)
-    faults = [*missing(cases), *(["more than %d bytes" % ROOM] if len(data) > ROOM else [])]
-    if faults:
-        sys.exit("sheets: " + "; ".join(faults))
-    if sys.argv[1:] == ["--list"]:
-        listed(cases)
-    elif not sys.argv[1:]:
-        TARGET.write_bytes(data)
-    elif not TARGET.exists() or TARGET.read_bytes() != data:
-        sys.exit("crates/sheet_vectors/stdin is not what tools/sheets.py writes")
+        yield "%4d  %-17s  %s" % (position, answer_text(*case.answer), case.words)
 
 
 if __name__ == "__main__":
-    main()
+    serve(__doc__, "sheet_vectors", ROOM, all_cases, encoded, missing, lines)

@@ -15,13 +15,13 @@ n = 40 and for n = 60; and the temperature T as the crate holds it,
 
 import hashlib
 import math
-import sys
 from fractions import Fraction
-from pathlib import Path
+from itertools import chain
 
 import evaporation
+from inputs import packed, serve
 
-TARGET = Path(__file__).resolve().parent.parent / "crates" / "bounds_vectors" / "stdin"
+ROOM = 65536  # what the program can read
 TERMS = (40, 60)
 
 EXPONENT_UNIT = 10 ** 14
@@ -131,26 +131,17 @@ def power(held, n):
     return math.floor(2 ** 24 * evaporation.power_2_5(Fraction(held, DEGREE) - DEGREES_SHIFT, n))
 
 
-def made():
-    """The bytes of the file."""
-    xs, degrees = exponents(), temperatures()
-    numbers = [len(xs), len(degrees)]
-    for x in xs:
-        numbers += [x] + [exponential(x, n) for n in TERMS]
-    for held in degrees:
-        numbers += [held] + [power(held, n) for n in TERMS]
-    return b"".join(number.to_bytes(8, "little") for number in numbers)
+def found():
+    """Each exponent and each temperature with its exact values, cut."""
+    return (
+        [(x, *(exponential(x, n) for n in TERMS)) for x in exponents()],
+        [(held, *(power(held, n) for n in TERMS)) for held in temperatures()],
+    )
 
 
-def main():
-    if sys.argv[1:] not in ([], ["--check"]):
-        sys.exit(__doc__)
-    data = made()
-    if not sys.argv[1:]:
-        TARGET.write_bytes(data)
-    elif not TARGET.exists() or TARGET.read_bytes() != data:
-        sys.exit("crates/bounds_vectors/stdin is not what tools/vectors.py writes")
+def encoded(vectors):
+    return packed(8, chain(map(len, vectors), chain.from_iterable(chain.from_iterable(vectors))))
 
 
 if __name__ == "__main__":
-    main()
+    serve(__doc__, "bounds_vectors", ROOM, found, encoded)

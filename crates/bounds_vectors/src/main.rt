@@ -1,20 +1,26 @@
 // Holds the bounds of E and of T^2.5 against exact values that tools/vectors.py put into standard input: how many are enclosed, and how
 // far the largest lies above its lower bound, of how far it may.
-mod read;
-mod tally;
-
 use libc::STDIN_FILENO;
-use libc::STDOUT_FILENO;
-use read::HEAD;
-use read::VECTOR;
-use read::Vector;
-use read::number_at;
-use read::vector_at;
-use tally::Tally;
+use vectors::input::u64_at;
+use vectors::print::number;
+use vectors::print::text;
+use vectors::tally::Tally;
+use vectors::tally::Verdict;
+use vectors::tally::larger;
 ghost use mathlib.Core.Path.{_≡_};
 ghost use Prim.Native.Nat.{_+_, _^_, _<_, _≤_};
+ghost use lib.ListN.{length};
 ghost use Rattle.bounds.specs.Exponential.{entries, exponentLimit};
 ghost use Rattle.bounds.specs.Power.{powerError};
+
+// Every number of the input has eight bytes. Two say how many exponents and how many temperatures there are; then comes a vector for
+// each exponent, and one for each temperature.
+const HEAD: usize = 16;
+
+const VECTOR: usize = 24;
+
+// The most exponents, or temperatures, in an input
+const MOST: u64 = 1000;
 
 // z = 0, 1 / 4096 and 1 / 16, as an exponent is held
 const ZERO: u64 = 1600000000000000;
@@ -35,34 +41,61 @@ const LIMIT: u64 = 2010000000000000;
 // The last temperature that is served, 65 °C, as a temperature is held
 const WARMEST: u64 = 950000000000;
 
-// The most exponents, or temperatures, in an input
-const MOST: u64 = 1000;
+// An exponent or a temperature as the library holds it, and its exact value in the units of the bound, cut to a whole number, for n = 40
+// and for n = 60
+struct Vector {
+    held: u64,
+    at_40: u64,
+    at_60: u64,
+}
 
-// How far 2^24 T^2.5 can be above its lower bound
-fn power_error() -> u64
-    ensures { λ r. ⌜ r ≡ powerError ⌝ }
+fn vector_at(s: &[u8], at: usize) -> Vector
+    requires { ⌜ at + 24 ≤ length (now s) ⌝ }
 {
-    716
+    Vector {
+        held: u64_at(s, at),
+        at_40: u64_at(s, at + 8),
+        at_60: u64_at(s, at + 16),
+    }
+}
+
+// How far a value with this whole part is above its lower bound, in whole units
+fn above(low: u64, whole: u64) -> u64 {
+    if low < whole { whole - low } else { 0 }
+}
+
+// Whether every value with this whole part lies from low to low + error: the value itself can be nearly one unit larger.
+fn encloses(low: u64, error: u64, whole: u64) -> bool
+    requires { ⌜ (low < 2 ^ 46) × (error < 2 ^ 10) ⌝ }
+{
+    (low <= whole) & (whole < low + error)
+}
+
+// What the bound that was computed for a vector is worth
+fn verdict_of(low: u64, error: u64, v: Vector) -> Verdict
+    requires { ⌜ (low < 2 ^ 46) × (error < 2 ^ 10) ⌝ }
+{
+    Verdict {
+        right: encloses(low, error, v.at_40) & encloses(low, error, v.at_60),
+        width: error,
+        distance: above(low, larger(v.at_40, v.at_60)),
+    }
 }
 
 // A tally with one exponent more, where it lies in the range
 fn with_exponent(tables: &[u64; 578], first: u64, limit: u64, v: Vector, tally: Tally) -> Tally
-    requires { ⌜ (now tables ≡ entries) × (limit ≤ exponentLimit) × (tally .tried < 2 ^ 63) × (tally .enclosed < 2 ^ 63) ⌝ }
-    ensures { λ r. ⌜ (r .tried ≤ tally .tried + 1) × (r .enclosed ≤ tally .enclosed + 1) ⌝ }
+    requires { ⌜ (now tables ≡ entries) × (limit ≤ exponentLimit) ⌝ }
 {
     let x = v.held;
     if x < first {
         return tally;
     }
-    if x < limit {
-        tally.with(
-            bounds::exp::exponential(tables, x),
-            bounds::exp::exponential_error(tables, x),
-            v,
-        )
-    } else {
-        tally
+    if limit <= x {
+        return tally;
     }
+    let low = bounds::exp::exponential(tables, x);
+    let error = bounds::exp::exponential_error(tables, x);
+    tally.with(verdict_of(low, error, v))
 }
 
 // The exponents from the first on that are below the limit
@@ -78,17 +111,20 @@ fn exponentials(tables: &[u64; 578], first: u64, limit: u64, s: &[u8]) -> Tally
     tally
 }
 
-// A tally with one temperature more, where it is served
-fn with_temperature(v: Vector, tally: Tally) -> Tally
-    requires { ⌜ (tally .tried < 2 ^ 63) × (tally .enclosed < 2 ^ 63) ⌝ }
-    ensures { λ r. ⌜ (r .tried ≤ tally .tried + 1) × (r .enclosed ≤ tally .enclosed + 1) ⌝ }
+// How far 2^24 T^2.5 can be above its lower bound
+fn power_error() -> u64
+    ensures { λ r. ⌜ r ≡ powerError ⌝ }
 {
+    716
+}
+
+// A tally with one temperature more, where it is served
+fn with_temperature(v: Vector, tally: Tally) -> Tally {
     let held = v.held;
-    if held <= WARMEST {
-        tally.with(bounds::power::power(held), power_error(), v)
-    } else {
-        tally
+    if WARMEST < held {
+        return tally;
     }
+    tally.with(verdict_of(bounds::power::power(held), power_error(), v))
 }
 
 fn powers(s: &[u8]) -> Tally {
@@ -102,57 +138,30 @@ fn powers(s: &[u8]) -> Tally {
 }
 
 fn print(name: &[u8], tally: Tally) {
-    io::write_all(STDOUT_FILENO, name);
-    io::print_decimal(STDOUT_FILENO, tally.tried);
-    io::write_all(STDOUT_FILENO, b" enclosed ");
-    io::print_decimal(STDOUT_FILENO, tally.enclosed);
-    io::write_all(STDOUT_FILENO, b" largest error ");
-    io::print_decimal(STDOUT_FILENO, tally.largest);
-    io::write_all(STDOUT_FILENO, b" of ");
-    io::print_decimal(STDOUT_FILENO, tally.allowed);
-    io::write_all(STDOUT_FILENO, b"\n");
+    number(name, tally.tried);
+    number(b" enclosed ", tally.right);
+    number(b" largest error ", tally.farthest);
+    number(b" of ", tally.widest);
+    text(b"\n");
 }
 
-// Below 1 / 4096 both table entries are 1 and the result is the quadratic; below 1 / 16 the first is 1.
-fn report_steps(tables: &[u64; 578], s: &[u8])
-    requires { ⌜ (now tables ≡ entries) ⌝ }
+// The line of a range of exponents
+fn print_range(name: &[u8], first: u64, limit: u64, s: &[u8])
+    requires { ⌜ limit ≤ exponentLimit ⌝ }
 {
-    print(
-        b"exponentials from 0 below 1/4096: ",
-        exponentials(tables, ZERO, FINE_STEP, s),
-    );
-    print(
-        b"exponentials from 0 below 1/16: ",
-        exponentials(tables, ZERO, COARSE_STEP, s),
-    );
-}
-
-// A line for each range, since the error follows the size of E
-fn report_ranges(tables: &[u64; 578], s: &[u8])
-    requires { ⌜ (now tables ≡ entries) ⌝ }
-{
-    print(
-        b"exponentials up to 2.3: ",
-        exponentials(tables, 0, PAST_2_3, s),
-    );
-    print(
-        b"exponentials up to 3: ",
-        exponentials(tables, 0, PAST_3, s),
-    );
-    print(
-        b"exponentials up to 3.6: ",
-        exponentials(tables, 0, PAST_3_6, s),
-    );
-    print(
-        b"exponentials below 4.1: ",
-        exponentials(tables, 0, LIMIT, s),
-    );
-}
-
-fn report_exponentials(s: &[u8]) {
     let tables = bounds::exp::tables();
-    report_steps(&tables, s);
-    report_ranges(&tables, s);
+    print(name, exponentials(&tables, first, limit, s));
+}
+
+// A line for each range, since the error follows the size of E. Below 1 / 4096 both table entries are 1 and the result is the quadratic;
+// below 1 / 16 the first is 1.
+fn print_ranges(s: &[u8]) {
+    print_range(b"exponentials from 0 below 1/4096: ", ZERO, FINE_STEP, s);
+    print_range(b"exponentials from 0 below 1/16: ", ZERO, COARSE_STEP, s);
+    print_range(b"exponentials up to 2.3: ", 0, PAST_2_3, s);
+    print_range(b"exponentials up to 3: ", 0, PAST_3, s);
+    print_range(b"exponentials up to 3.6: ", 0, PAST_3_6, s);
+    print_range(b"exponentials below 4.1: ", 0, LIMIT, s);
 }
 
 // The input's two parts, or false where it is not of the length that it says
@@ -160,8 +169,8 @@ fn report(s: &[u8]) -> bool {
     if s.len() < HEAD {
         return false;
     }
-    let exponents = number_at(s, 0);
-    let temperatures = number_at(s, 8);
+    let exponents = u64_at(s, 0);
+    let temperatures = u64_at(s, 8);
     if MOST < exponents {
         return false;
     }
@@ -173,18 +182,15 @@ fn report(s: &[u8]) -> bool {
     if s.len() != end {
         return false;
     }
-    report_exponentials(&s[HEAD..middle]);
+    print_ranges(&s[HEAD..middle]);
     print(b"powers up to 65 degrees: ", powers(&s[middle..end]));
     true
 }
 
 fn main() {
-    let mut buffer = io::large_buffer();
+    let mut buffer = vectors::input::buffer();
     let n = io::read_full(STDIN_FILENO, &mut buffer);
     if !report(&buffer[..n]) {
-        io::write_all(
-            STDOUT_FILENO,
-            b"the input is not of the length that it says\n",
-        );
+        text(b"the input is not of the length that it says\n");
     }
 }

@@ -1,106 +1,146 @@
 // Holds the factor call against the exact factors that tools/factors.py put into standard input: for each of the seven, how many lie in
 // their bands, how wide these are and how far off their middles the factors lie; and how many calls are refused as expected.
-mod answer;
-mod read;
-mod tally;
-
-use answer::print_other;
-use answer::verdict_of;
+use inventory::FactorAnswer;
 use libc::STDIN_FILENO;
-use libc::STDOUT_FILENO;
-use read::CALL;
-use read::COUNT;
-use read::Call;
-use read::HEAD;
-use read::call_at;
-use read::count;
-use read::group_at;
-use tally::Tally;
-ghost use Prim.Native.Nat.{_+_, _^_, _<_, _≤_};
+use vectors::factor::Reply;
+use vectors::factor::reply_at;
+use vectors::input::COUNT;
+use vectors::input::record_at;
+use vectors::input::u32_at;
+use vectors::input::u64_at;
+use vectors::print::number;
+use vectors::print::text;
+use vectors::tally::Tally;
+use vectors::tally::next;
+ghost use Prim.Native.Nat.{_+_, _*_, _≤_};
 ghost use lib.ListN.{length};
+
+// The bytes before each sheet, its length and the number of its calls, and those of a call: season, row and factor, and the reply that
+// is expected
+const HEAD: usize = 4;
+
+const CALL: usize = 56;
 
 const LAST_FACTOR: u64 = 7;
 
-// The calls that are told apart: those to be refused, as kind 0, and the others by their factor
-fn kind_of(c: Call) -> u64 {
-    if c.number == 0 { c.factor } else { 0 }
+// A call's season, row and factor
+struct Call {
+    season: u64,
+    row: u64,
+    factor: u64,
 }
 
-// A line that says which sheet and call of the input, counted from 1, was answered otherwise
-fn print_position(sheet: u64, call: usize) {
-    io::write_all(STDOUT_FILENO, b"sheet ");
-    io::print_decimal(STDOUT_FILENO, sheet);
-    io::write_all(STDOUT_FILENO, b" call ");
-    io::print_decimal(STDOUT_FILENO, call as u64);
-    io::write_all(STDOUT_FILENO, b": ");
+fn call_at(s: &[u8], at: usize) -> Call
+    requires { ⌜ at + 24 ≤ length (now s) ⌝ }
+{
+    Call {
+        season: u64_at(s, at),
+        row: u64_at(s, at + 8),
+        factor: u64_at(s, at + 16),
+    }
+}
+
+fn reply_of(found: FactorAnswer) -> Reply {
+    match found {
+        FactorAnswer::Refused(number, place) => Reply {
+            number,
+            place,
+            low: 0,
+            high: 0,
+        },
+        FactorAnswer::Band(low, high) => Reply {
+            number: 0,
+            place: 0,
+            low,
+            high,
+        },
+    }
+}
+
+fn found_by(s: &[u8], c: Call) -> Reply {
+    reply_of(inventory::factor(s, c.season, c.row, c.factor))
+}
+
+// The calls that are told apart: those to be refused, as kind 0, and the others by their factor
+fn kind_of(expected: u64, factor: u64) -> u64 {
+    if expected == 0 { factor } else { 0 }
+}
+
+// A line for a call whose answer is not right; sheets and the calls on each are counted from 1, as tools/factors.py lists them.
+fn print_other(sheet: u64, call: u64, c: Call, expected: Reply, found: Reply) {
+    number(b"sheet ", sheet);
+    number(b" call ", call);
+    number(b": season ", c.season);
+    number(b" row ", c.row);
+    number(b" factor ", c.factor);
+    expected.print(b": expected ", b" ng");
+    found.print(b", found ", b" ug");
+    text(b"\n");
 }
 
 // A tally with one call more, where it is of this kind
-fn with_call(s: &[u8], c: Call, sheet: u64, call: usize, kind: u64, tally: Tally) -> Tally
-    requires { ⌜ (tally .calls < 2 ^ 63) × (tally .right < 2 ^ 63) ⌝ }
-    ensures { λ r. ⌜ (r .calls ≤ tally .calls + 1) × (r .right ≤ tally .right + 1) ⌝ }
+fn with_call(s: &[u8], calls: &[u8], i: usize, sheet: u64, kind: u64, tally: Tally) -> Tally
+    requires { ⌜ 56 * i + 56 ≤ length (now calls) ⌝ }
 {
-    if kind_of(c) != kind {
+    let c = call_at(calls, CALL * i);
+    let expected = reply_at(calls, CALL * i + 24);
+    if kind_of(expected.number, c.factor) != kind {
         return tally;
     }
-    let found = inventory::factor(s, c.season, c.row, c.factor);
-    let verdict = verdict_of(found, c);
+    let found = found_by(s, c);
+    let verdict = found.verdict(expected);
     if !verdict.right {
-        print_position(sheet, call);
-        print_other(c, found);
+        print_other(sheet, i as u64 + 1, c, expected, found);
     }
     tally.with(verdict)
 }
 
 // The calls of one kind on one sheet
-fn tally_sheet(s: &[u8], calls: &[u8], sheet: u64, kind: u64, before: Tally) -> Tally
-    requires { ⌜ (before .calls + length (now calls) < 2 ^ 62) × (before .right + length (now calls) < 2 ^ 62) ⌝ }
-    ensures { λ r. ⌜ (r .calls ≤ before .calls + length (now (calls .entry))) × (r .right ≤ before .right + length (now (calls .entry))) ⌝ }
-{
+fn tally_sheet(s: &[u8], calls: &[u8], sheet: u64, kind: u64, before: Tally) -> Tally {
     let mut tally = before;
     let mut i = 0;
     while i < calls.len() / CALL {
-        tally = with_call(s, call_at(calls, CALL * i), sheet, i + 1, kind, tally);
+        tally = with_call(s, calls, i, sheet, kind, tally);
         i += 1;
     }
     tally
 }
 
 // The calls of one kind, up to the first sheet whose calls the end of the input cuts
-fn tally_of(s: &[u8], kind: u64) -> Tally
-    requires { ⌜ (4 ≤ length (now s)) × (length (now s) ≤ 2 ^ 16) ⌝ }
-    ensures { λ r. ⌜ (r .calls ≤ 2 ^ 16) × (r .right ≤ 2 ^ 16) ⌝ }
-{
+fn tally_of(s: &[u8], kind: u64) -> Tally {
     let mut tally = Tally::none();
     let mut sheet: u64 = 0;
-    let mut at = COUNT;
+    let mut at = 0;
     while HEAD <= s.len() - at {
-        let group = group_at(s, at);
-        let start = group.start;
-        let calls = group.calls;
-        let end = group.end;
+        let record = record_at(s, at, HEAD, CALL);
+        let start = record.start;
+        let list = record.list;
+        let end = record.end;
         if s.len() < end {
             return tally;
         }
-        sheet += 1;
-        tally = tally_sheet(&s[start..calls], &s[calls..end], sheet, kind, tally);
+        sheet = next(sheet);
+        tally = tally_sheet(&s[start..list], &s[list..end], sheet, kind, tally);
         at = end;
     }
     tally
 }
 
+fn print_factors(tally: Tally) {
+    number(b": ", tally.tried);
+    number(b" enclosed ", tally.right);
+    number(b" widest band ", tally.widest);
+    number(b" ug farthest from its middle ", tally.farthest);
+    text(b" ng\n");
+}
+
 fn print_factor(k: u64, tally: Tally) {
-    io::write_all(STDOUT_FILENO, b"factor ");
-    io::print_decimal(STDOUT_FILENO, k);
-    io::write_all(STDOUT_FILENO, b": ");
-    tally.print_factors();
+    number(b"factor ", k);
+    print_factors(tally);
 }
 
 // A line for each factor, and the tally of all of them
-fn report_factors(s: &[u8]) -> Tally
-    requires { ⌜ (4 ≤ length (now s)) × (length (now s) ≤ 2 ^ 16) ⌝ }
-    ensures { λ r. ⌜ r .calls ≤ 2 ^ 20 ⌝ }
-{
+fn report_factors(s: &[u8]) -> Tally {
     let mut all = Tally::none();
     let mut k: u64 = 1;
     while k <= LAST_FACTOR {
@@ -112,30 +152,32 @@ fn report_factors(s: &[u8]) -> Tally
     all
 }
 
+// The lines of the factors, and that of the refusals; how many calls they count
+fn print_all(s: &[u8]) -> u64 {
+    let factors = report_factors(s);
+    text(b"factors");
+    print_factors(factors);
+    let refused = tally_of(s, 0);
+    number(b"refused calls ", refused.tried);
+    number(b" alike ", refused.right);
+    text(b"\n");
+    let all = factors.plus(refused);
+    all.tried
+}
+
 // A call that is cut off, or of an accepted factor that is none of the seven, is missing from the tallies; the count that the input
 // gives shows it.
-fn report(s: &[u8])
-    requires { ⌜ length (now s) ≤ 2 ^ 16 ⌝ }
-{
+fn report(s: &[u8]) {
     if s.len() < COUNT {
-        io::write_all(STDOUT_FILENO, b"the input has no count\n");
+        vectors::print::no_count();
         return;
     }
-    let factors = report_factors(s);
-    io::write_all(STDOUT_FILENO, b"factors: ");
-    factors.print_factors();
-    let refused = tally_of(s, 0);
-    refused.print_refused();
-    let expected = count(s);
-    if factors.calls + refused.calls != expected {
-        io::write_all(STDOUT_FILENO, b"the input says that there are ");
-        io::print_decimal(STDOUT_FILENO, expected);
-        io::write_all(STDOUT_FILENO, b" calls\n");
-    }
+    let tried = print_all(&s[COUNT..]);
+    vectors::print::count(tried, u32_at(s, 0), b" calls\n");
 }
 
 fn main() {
-    let mut buffer = io::large_buffer();
+    let mut buffer = vectors::input::buffer();
     let n = io::read_full(STDIN_FILENO, &mut buffer);
     report(&buffer[..n]);
 }

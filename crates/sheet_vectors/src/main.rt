@@ -1,108 +1,126 @@
 // Holds the checks of a sheet against the numbers and places that tools/sheets.py put into standard input: how many sheets are to be
 // refused with each number, and how many of them get that number and its place. Number 0 stands for the sheets to be accepted.
-mod answer;
-mod read;
-mod tally;
-
-use answer::agrees;
-use answer::print_other;
 use libc::STDIN_FILENO;
-use libc::STDOUT_FILENO;
-use read::COUNT;
-use read::HEAD;
-use read::Vector;
-use read::count;
-use read::vector_at;
-use tally::Tally;
-ghost use Prim.Native.Nat.{_+_, _^_, _<_, _≤_};
+use sheet::Check;
+use vectors::answer::Answer;
+use vectors::input::COUNT;
+use vectors::input::record_at;
+use vectors::input::u8_at;
+use vectors::input::u16_at;
+use vectors::input::u32_at;
+use vectors::print::number;
+use vectors::print::text;
+use vectors::tally::Tally;
+use vectors::tally::Verdict;
+use vectors::tally::next;
+ghost use Prim.Native.Nat.{_+_, _≤_};
 ghost use lib.ListN.{length};
 
-// The largest input
-const ROOM: usize = 262144;
+// The bytes before each sheet: its length (two), a number (one) and a place (two). No list is behind it.
+const HEAD: usize = 5;
 
 const LAST_NUMBER: u64 = 21;
 
-// A tally with one sheet more, where it is one of this number
-fn with_sheet(s: &[u8], v: Vector, position: u64, number: u64, tally: Tally) -> Tally
-    requires { ⌜ (v .start ≤ v .end) × (v .end ≤ length (now s)) × (tally .sheets < 2 ^ 63) × (tally .agree < 2 ^ 63) ⌝ }
-    ensures { λ r. ⌜ (r .sheets ≤ tally .sheets + 1) × (r .agree ≤ tally .agree + 1) ⌝ }
+fn answer_of(found: Check) -> Answer {
+    match found {
+        Check::Pass => Answer {
+            number: 0,
+            place: 0,
+        },
+        Check::Refused(number, place) => Answer { number, place },
+    }
+}
+
+// The answer that is expected for the sheet whose head is here
+fn expected_at(s: &[u8], at: usize) -> Answer
+    requires { ⌜ at + 5 ≤ length (now s) ⌝ }
 {
-    if v.number != number {
-        return tally;
+    Answer {
+        number: u8_at(s, at + 2),
+        place: u16_at(s, at + 3),
     }
-    let start = v.start;
-    let end = v.end;
-    let found = checks::check_sheet(&s[start..end]);
-    let right = agrees(found, v);
+}
+
+// A line for a sheet whose answer is another than the one expected; sheets are counted from 1, as tools/sheets.py lists them.
+fn print_other(position: u64, expected: Answer, found: Answer) {
+    number(b"sheet ", position);
+    text(b": expected ");
+    expected.print();
+    text(b", found ");
+    found.print();
+    text(b"\n");
+}
+
+// A tally with one sheet more
+fn with_sheet(s: &[u8], expected: Answer, position: u64, tally: Tally) -> Tally {
+    let found = answer_of(checks::check_sheet(s));
+    let right = found.same(expected);
     if !right {
-        print_other(position, v, found);
+        print_other(position, expected, found);
     }
-    tally.with(right)
+    tally.with(Verdict::bare(right))
 }
 
 // The sheets of one number, up to the first that the end of the input cuts
-fn tally_of(s: &[u8], number: u64) -> Tally
-    requires { ⌜ 4 ≤ length (now s) ⌝ }
-    ensures { λ r. ⌜ (r .sheets ≤ length (now (s .entry))) × (r .agree ≤ length (now (s .entry))) ⌝ }
-{
+fn tally_of(s: &[u8], number: u64) -> Tally {
     let mut tally = Tally::none();
     let mut position: u64 = 0;
-    let mut at = COUNT;
+    let mut at = 0;
     while HEAD <= s.len() - at {
-        let v = vector_at(s, at);
-        let end = v.end;
+        let record = record_at(s, at, HEAD, 0);
+        let start = record.start;
+        let end = record.end;
         if s.len() < end {
             return tally;
         }
-        position += 1;
-        tally = with_sheet(s, v, position, number, tally);
+        position = next(position);
+        let expected = expected_at(s, at);
+        if expected.number == number {
+            tally = with_sheet(&s[start..end], expected, position, tally);
+        }
         at = end;
     }
     tally
 }
 
-fn print_number(number: u64, tally: Tally) {
-    io::write_all(STDOUT_FILENO, b"number ");
-    io::print_decimal(STDOUT_FILENO, number);
-    io::write_all(STDOUT_FILENO, b" ");
-    tally.print();
+fn print_tally(tally: Tally) {
+    number(b"sheets ", tally.tried);
+    number(b" agree ", tally.right);
+    text(b"\n");
+}
+
+fn print_number(n: u64, tally: Tally) {
+    number(b"number ", n);
+    text(b" ");
+    print_tally(tally);
 }
 
 // A line for each number, and the tally of all of them
-fn report_numbers(s: &[u8]) -> Tally
-    requires { ⌜ (4 ≤ length (now s)) × (length (now s) ≤ 2 ^ 18) ⌝ }
-{
+fn report_numbers(s: &[u8]) -> Tally {
     let mut all = Tally::none();
-    let mut number: u64 = 0;
-    while number <= LAST_NUMBER {
-        let tally = tally_of(s, number);
-        print_number(number, tally);
+    let mut n: u64 = 0;
+    while n <= LAST_NUMBER {
+        let tally = tally_of(s, n);
+        print_number(n, tally);
         all = all.plus(tally);
-        number += 1;
+        n += 1;
     }
     all
 }
 
 // A sheet that is cut off, or whose number is above the last, is missing from the tally; the count that the input gives shows it.
-fn report(s: &[u8])
-    requires { ⌜ length (now s) ≤ 2 ^ 18 ⌝ }
-{
+fn report(s: &[u8]) {
     if s.len() < COUNT {
-        io::write_all(STDOUT_FILENO, b"the input has no count\n");
+        vectors::print::no_count();
         return;
     }
-    let all = report_numbers(s);
-    all.print();
-    let expected = count(s);
-    if all.sheets != expected {
-        io::write_all(STDOUT_FILENO, b"the input says that there are ");
-        io::print_decimal(STDOUT_FILENO, expected);
-        io::write_all(STDOUT_FILENO, b"\n");
-    }
+    let all = report_numbers(&s[COUNT..]);
+    print_tally(all);
+    vectors::print::count(all.tried, u32_at(s, 0), b"\n");
 }
 
 fn main() {
-    let mut buffer = [0u8; ROOM];
+    let mut buffer = vectors::input::buffer();
     let n = io::read_full(STDIN_FILENO, &mut buffer);
     report(&buffer[..n]);
 }

@@ -1,4 +1,4 @@
--- `bounds_vectors::exponentials` is safe and ends. The loop's invariant: no count is above the number of vectors passed. The measure is what is left of them.
+-- `bounds_vectors::exponentials` is safe and ends. The loop's invariant: no more vectors are passed than there are. The measure is what is left of them.
 use Prim.Native.Nat.{_≤_, _-_, _/_}
 use borrow.Author.Needs.{needs}
 use lib.ListN.{length}
@@ -6,7 +6,7 @@ use Rattle.bounds_vectors.proofs.exponentials.Statement.{statement}
 use Rattle.bounds_vectors.proofs.exponentials.Tie as tie
 
 abbrev Inv-loop : tie.InvT-loop
-Inv-loop tables first limit s tally₀ i₀ tally i = (tally .tried ≤ i) × (tally .enclosed ≤ i)
+Inv-loop tables first limit s tally₀ i₀ tally i = i ≤ length s / 24
 
 abbrev μ-loop : tie.MeasureT-loop
 μ-loop tables first limit s tally₀ i₀ tally i = length s / 24 - i

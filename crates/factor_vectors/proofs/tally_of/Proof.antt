@@ -1,4 +1,4 @@
--- `factor_vectors::tally_of` is safe and ends. The loop's invariant: the next head lies within the input, and no more sheets and calls are counted than bytes were passed. The measure is what is left of the input.
+-- `factor_vectors::tally_of` is safe and ends. The loop's invariant: the next head lies within the input. The measure is what is left of it.
 use Prim.Native.Nat.{_≤_, _-_}
 use borrow.Author.Needs.{needs}
 use lib.ListN.{length}
@@ -6,7 +6,7 @@ use Rattle.factor_vectors.proofs.tally_of.Statement.{statement}
 use Rattle.factor_vectors.proofs.tally_of.Tie as tie
 
 abbrev Inv-loop : tie.InvT-loop
-Inv-loop s kind tally₀ sheet₀ at₀ tally sheet at = (at ≤ length s) × (sheet ≤ at) × (tally .calls ≤ at) × (tally .right ≤ at)
+Inv-loop s kind tally₀ sheet₀ at₀ tally sheet at = at ≤ length s
 
 abbrev μ-loop : tie.MeasureT-loop
 μ-loop s kind tally₀ sheet₀ at₀ tally sheet at = length s - at
@@ -22,7 +22,7 @@ tally-of-spec =
     (λ c. search needs)
     (λ c κs. search needs)
     (λ c. search needs)
-    (λ c. search needs)
+    (λ c κs. search needs)
     (λ c. search needs)
     (λ c. search needs)
     (λ c. search needs)

@@ -1,12 +1,12 @@
--- `factor_vectors::tally_sheet` is safe and ends. The loop's invariant: no count grew by more than the number of calls passed. The measure is what is left of them.
-use Prim.Native.Nat.{_≤_, _+_, _-_, _/_}
+-- `factor_vectors::tally_sheet` is safe and ends. The loop's invariant: no more calls are passed than there are. The measure is what is left of them.
+use Prim.Native.Nat.{_≤_, _-_, _/_}
 use borrow.Author.Needs.{needs}
 use lib.ListN.{length}
 use Rattle.factor_vectors.proofs.tally_sheet.Statement.{statement}
 use Rattle.factor_vectors.proofs.tally_sheet.Tie as tie
 
 abbrev Inv-loop : tie.InvT-loop
-Inv-loop s calls sheet kind tally₀ i₀ tally i = (i ≤ length calls / 56) × (tally .calls ≤ tally₀ .calls + i) × (tally .right ≤ tally₀ .right + i)
+Inv-loop s calls sheet kind tally₀ i₀ tally i = i ≤ length calls / 56
 
 abbrev μ-loop : tie.MeasureT-loop
 μ-loop s calls sheet kind tally₀ i₀ tally i = length calls / 56 - i
@@ -17,9 +17,6 @@ tally-sheet-spec =
     (tie.spec
     Inv-loop
     μ-loop
-    (λ c. search needs)
-    (λ c. search needs)
-    (λ c κs. search needs)
     (λ c. search needs)
     (λ c κs. search needs)
     (λ c. search needs)

@@ -6,10 +6,10 @@ use Rattle.report.proofs.print_fields.Statement.{statement}
 use Rattle.report.proofs.print_fields.Tie as tie
 
 abbrev Inv-loop : tie.InvT-loop
-Inv-loop words from count k₀ k = k ≤ count
+Inv-loop words from count ok all₀ k₀ t7 all k = k ≤ count
 
 abbrev μ-loop : tie.MeasureT-loop
-μ-loop words from count k₀ k = count - k
+μ-loop words from count ok all₀ k₀ t7 all k = count - k
 
 pub print-fields-spec : {M : Type 1} → statement M
 print-fields-spec =
@@ -22,6 +22,7 @@ print-fields-spec =
     (λ c. search needs)
     (λ c. search needs)
     (λ c κs. search needs)
+    (λ c. search needs)
     (λ c. search needs)
     (λ c. search needs)
     (λ c. search needs)

@@ -8,7 +8,7 @@ use native.Mathlib.Omega.{arith}
 use lib.ListN.{length}
 use Rattle.sheet.specs.declared.Check.the-variants.{Pass}
 use Rattle.sheet.specs.Bytes.{rowsOf}
-use Rattle.inventory.specs.Report.{reportCheck}
+use Rattle.inventory.specs.ReportCall.{reportCheck}
 use Rattle.inventory.proofs.CallConditions.{report-accepted}
 use Rattle.report.proofs.print_report.Statement.{statement}
 use Rattle.report.proofs.print_report.Tie as tie

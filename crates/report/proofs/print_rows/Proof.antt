@@ -6,10 +6,10 @@ use Rattle.report.proofs.print_rows.Statement.{statement}
 use Rattle.report.proofs.print_rows.Tie as tie
 
 abbrev Inv-loop : tie.InvT-loop
-Inv-loop words rows i₀ i = i ≤ rows
+Inv-loop words rows ok all₀ i₀ all i = i ≤ rows
 
 abbrev μ-loop : tie.MeasureT-loop
-μ-loop words rows i₀ i = rows - i
+μ-loop words rows ok all₀ i₀ all i = rows - i
 
 pub print-rows-spec : {M : Type 1} → statement M
 print-rows-spec =

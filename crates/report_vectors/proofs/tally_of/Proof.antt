@@ -1,12 +1,12 @@
--- `report_vectors::tally_of` is safe and ends. The loop's invariant: the next head lies within the input, and each sheet passed took a byte and counted at most 32. The measure is what is left of the input.
-use Prim.Native.Nat.{_≤_, _-_, _*_}
+-- `report_vectors::tally_of` is safe and ends. The loop's invariant: the next head lies within the input. The measure is what is left of it.
+use Prim.Native.Nat.{_≤_, _-_}
 use borrow.Author.Needs.{needs}
 use lib.ListN.{length}
 use Rattle.report_vectors.proofs.tally_of.Statement.{statement}
 use Rattle.report_vectors.proofs.tally_of.Tie as tie
 
 abbrev Inv-loop : tie.InvT-loop
-Inv-loop s pass tally₀ sheet₀ at₀ tally sheet at = (at ≤ length s) × (sheet ≤ at) × (tally .tried ≤ 32 * at) × (tally .right ≤ 32 * at)
+Inv-loop s pass tally₀ sheet₀ at₀ tally sheet at = at ≤ length s
 
 abbrev μ-loop : tie.MeasureT-loop
 μ-loop s pass tally₀ sheet₀ at₀ tally sheet at = length s - at
@@ -23,6 +23,11 @@ tally-of-spec =
     (λ c κs. search needs)
     (λ c. search needs)
     (λ c. search needs)
+    (λ c κs. search needs)
+    (λ c. search needs)
+    (λ c κs. search needs)
+    (λ c κs. search needs)
+    (λ c κs. search needs)
     (λ c. search needs)
     (λ c. search needs)
     (λ c. search needs)
@@ -30,6 +35,8 @@ tally-of-spec =
     (λ c. search needs)
     (λ c. search needs)
     (λ c κs. search needs)
+    (λ c. search needs)
+    (λ c. search needs)
     (λ c. search needs)
     (λ c. search needs)
     (λ c. search needs))

@@ -1,12 +1,12 @@
--- `report_vectors::with_bands` is safe and ends. The loop's invariant: no count grew by more than the number of rows passed. The measure is what is left of them.
-use Prim.Native.Nat.{_≤_, _+_, _-_, _/_}
+-- `report_vectors::with_bands` is safe and ends. The loop's invariant: no more rows are passed than there are. The measure is what is left of them.
+use Prim.Native.Nat.{_≤_, _-_, _/_}
 use borrow.Author.Needs.{needs}
 use lib.ListN.{length}
 use Rattle.report_vectors.proofs.with_bands.Statement.{statement}
 use Rattle.report_vectors.proofs.with_bands.Tie as tie
 
 abbrev Inv-loop : tie.InvT-loop
-Inv-loop words rows mass sheet tally₀ row₀ tally row = (row ≤ length rows / 72) × (tally .tried ≤ tally₀ .tried + row) × (tally .right ≤ tally₀ .right + row)
+Inv-loop words rows mass sheet tally₀ row₀ tally row = row ≤ length rows / 72
 
 abbrev μ-loop : tie.MeasureT-loop
 μ-loop words rows mass sheet tally₀ row₀ tally row = length rows / 72 - row

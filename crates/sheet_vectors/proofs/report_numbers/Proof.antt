@@ -1,14 +1,14 @@
--- `sheet_vectors::report_numbers` is safe and ends. The loop's invariant: each number passed counted no more sheets than the input has bytes. The measure is the numbers that are left.
-use Prim.Native.Nat.{_≤_, _-_, _*_, _^_}
+-- `sheet_vectors::report_numbers` is safe and ends. The measure is the numbers that are left.
+use Prim.Native.Nat.{_≤_, _-_}
 use borrow.Author.Needs.{needs}
 use Rattle.sheet_vectors.proofs.report_numbers.Statement.{statement}
 use Rattle.sheet_vectors.proofs.report_numbers.Tie as tie
 
 abbrev Inv-loop : tie.InvT-loop
-Inv-loop s all₀ number₀ all number = (number ≤ 22) × (all .sheets ≤ 2 ^ 18 * number) × (all .agree ≤ 2 ^ 18 * number)
+Inv-loop s all₀ n₀ all n = n ≤ 22
 
 abbrev μ-loop : tie.MeasureT-loop
-μ-loop s all₀ number₀ all number = 22 - number
+μ-loop s all₀ n₀ all n = 22 - n
 
 pub report-numbers-spec : {M : Type 1} → statement M
 report-numbers-spec =

@@ -1,4 +1,4 @@
--- `sheet_vectors::tally_of` is safe and ends. The loop's invariant: the next head lies within the input, and no more sheets are counted than were passed. The measure is what is left of the input.
+-- `sheet_vectors::tally_of` is safe and ends. The loop's invariant: the next head lies within the input. The measure is what is left of it.
 use Prim.Native.Nat.{_≤_, _-_}
 use borrow.Author.Needs.{needs}
 use lib.ListN.{length}
@@ -6,7 +6,7 @@ use Rattle.sheet_vectors.proofs.tally_of.Statement.{statement}
 use Rattle.sheet_vectors.proofs.tally_of.Tie as tie
 
 abbrev Inv-loop : tie.InvT-loop
-Inv-loop s number tally₀ position₀ at₀ tally position at = (at ≤ length s) × (position ≤ at) × (tally .sheets ≤ position) × (tally .agree ≤ position)
+Inv-loop s number tally₀ position₀ at₀ tally position at = at ≤ length s
 
 abbrev μ-loop : tie.MeasureT-loop
 μ-loop s number tally₀ position₀ at₀ tally position at = length s - at
@@ -22,8 +22,14 @@ tally-of-spec =
     (λ c. search needs)
     (λ c κs. search needs)
     (λ c. search needs)
+    (λ c κs. search needs)
+    (λ c κs. search needs)
+    (λ c. search needs)
+    (λ c. search needs)
     (λ c. search needs)
     (λ c κs. search needs)
+    (λ c. search needs)
+    (λ c. search needs)
     (λ c. search needs)
     (λ c. search needs)
     (λ c. search needs))

@@ -1,8 +1,8 @@
--- `report_vectors::words::kept` is safe and ends. The loop's invariant says nothing: its test bounds the index. The measure is the words that are left.
+-- `vectors::words::kept` is safe and ends. The loop's test bounds the index. The measure is the words that are left.
 use Prim.Native.Nat.{_≤_, _-_}
 use borrow.Author.Needs.{needs}
-use Rattle.report_vectors.proofs.words.kept.Statement.{statement}
-use Rattle.report_vectors.proofs.words.kept.Tie as tie
+use Rattle.vectors.proofs.words.kept.Statement.{statement}
+use Rattle.vectors.proofs.words.kept.Tie as tie
 
 abbrev Inv-loop : tie.InvT-loop
 Inv-loop words from i₀ i = i ≤ i
