@@ -41,7 +41,7 @@ pub two-pos : (n : ℕ) → 0 < 2 ^ n
 two-pos zero = omega arith
 two-pos (suc n) = omega (arith, two-pos n)
 
--- "the root of [x] cut after n binary places, that is the largest multiple of 2⁻ⁿ whose square is at most [x]", for x ≥ 0
+-- a root of x ≥ 0 "cut after n binary places, that is the largest multiple of 2⁻ⁿ whose square is at most" x
 unfoldable pub cutRoot : ℕ → Fraction → Fraction
 cutRoot n x = record { up = root (4 ^ n * (x .up - x .down) / x .den); down = 0; den = 2 ^ n; pos = two-pos n }
 

@@ -30,11 +30,11 @@ module _ (n : ℕ) (season : Season) (row : Row) where
   unfoldable pub rowEscape : Fraction → Fraction → Fraction
   rowEscape T v = canister.escape n vp (row .saturation /10^ 1) (row .load /10^ 1) T (row .canister) v
 
-  -- "escape from T to T + .."
+  -- what escapes of the vapour from T to T + rise, as in "escape from T1 to T1 + 4.5" and "escape from T2 to T2 + 1"
   unfoldable pub escapeOver : Fraction → Fraction → Fraction
   escapeOver T rise = rowEscape T (rowVapour T (T +ᶠ rise))
 
-  -- "without canister the vapour from T to T + .."
+  -- "without canister the vapour from T2 to T2 + 1 or T2 + 5", here from T to T + rise
   unfoldable pub openVapour : Canister → Fraction → Fraction → Fraction
   openVapour None T rise = rowVapour T (T +ᶠ rise)
   openVapour Small T rise = whole 0

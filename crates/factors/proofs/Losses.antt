@@ -99,7 +99,7 @@ module _ {season : Season} {row : Row} (s : SeasonInRange season) (r : RowInRang
           *-cong (≈-refl _)
           (sub-cong (E-cong n (*-cong (≈-refl _) (raised (mark cell)))) (E-cong n (*-cong (≈-refl _) (temperature-is (mark cell) s))))
 
-      -- "escape from T to T + .."
+      -- "escape from T1 to T1 + 4.5", and the other raises
       pub over-within :
           WithinAll (2 ^ 28) (escapeOverUnits season row counts mark (tenths k)) 114
           (λ n. mean (λ (cell : ℕ). escapeOver n season row (temperature season (mark cell)) amount) counts)
@@ -109,7 +109,7 @@ module _ {season : Season} {row : Row} (s : SeasonInRange season) (r : RowInRang
           exactRise (λ n cell. rowVapour n season row (temperature season (mark cell)) (temperature season (mark cell) +ᶠ amount))
           (λ cell. temperature-is (mark cell) s) raise-small raise-known raise-driven (row .canister) refl 114 (omega arith) (omega arith)
 
-  -- "without canister the vapour from T to T + ..", from the end of the parking
+  -- "without canister the vapour from T2 to T2 + 1 or T2 + 5", from the end of the parking
   pub opened-within : (amount : Fraction) (k : ℕ) → k ≤ 60 → ((i : ℕ) → temperature season i +ᶠ amount ≈ᶠ degrees (markWarmth season i + tenths k))
       → (c : Canister)
       → WithinAll (2 ^ 28) (openUnits season row counts c (tenths k)) 114
@@ -125,7 +125,7 @@ module _ {season : Season} {row : Row} (s : SeasonInRange season) (r : RowInRang
   opened-within amount k h raised Medium = nothing counts
   opened-within amount k h raised Large = nothing counts
 
-  -- "permeation at T + ..", at most 15 °C above the mark that each cell names
+  -- "permeation at T1 + 11", "permeation at T2 + 15", at most 15 °C above the mark that each cell names
   pub rate-mean : (mark : ℕ → ℕ) (amount : Fraction) (k : ℕ) → k ≤ 150
       → ((i : ℕ) → temperature season i +ᶠ amount ≈ᶠ degrees (markWarmth season i + tenths k))
       → WithinAll (2 ^ 28) (meanUnits counts (λ (cell : ℕ). rate (season .vp) (markWarmth season (mark cell) + tenths k))) 3

@@ -77,7 +77,7 @@ module _ (s : List ℕ) where
   after-rows : (ys : List ℕ) (k m : ℕ) → m ≡ 6 * rowsOf s + k → getD (rowWords s (rowsOf s) ++ ys) m 0 ≡ getD ys k 0
   after-rows ys k m e = past (rowWords s (rowsOf s)) ys (6 * rowsOf s) k m (rowWords-length s (rowsOf s)) e
 
-  -- "six words each for cars, light-duty, two-wheelers; six for all rows"
+  -- "six words each for cars (1 to 3), light-duty (4), two-wheelers (5 to 9); six for all rows"
   pub category-word-at : (c j : ℕ) → c < 4 → j < 6 → getD (report s) (6 * (rowsOf s + c) + j) 0 ≡ subtotal s (category c) (rowsOf s) j
   unfolding report category
   category-word-at zero j h l = simp append-assoc (after-rows _ j _ (omega arith) ∙ first car _ j l)

@@ -54,7 +54,8 @@ grandTotal s j =
     let all = subtotal s anyClass (rowsOf s) in
     all j + all (2 + j) + all (4 + j)
 
--- "per row diurnal, soak, running ..; six words each for cars, light-duty, two-wheelers; six for all rows; low and high of the grand total"
+-- "per row diurnal, soak, running, each low then high; six words each for cars (1 to 3), light-duty (4), two-wheelers (5 to 9);
+-- six for all rows; low and high of the grand total"
 unfoldable pub report : List ℕ → List ℕ
 report s =
     rowWords s (rowsOf s) ++ subtotals s car ++ subtotals s lightDuty ++ subtotals s twoWheeler ++ subtotals s anyClass ++
