@@ -6,13 +6,15 @@ use row_checks::rows_check;
 use season_checks::seasons_check;
 use sheet::Check;
 ghost use mathlib.Core.Path.{_≡_};
+ghost use Rattle.sheet.specs.Check.{numberOf, placeOf};
 ghost use Rattle.sheet.specs.Sheet.{sheetCheck};
+ghost use Rattle.sheet.specs.Demands.{Says, demands};
 
 mod head;
 mod parking;
 
-// Every check of a sheet, in table and file order. Each stage reads only what the stages before it showed to be there.
-pub fn check_sheet(s: &[u8]) -> Check
+// The stages one after another, in table and file order. Each reads only what the stages before it showed to be there.
+fn stages(s: &[u8]) -> Check
     ensures { λ r. ⌜ r ≡ sheetCheck (now (s .entry)) ⌝ }
 {
     let head = head_check(s);
@@ -32,4 +34,11 @@ pub fn check_sheet(s: &[u8]) -> Check
         return seasons;
     }
     rows_check(s)
+}
+
+// Every check of a sheet: the answer is the table's, and says which demand is the first that is not met, or that all are.
+pub fn check_sheet(s: &[u8]) -> Check
+    ensures { λ r. ⌜ (r ≡ sheetCheck (now (s .entry))) × Says (demands (now (s .entry))) (numberOf r) (placeOf r) ⌝ }
+{
+    stages(s)
 }

@@ -12,8 +12,10 @@ use Rattle.sheet.specs.declared.Check.the-variants.{Pass, Refused}
 use Rattle.sheet.specs.Bytes.{seasonsOf, rowsOf}
 use Rattle.sheet.specs.Check.{refuse}
 use Rattle.sheet.specs.Sheet.{outside, sheetCheck}
-use Rattle.sheet.proofs.Checks.{Demands, demand, _next_, Tests, Judges, judges-refuse, judges-then, ltb-tests, ||-tests, then-pass}
-use Rattle.sheet.proofs.Conditions.{demands, sheet-judged}
+use Rattle.sheet.specs.Demands.{Demands, demand, _next_}
+use Rattle.sheet.proofs.Checks.{Tests, Judges, judges-refuse, judges-then, ltb-tests, ||-tests, then-pass}
+use Rattle.sheet.specs.Demands.{demands}
+use Rattle.sheet.proofs.Conditions.{sheet-judged}
 use Rattle.sheet.proofs.Accepted.{Accepted, accepted}
 use Rattle.inventory.specs.FactorCall.{factorCheck}
 use Rattle.report_words.specs.Report.{reportLength}

@@ -16,10 +16,11 @@ use Rattle.sheet.specs.Limits.{seasonsLimit, rowsLimit, countsLimit, day
 use Rattle.sheet.specs.Bytes.{u8At, u16At, versionOf, seasonsOf, rowsOf, durationCounts, hourCounts, seasonPlace, rowPlace, seasonFrom, seasonAt, rowFrom, rowAt, equipmentAt, tankOf}
 use Rattle.sheet.specs.Sheet.{daysBefore, sheetCheck}
 use Rattle.sheet.specs.Range.{SeasonInRange}
-use Rattle.sheet.proofs.Checks.{Met}
+use Rattle.sheet.specs.Demands.{Met}
 use Rattle.sheet.proofs.Equipment.{equipment-tank, equipment-class}
 use Rattle.sheet.proofs.Temperature.{season-in-range}
-use Rattle.sheet.proofs.Conditions.{seasonDemands, rowDemands, Size, AtMost3, sheet-judged}
+use Rattle.sheet.specs.Demands.{seasonDemands, rowDemands, Size, AtMost3}
+use Rattle.sheet.proofs.Conditions.{sheet-judged}
 
 -- each element is a byte
 pub record Bytes (s : List ℕ) : Type 0 where

@@ -14,26 +14,8 @@ use Rattle.numbers.specs.Fraction.{Fraction, _≤ᶠ_, _≤?_}
 use Rattle.numbers.proofs.Order.{test-cases}
 use Rattle.sheet.specs.declared.Check.{Check}
 use Rattle.sheet.specs.declared.Check.the-variants.{Pass, Refused}
-use Rattle.sheet.specs.Check.{refuse, _then_, each}
-
--- Demands in their order: one with its number and place, one after another, and those on records 0, 1, .. n − 1.
-infixr 5 _next_
-pub data Demands : Type 1 where
-  demand : ℕ → ℕ → Type 0 → Demands
-  _next_ : Demands → Demands → Demands
-  every : ℕ → (ℕ → Demands) → Demands
-
--- all are met
-abbrev pub Met : Demands → Type 0
-Met (demand number place A) = A
-Met (D next E) = Met D × Met E
-Met (every n f) = (i : ℕ) → i < n → Met (f i)
-
--- the first that is not met has this number and place: "The first that applies, in table and file order"
-abbrev pub FirstUnmet : ℕ → ℕ → Demands → Type 0
-FirstUnmet n p (demand number place A) = (n ≡ number) × (p ≡ place) × ¬ A
-FirstUnmet n p (D next E) = FirstUnmet n p D ⊎ (Met D × FirstUnmet n p E)
-FirstUnmet n p (every k f) = (i : ℕ) × (i < k) × ((j : ℕ) → j < i → Met (f j)) × FirstUnmet n p (f i)
+use Rattle.sheet.specs.Check.{refuse, _then_, each, numberOf, placeOf}
+use Rattle.sheet.specs.Demands.{Demands, demand, _next_, every, Met, FirstUnmet, Says}
 
 -- Passing and refusing, for the three ways to put checks together.
 
@@ -98,6 +80,13 @@ pub record Tests (wrong : Bool) (A : Type 0) : Type 0 where
 pub record Judges (c : Check) (D : Demands) : Type 0 where
   pub passes : c ≡ Pass → Met D
   pub refuses : (n p : ℕ) → c ≡ Refused n p → FirstUnmet n p D
+
+-- so its number and place say so, where no demand has number 0
+pub says : (c : Check) {D : Demands} → Judges c D → ((p : ℕ) → FirstUnmet 0 p D → ⊥) → Says D (numberOf c) (placeOf c)
+unfolding numberOf placeOf
+says Pass j none = j .passes refl
+says (Refused zero p) j none = absurd (none p (j .refuses zero p refl))
+says (Refused (suc n) p) j none = j .refuses (suc n) p refl
 
 -- one test judges one demand
 pub judges-refuse : {wrong : Bool} {number place : ℕ} {A : Type 0} → Tests wrong A → Judges (refuse wrong number place) (demand number place A)

@@ -22,90 +22,9 @@ use Rattle.sheet.specs.declared.Check.the-variants.{Pass, Refused}
 use Rattle.sheet.specs.Limits.{seasonsLimit, rowsLimit, countsLimit, daysLimit, coldLimit, warmLimit, vpLeast, vpLimit, percentLimit, tankLimit, vehiclesLimit, tripsLimit, minutesLimit}
 use Rattle.sheet.specs.Bytes.{u8At, u16At, versionOf, seasonsOf, rowsOf, durationCounts, hourCounts, seasonPlace, rowPlace, seasonAt, rowAt, equipmentAt}
 use Rattle.sheet.specs.Sheet.{outside, lettersMissing, markCheck, numbersCheck, headCheck, lengthCheck, parkingCheck, daysBefore, temperaturesWrong, seasonCheck, isAbsent, codeWrong, percentWrong, loadWrong, above3, saturationWrong, someSeason, rowCheck, sheetCheck}
-use Rattle.sheet.proofs.Checks.{Demands, demand, _next_, every, Tests, Judges, numbers, among, number-among, Once, Met, Unmet, unmet, Broken, broken, met-passes, true-is-not-false, below-suc, judges-refuse, judges-then, judges-each, _⊳_, ltb-tests, ||-tests, &&-tests, tests-as, not-tests, eqb-shows, ≤-shows, &&-shows}
-
--- Head | 1 under 8 bytes; 2 mark | 0; 0
-abbrev pub markDemands : List ℕ → Demands
-markDemands s =
-    demand 1 0 (8 ≤ length s) next
-    demand 2 0 (((u8At s 0 ≡ 0x45) × (u8At s 1 ≡ 0x56)) × (u8At s 2 ≡ 0x50))
-
--- Head | 3 version; 4 S; 5 R; 6 byte 7 | 3; 5; 6; 7
-abbrev pub numbersDemands : List ℕ → Demands
-numbersDemands s =
-    demand 3 3 (versionOf s ≡ 1) next
-    demand 4 5 ((1 ≤ seasonsOf s) × (seasonsOf s ≤ seasonsLimit)) next
-    demand 5 6 ((1 ≤ rowsOf s) × (rowsOf s ≤ rowsLimit)) next
-    demand 6 7 (u8At s 7 ≡ 0)
-
--- Head: the mark, then the numbers
-abbrev pub headDemands : List ℕ → Demands
-headDemands s = markDemands s next numbersDemands s
-
--- Length | 7 not 104 + 8S + 24R | 0
-abbrev pub lengthDemand : List ℕ → Demands
-lengthDemand s = demand 7 0 (length s ≡ 104 + 8 * seasonsOf s + 24 * rowsOf s)
-
--- Parking | 8 duration sum; 9 hour sum | 8; 56
-abbrev pub parkingDemands : List ℕ → Demands
-parkingDemands s =
-    demand 8 8 ((1 ≤ total (durationCounts s)) × (total (durationCounts s) ≤ countsLimit)) next
-    demand 9 56 ((1 ≤ total (hourCounts s)) × (total (hourCounts s) ≤ countsLimit))
-
--- Each season | 10 days or their running sum; 11 temperatures; 12 vp | record start
-abbrev pub seasonDemands : List ℕ → ℕ → Demands
-seasonDemands s i =
-    let season = seasonAt s i in
-    let place = seasonPlace s i in
-    let lowest = signedTenths (season .lowest) in
-    let highest = signedTenths (season .highest) in
-    demand 10 place (((1 ≤ season .days) × (season .days ≤ daysLimit)) × (daysBefore s i + season .days ≤ daysLimit)) next
-    demand 11 place (((negᶠ (coldLimit /10^ 1) ≤ᶠ lowest) × (lowest ≤ᶠ highest)) × (highest ≤ᶠ warmLimit /10^ 1)) next
-    demand 12 place ((vpLeast ≤ season .vp) × (season .vp ≤ vpLimit))
-
--- "s = 2, 1, 0.5 for small, medium, large"
-abbrev pub Size : Canister → Fraction → Type 0
-Size None s = ⊥
-Size Small s = s ≡ whole 2
-Size Medium s = s ≡ whole 1
-Size Large s = s ≡ 5 /10^ 1
-
--- a + b·s·m at temperature T, for a canister of size s and its load m
-abbrev pub exponentAt : Season → Fraction → Fraction → Fraction → Fraction
-exponentAt season T s m =
-    let vp = season .vp /10^ 1 in
-    a vp T +ᶠ b vp T *ᶠ s *ᶠ m
-
--- at the season's highest temperature, a + b·s·m_sat ≤ 3
-abbrev pub AtMost3 : Season → Fraction → ℕ → Type 0
-AtMost3 season s saturation = exponentAt season (signedTenths (season .highest)) s (saturation /10^ 1) ≤ᶠ whole 3
-
--- Each row | 13 class and technology not in the table; 14 canister code; 15 a percent; 16 vehicles; 17 tank; 18 trips or
--- minutes; 19 load above m_sat, or a load or m_sat with no canister; 20 in some season, at its highest temperature,
--- a + b·s·m_sat above 3; 21 bytes 20 to 23 | record start
-abbrev pub rowDemands : List ℕ → ℕ → Demands
-rowDemands s i =
-    let row = rowAt s i in
-    let place = rowPlace s i in
-    let code = u8At s (place + 2) in
-    demand 13 place (¬ (equipmentAt s place ≡ Absent)) next
-    demand 14 place ((code ≤ 3) ⊎ (code ≡ 255)) next
-    demand 15 place (((row .carburettor ≤ percentLimit) × (row .hot ≤ percentLimit)) × (row .fill ≤ percentLimit)) next
-    demand 16 place (row .vehicles ≤ vehiclesLimit) next
-    demand 17 place (u16At s (place + 6) ≤ tankLimit) next
-    demand 18 place ((row .trips ≤ tripsLimit) × (row .minutes ≤ minutesLimit)) next
-    demand 19 place ((row .load ≤ row .saturation) × (row .canister ≡ None → row .saturation ≡ 0)) next
-    demand 20 place ((j : ℕ) → j < seasonsOf s → (size : Fraction) → Size (row .canister) size → AtMost3 (seasonAt s j) size (row .saturation)) next
-    demand 21 place (row .reserved ≡ 0)
-
--- the whole table, "in table and file order"
-abbrev pub demands : List ℕ → Demands
-demands s =
-    headDemands s next
-    lengthDemand s next
-    parkingDemands s next
-    every (seasonsOf s) (seasonDemands s) next
-    every (rowsOf s) (rowDemands s)
+use Rattle.sheet.specs.Check.{numberOf, placeOf}
+use Rattle.sheet.specs.Demands.{Met, FirstUnmet, Says, markDemands, numbersDemands, headDemands, lengthDemand, parkingDemands, seasonDemands, Size, AtMost3, rowDemands, demands}
+use Rattle.sheet.proofs.Checks.{Tests, Judges, numbers, among, number-among, Once, Unmet, unmet, Broken, broken, met-passes, says, true-is-not-false, below-suc, judges-refuse, judges-then, judges-each, _⊳_, ltb-tests, ||-tests, &&-tests, tests-as, not-tests, eqb-shows, ≤-shows, &&-shows}
 
 -- a number outside least to most
 outside-tests : (least most x : ℕ) → Tests (outside least most x) ((least ≤ x) × (x ≤ most))
@@ -247,6 +166,14 @@ refused s n p h = unmet n p (demands s) (once s) (sheet-judged s .refuses n p h)
 -- and has a line there
 pub refused-number : (s : List ℕ) {n p : ℕ} → sheetCheck s ≡ Refused n p → among n (numbers (demands s)) ≡ true
 refused-number s h = number-among _ _ (demands s) (once s) (sheet-judged s .refuses _ _ h)
+
+-- no demand has number 0, which stands for an accepted sheet
+pub no-zero : (s : List ℕ) (p : ℕ) → FirstUnmet 0 p (demands s) → ⊥
+no-zero s p u = true-is-not-false (sym (number-among 0 p (demands s) (once s) u))
+
+-- so the number and the place of the answer say what is met and what is not
+pub sheet-says : (s : List ℕ) → Says (demands s) (numberOf (sheetCheck s)) (placeOf (sheetCheck s))
+sheet-says s = says (sheetCheck s) (sheet-judged s) (no-zero s)
 
 -- in some season, whose record starts at p, this does not hold of it and of the days before it
 abbrev pub NotInSeason : List ℕ → ℕ → (Season → ℕ → Type 0) → Type 0

@@ -16,7 +16,7 @@ use Rattle.sheet.specs.Limits.{coldLimit, vpLimit}
 use Rattle.sheet.specs.Bytes.{seasonsOf, rowsOf, seasonAt, rowAt}
 use Rattle.sheet.specs.Range.{SeasonInRange}
 use Rattle.sheet.proofs.Temperature.{signed-cold, temperature-above-lowest, temperature-below-highest}
-use Rattle.sheet.proofs.Conditions.{Size, exponentAt, AtMost3}
+use Rattle.sheet.specs.Demands.{Size, exponentAt, AtMost3}
 use Rattle.sheet.proofs.Accepted.{Bytes, Accepted}
 
 -- a grows with T

@@ -12,23 +12,23 @@ use Rattle.inventory.proofs.check.factor_check.Tie as tie
 
 returns : tie.Need-returns
 unfolding factorCheck
-returns c = stop _ _ (c .before .before .check-sheet .ensures) (c .enum-told .given .1)
+returns c = stop _ _ (c .before .before .check-sheet .ensures .0) (c .enum-told .given .1)
 
 absent-requires : tie.Need-absent-requires
-absent-requires c κs = omega (arith, parking-there _ (sym (c .before .before .check-sheet .ensures) ∙ c .enum-told2 .given .1))
+absent-requires c κs = omega (arith, parking-there _ (sym (c .before .before .check-sheet .ensures .0) ∙ c .enum-told2 .given .1))
 
 returns-2 : tie.Need-returns-2
 unfolding factorCheck
 returns-2 c =
     let e = c .before .before in
-    go _ _ (e .before .before .check-sheet .ensures) (e .enum-told2 .given .1)
+    go _ _ (e .before .before .check-sheet .ensures .0) (e .enum-told2 .given .1)
     (refused _ _ (sym (c .before .absent .ensures) ∙ c .if1 .taken))
 
 returns-3 : tie.Need-returns-3
 unfolding factorCheck
 returns-3 c =
     let e = c .before .before in
-    go _ _ (e .before .before .check-sheet .ensures) (e .enum-told2 .given .1)
+    go _ _ (e .before .before .check-sheet .ensures .0) (e .enum-told2 .given .1)
     (allowed _ _ (sym (c .before .absent .ensures) ∙ c .if1 .left))
 
 pub factor-check-spec : {M : Type 1} → statement M

@@ -14,17 +14,17 @@ use Rattle.inventory.proofs.check.report_check.Tie as tie
 
 returns : tie.Need-returns
 unfolding reportCheck
-returns c = stop _ _ (c .before .before .check-sheet .ensures) (c .enum-told .given .1)
+returns c = stop _ _ (c .before .before .check-sheet .ensures .0) (c .enum-told .given .1)
 
 report-length-requires : tie.Need-report-length-requires
-report-length-requires c κs = omega (arith, parking-there _ (sym (c .before .before .check-sheet .ensures) ∙ c .enum-told2 .given .1))
+report-length-requires c κs = omega (arith, parking-there _ (sym (c .before .before .check-sheet .ensures .0) ∙ c .enum-told2 .given .1))
 
 returns-2 : tie.Need-returns-2
 unfolding reportCheck
 returns-2 c =
     let e = c .before .before in
     let x = e .before .before .before .before .args in
-    go _ _ (e .before .before .check-sheet .ensures) (e .enum-told2 .given .1)
+    go _ _ (e .before .before .check-sheet .ensures .0) (e .enum-told2 .given .1)
     (refused _ _ (lt-ltb (x .room) (reportLength (x .s .now)) (omega arith)))
 
 returns-3 : tie.Need-returns-3
@@ -32,7 +32,7 @@ unfolding reportCheck
 returns-3 c =
     let e = c .before .before in
     let x = e .before .before .before .before .args in
-    go _ _ (e .before .before .check-sheet .ensures) (e .enum-told2 .given .1)
+    go _ _ (e .before .before .check-sheet .ensures .0) (e .enum-told2 .given .1)
     (allowed _ _ (le-ltb (x .room) (reportLength (x .s .now)) (omega arith)))
 
 pub report-check-spec : {M : Type 1} → statement M
