@@ -5,7 +5,7 @@ use Prim.Native.Nat.{ℕ, _+_, _*_, _^_, _-_, _≤_, _<_, suc, min}
 use native.Mathlib.Omega.{arith}
 use lib.Dec.{T}
 use lib.ListN.{length, getD}
-use Rattle.bounds.specs.Exponential.{high, middle}
+use Rattle.bounds.specs.Exponential.{coarse, middle}
 use Rattle.bounds.proofs.Product.{acc, num}
 use Rattle.bounds.proofs.Tail.{Near, near, nearTest, belowTest, top}
 use Rattle.bounds.proofs.Table.{at, every, ascending-at}
@@ -24,17 +24,17 @@ entry-near q o w N xs t h l z i j = near q (N h) w (h - o) (o - h) (getD xs h 0)
 unfoldable pub from : ℕ → ℕ → ℕ
 from o h = 30 + 10 * min 1 (o - h)
 
--- high(h) ≤ 2⁴⁰·E((h − 256)/16) ≤ high(h) + 1
-pub high-near : (h : ℕ) → h < 322 → Near 16 (from 256 h) (2 ^ 40) (h - 256) (256 - h) (getD high h 0)
-unfolding high from nearTest belowTest top num acc
-high-near h l = entry-near 16 256 (2 ^ 40) (from 256) high tt h l (omega arith) (omega arith) (omega arith)
+-- coarse(h) ≤ 2⁴⁰·E((h − 256)/16) ≤ coarse(h) + 1
+pub coarse-near : (h : ℕ) → h < 322 → Near 16 (from 256 h) (2 ^ 40) (h - 256) (256 - h) (getD coarse h 0)
+unfolding coarse from nearTest belowTest top num acc
+coarse-near h l = entry-near 16 256 (2 ^ 40) (from 256) coarse tt h l (omega arith) (omega arith) (omega arith)
 
 -- middle(m) ≤ 2⁴⁰·E(m/4096) ≤ middle(m) + 1
 pub middle-near : (m : ℕ) → m < 256 → Near 4096 8 (2 ^ 40) (m - 0) (0 - m) (getD middle m 0)
 unfolding middle nearTest belowTest top num acc
 middle-near m l = entry-near 4096 0 (2 ^ 40) (λ _. 8) middle tt m l (omega arith) (omega arith) (omega arith)
 
--- high grows with its place
-pub high-mono : {h k : ℕ} → h ≤ k → k < 322 → getD high h 0 ≤ getD high k 0
-unfolding high
-high-mono {h} {k} l g = ascending-at 0 high tt h k l g
+-- coarse grows with its place
+pub coarse-mono : {h k : ℕ} → h ≤ k → k < 322 → getD coarse h 0 ≤ getD coarse k 0
+unfolding coarse
+coarse-mono {h} {k} l g = ascending-at 0 coarse tt h k l g

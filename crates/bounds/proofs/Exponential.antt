@@ -6,10 +6,10 @@ use native.Mathlib.Decide.{decLe}
 use native.Mathlib.Omega.{arith}
 use native.Mathlib.Nat.{pow-zero, mul-comm, mul-pos, mul-le-mul-right, mul-le-mul-left, mul-le-mul, le-of-mul-le-mul-right, le-dest, le-of-lt, lt-of-not-le}
 use lib.Dec.{T}
-use Rattle.numbers.specs.Fraction.{Fraction, _≤ᶠ_, _≈ᶠ_, _+ᶠ_, negᶠ, _*ᶠ_, whole, _/10^_, ten-pos, _over_, inverse, _times_}
+use Rattle.numbers.specs.Fraction.{Fraction, _≤ᶠ_, _≈ᶠ_, _+ᶠ_, negᶠ, _*ᶠ_, whole, _/10^_, ten-pos, _over_, inverse}
 use Rattle.bounds.specs.Series.{S, E, term, factorial}
-use Rattle.numbers.proofs.Order.{NonNegative, Positive, sub-mul, ratio, ratio-≤, ratio-≈, ratio-positive, nonNegative-is, decimal-is, ≤-trans, ≤-by, ≈→≤, ≈→≥, ≈-refl, ≈-sym, ≈-trans, +-cong, *-cong, ^-cong, over-cong, neg-cong, inverse-cong, test-cases, test-cong, nonNegative, neg-positive, times-is, positive→nonNegative, nonNegative-up, positive-cong}
-use Rattle.bounds.proofs.Product.{den, acc, num, num-grow, num-mono, num-zero, num-pos, den-pos, product-above, product-below, term-is, series-is}
+use Rattle.numbers.proofs.Order.{NonNegative, Positive, sub-mul, ratio, ratio-≤, ratio-≈, ratio-positive, nonNegative-is, decimal-is, ≤-trans, ≤-by, ≈→≤, ≈-refl, ≈-sym, ≈-trans, +-cong, *-cong, ^-cong, over-cong, neg-cong, inverse-cong, test-cases, test-cong, nonNegative, neg-positive, positive→nonNegative, positive-cong}
+use Rattle.bounds.proofs.Product.{den, acc, num, num-mono, num-zero, num-pos, den-pos, product-above, product-below, series-is}
 use Rattle.bounds.proofs.Tail.{top, tail, belowTest, below}
 
 -- Sums.
@@ -34,12 +34,6 @@ pub S-positive : {x : Fraction} (n : ℕ) → NonNegative x → Positive (S n x)
 S-positive {x} n h =
     positive-cong (≈-sym (S-at n _ _ _ (nonNegative-is x h))) (ratio-positive _ (num-pos (x .den) (x .up - x .down) n (x .pos)))
 
--- Sₘ(x) ≤ Sₙ(x) for 0 ≤ x and m ≤ n
-pub S-grows : {x : Fraction} {m n : ℕ} → NonNegative x → m ≤ n → S m x ≤ᶠ S n x
-S-grows {x} {m} {n} h l =
-    ≤-by (S-at m _ _ _ (nonNegative-is x h)) (S-at n _ _ _ (nonNegative-is x h))
-    (ratio-≤ _ _ _ _ (omega (arith, num-grow (x .den) (x .up - x .down) l)))
-
 -- Two values of 0 or more over one denominator.
 
 -- x over a multiple of its denominator
@@ -61,11 +55,6 @@ ratio-sum : (p r q : ℕ) (h : 0 < q) → ratio p q h +ᶠ ratio r q h ≈ᶠ ra
 unfolding ratio _+ᶠ_
 ratio-sum p r q h = omega arith
 
--- p/q ≤ r/q gives p ≤ r
-ratio-≤-back : (p r q : ℕ) (h : 0 < q) → ratio p q h ≤ᶠ ratio r q h → p ≤ r
-unfolding ratio
-ratio-≤-back p r q h l = le-of-mul-le-mul-right {k = q} (omega (arith, l .cross)) h
-
 module _ (x y : Fraction) (hx : NonNegative x) (hy : NonNegative y) where
   -- x + y
   sum-is : x +ᶠ y ≈ᶠ ratio ((x .up - x .down) * y .den + (y .up - y .down) * x .den) (x .den * y .den) (mul-pos (x .pos) (y .pos))
@@ -82,14 +71,6 @@ ratio-product-below : (u a b c d e : ℕ) (h : 0 < c) (k : 0 < d) (l : 0 < e) �
 unfolding ratio _*ᶠ_
 ratio-product-below u a b c d e h k l le = omega (arith, le)
 
--- Sₙ(x) ≤ Sₙ(y) for 0 ≤ x ≤ y
-pub S-mono : {x y : Fraction} (n : ℕ) → NonNegative x → x ≤ᶠ y → S n x ≤ᶠ S n y
-S-mono {x} {y} n h l =
-    let e = left-is x y h in
-    let f = right-is x y (nonNegative-up l h) in
-    ≤-by (S-at n _ _ _ e) (S-at n _ _ _ f)
-    (ratio-≤ _ _ _ _ (mul-le-mul-right (den (x .den * y .den) n) (num-mono _ n (ratio-≤-back _ _ _ _ (≤-by (≈-sym e) (≈-sym f) l)))))
-
 -- Sₙ(x + y) ≤ Sₙ(x)·Sₙ(y) for 0 ≤ x, y
 pub S-product-above : (x y : Fraction) (n : ℕ) → NonNegative x → NonNegative y → S n (x +ᶠ y) ≤ᶠ S n x *ᶠ S n y
 S-product-above x y n hx hy =
@@ -103,30 +84,6 @@ S-product-below x y n m hx hy =
     (ratio-product-below _ _ _ _ _ _ _ _ _ (product-below _ _ _ n m))
 
 -- The tail.
-
--- c·(p/q) ≤ d gives c·p ≤ d·q
-whole-ratio-≤ : (c d p q : ℕ) (h : 0 < q) → whole c *ᶠ ratio p q h ≤ᶠ whole d → c * p ≤ d * q
-unfolding ratio whole _*ᶠ_
-whole-ratio-≤ c d p q h l = omega (arith, l .cross)
-
--- the tail law as one of fractions
-ratio-tail : (a b u d v t e : ℕ) (h : 0 < d) (k : 0 < e) → e * (b * u) ≤ d * (b * v + a * t)
-    → whole b *ᶠ ratio u d h ≤ᶠ whole b *ᶠ ratio v e k +ᶠ whole a *ᶠ ratio t e k
-unfolding ratio whole _*ᶠ_ _+ᶠ_
-ratio-tail a b u d v t e h k l = omega (arith, mul-le-mul-right e l)
-
--- Sₙ(y) ≤ S_N(y) + (a/b)·t_N(y) for n ≥ N, 0 ≤ y and (a + b)·y ≤ a·(N + 1), times b
-pub S-tail : (a b N n : ℕ) (y : Fraction) → NonNegative y → (a + b) times y ≤ᶠ whole (a * suc N) → N ≤ n
-    → b times S n y ≤ᶠ b times S N y +ᶠ a times term y N
-unfolding top
-S-tail a b N n y h l le =
-    let e = nonNegative-is y h in
-    let p : ℕ = y .up - y .down in
-    let c : (a + b) * p ≤ a * suc N * y .den = whole-ratio-≤ _ _ _ _ _ (≤-trans (≈→≥ (≈-trans (times-is (a + b) y) (*-cong (≈-refl _) e))) l) in
-    ≤-by (≈-trans (times-is b _) (*-cong (≈-refl _) (S-at n _ _ _ e)))
-    (+-cong (≈-trans (times-is b _) (*-cong (≈-refl _) (S-at N _ _ _ e)))
-    (≈-trans (times-is a _) (*-cong (≈-refl _) (≈-trans (term-cong N e) (term-is p (y .den) (y .pos) N)))))
-    (ratio-tail a b _ _ _ _ _ _ _ (tail (y .den) p a b N n (omega (arith, c)) le))
 
 -- Both signs.
 

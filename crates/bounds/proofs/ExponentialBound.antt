@@ -9,14 +9,14 @@ use lib.ListN.{getD}
 use Rattle.numbers.specs.Fraction.{ten-pos}
 use Rattle.bounds.specs.Series.{E}
 use Rattle.bounds.specs.Enclosure.{Within, WithinAll}
-use Rattle.bounds.specs.Exponential.{exponent, high, middle, rest, quadratic, fine, exponential, exponentLimit, exponentialError}
+use Rattle.bounds.specs.Exponential.{exponent, coarse, middle, rest, quadratic, fine, exponential, exponentLimit, exponentialError}
 use Rattle.numbers.proofs.Order.{≈-sym}
 use Rattle.bounds.proofs.Within.{within-≈, round-within, widen, div-mono}
 use Rattle.bounds.proofs.Tail.{Near}
 use Rattle.bounds.proofs.Exponential.{E-is}
-use Rattle.bounds.proofs.Entries.{from, high-near, middle-near, high-mono}
+use Rattle.bounds.proofs.Entries.{from, coarse-near, middle-near, coarse-mono}
 use Rattle.bounds.proofs.Parts.{cut-below}
-use Rattle.bounds.proofs.Sizes.{high-below, middle-below}
+use Rattle.bounds.proofs.Sizes.{coarse-below, middle-below}
 use Rattle.bounds.proofs.Composition.{Small, small-sum, small-scale, small-round, small-widen, near-small, composed, quadratic-small}
 
 -- Sizes.
@@ -46,7 +46,7 @@ fine-size d h =
 pub exponential-size : (x : ℕ) → x < exponentLimit → exponential x < 2 ^ 46
 unfolding exponential
 exponential-size x h =
-    cut-below (2 ^ 40) (omega arith) (le-of-lt (high-below (x / 6250000000000) (omega arith)))
+    cut-below (2 ^ 40) (omega arith) (le-of-lt (coarse-below (x / 6250000000000) (omega arith)))
     (le-of-lt (fine-size (x % 6250000000000) (omega arith))) (lit< tt)
 
 -- The three factors.
@@ -96,7 +96,7 @@ fine-near d h =
     let m : ℕ = d / 24414062500 in
     rw (div-add-mod d 24414062500) at (fine-at m (d % 24414062500) (getD middle m 0) (omega arith) (middle-below m (omega arith)) (middle-near m (omega arith)))
 
--- an entry t of high, and lo = fine d
+-- an entry t of coarse, and lo = fine d
 exponential-at : (n h d t lo : ℕ) → d < 6250000000000 → 40 ≤ n → lo < 2 ^ 41 → Near 16 (from 256 h) (2 ^ 40) (h - 256) (256 - h) t
     → Small (10 ^ 14) 10 (2 ^ 40) d lo 8
     → Within (2 ^ 40) (t * lo / 2 ^ 40) (8 * (t / 2 ^ 40 + 1) + 3) (E n (exponent (6250000000000 * h + d)))
@@ -117,7 +117,7 @@ exponential-within x l =
     let k : d < 6250000000000 = mod-lt x (omega arith) in
     record {
       at = λ n n40.
-          rw (div-add-mod x 6250000000000) at (exponential-at n h d (getD high h 0) (fine d) k n40 (omega (arith, fine-size d k)) (high-near h (omega arith)) (fine-near d k));
+          rw (div-add-mod x 6250000000000) at (exponential-at n h d (getD coarse h 0) (fine d) k n40 (omega (arith, fine-size d k)) (coarse-near h (omega arith)) (fine-near d k));
     }
 
 -- the error grows with the exponent
@@ -125,7 +125,7 @@ pub exponentialError-mono : {x y : ℕ} → x ≤ y → y < exponentLimit → ex
 unfolding exponentialError
 exponentialError-mono {x} {y} l h =
     let g : x / 6250000000000 ≤ y / 6250000000000 = div-mono 6250000000000 (omega arith) l in
-    let k : getD high (x / 6250000000000) 0 ≤ getD high (y / 6250000000000) 0 = high-mono g (omega arith) in
+    let k : getD coarse (x / 6250000000000) 0 ≤ getD coarse (y / 6250000000000) 0 = coarse-mono g (omega arith) in
     omega arith
 
 -- the error at a given exponent is computed, and bounds that of every smaller one
@@ -135,20 +135,20 @@ exponentialError-most last most h e x l = rw e at (exponentialError-mono l h)
 
 -- z ≤ 2.3
 pub exponentialError-2·3 : (x : ℕ) → x ≤ 183 * 10 ^ 13 → exponentialError x ≤ 83
-unfolding exponentialError high
+unfolding exponentialError coarse
 exponentialError-2·3 = exponentialError-most (183 * 10 ^ 13) 83 (omega arith) refl
 
 -- z ≤ 3
 pub exponentialError-3 : (x : ℕ) → x ≤ 19 * 10 ^ 14 → exponentialError x ≤ 171
-unfolding exponentialError high
+unfolding exponentialError coarse
 exponentialError-3 = exponentialError-most (19 * 10 ^ 14) 171 (omega arith) refl
 
 -- z ≤ 3.6
 pub exponentialError-3·6 : (x : ℕ) → x ≤ 196 * 10 ^ 13 → exponentialError x ≤ 291
-unfolding exponentialError high
+unfolding exponentialError coarse
 exponentialError-3·6 = exponentialError-most (196 * 10 ^ 13) 291 (omega arith) refl
 
 -- z < 4.1
 pub exponentialError-4·1 : (x : ℕ) → x < exponentLimit → exponentialError x ≤ 475
-unfolding exponentialError high
+unfolding exponentialError coarse
 exponentialError-4·1 x h = exponentialError-most (201 * 10 ^ 13 - 1) 475 (omega arith) refl x (omega arith)

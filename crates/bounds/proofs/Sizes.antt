@@ -4,7 +4,7 @@ use mathlib.Core.List.{List}
 use Prim.Native.Nat.{ℕ, suc, _*_, _^_, _<_}
 use lib.Dec.{T, leb, leb→le}
 use lib.ListN.{length, getD}
-use Rattle.bounds.specs.Exponential.{high, middle}
+use Rattle.bounds.specs.Exponential.{coarse, middle}
 use Rattle.bounds.proofs.Table.{at, every}
 
 -- the test that an entry is below a bound
@@ -16,9 +16,9 @@ entries-below : (bound : ℕ) (xs : List ℕ) → T (every (isBelow bound) 0 xs)
 entries-below bound xs t k h = leb→le _ _ (at (isBelow bound) xs t k h)
 
 -- E up to 4.1 is below 64·10¹² / 2⁴⁰
-pub high-below : (h : ℕ) → h < 322 → getD high h 0 < 64 * 10 ^ 12
-unfolding high
-high-below = entries-below (64 * 10 ^ 12) high tt
+pub coarse-below : (h : ℕ) → h < 322 → getD coarse h 0 < 64 * 10 ^ 12
+unfolding coarse
+coarse-below = entries-below (64 * 10 ^ 12) coarse tt
 
 -- E up to a sixteenth is below 118·10¹⁰ / 2⁴⁰
 pub middle-below : (m : ℕ) → m < 256 → getD middle m 0 < 118 * 10 ^ 10

@@ -2,11 +2,11 @@
 -- values that are enclosed themselves.
 use Prim.Native.Nat.{ℕ, suc, zero, _+_, _*_, _-_, _^_, _/_, _≤_, _<_}
 use native.Mathlib.Omega.{arith}
-use native.Mathlib.Nat.{mul-le-mul-right, mul-le-mul-left, mul-le-mul, mul-pos, le-of-mul-le-mul-right, lt-of-mul-lt-mul-right, le-dest, div-mul-le-self, lt-div-mul-add, le-div-iff-mul-le}
+use native.Mathlib.Nat.{mul-le-mul-right, mul-le-mul-left, mul-le-mul, mul-pos, le-of-mul-le-mul-right, le-dest, div-mul-le-self, lt-div-mul-add, le-div-iff-mul-le}
 use mathlib.Core.Path.{ap}
 use Rattle.numbers.specs.Fraction.{Fraction, _≤ᶠ_, _≈ᶠ_, _+ᶠ_, negᶠ, _-ᶠ_, _*ᶠ_, whole, _/10^_, ten-pos, _over_, _times_}
 use Rattle.bounds.specs.Enclosure.{Within, WithinAll}
-use Rattle.numbers.proofs.Order.{NonNegative, Positive, via, sub-mul, idle, ratio, ≈-refl, ≈-sym, *-cong, decimal-is}
+use Rattle.numbers.proofs.Order.{NonNegative, via, sub-mul, idle, ratio, ≈-refl, ≈-sym, *-cong, decimal-is}
 
 -- ⌊a/k⌋ grows with a
 pub div-mono : {a b : ℕ} (k : ℕ) → 0 < k → a ≤ b → a / k ≤ b / k
@@ -46,13 +46,6 @@ pub within-from : {s l w : ℕ} {x : Fraction} (p : 0 < s) → ratio l s p ≤�
 unfolding ratio
 within-from p a b = record { above = omega (arith, a .cross); below = omega (arith, b .cross) }
 
--- values whose enclosures do not cross are in order
-pub within-≤ : {s l w m v : ℕ} {x y : Fraction} → 0 < s → Within s l w x → Within s m v y → l + w ≤ m → x ≤ᶠ y
-within-≤ {s} {x = x} {y = y} p a b h = record {
-  cross =
-      le-of-mul-le-mul-right {k = s} (omega (arith, mul-le-mul-right (y .den) (a .below), mul-le-mul-right (x .den) (b .above), mul-le-mul-right (x .den * y .den) h)) p;
-}
-
 -- values in order have bounds in order
 pub within-cross : {s l w m v : ℕ} {x y : Fraction} → Within s l w x → Within s m v y → x ≤ᶠ y → l ≤ m + v
 within-cross {s} {l} {w} {m} {v} {x} {y} a b h =
@@ -79,11 +72,6 @@ decimal-≤-within {s} {x = x} k places p a h = record {
 pub within-nonNegative : {s l w : ℕ} {x : Fraction} → 0 < s → Within s l w x → NonNegative x
 within-nonNegative {s} {x = x} p a =
     record { nonneg = le-of-mul-le-mul-right {k = s} (omega (arith, a .above)) p }
-
--- and above 0 where its lower bound is
-pub within-positive : {s l w : ℕ} {x : Fraction} → 0 < s → 0 < l → Within s l w x → Positive x
-within-positive {s} {l} {x = x} p h a =
-    record { gt = lt-of-mul-lt-mul-right s (omega (arith, a .above, mul-pos h (x .pos))) }
 
 -- Constants.
 

@@ -1,9 +1,8 @@
 -- The computed exponential: which whole number the program's exponential is. Definitions only.
 -- An exponent z is held as the whole number x = (z + 16)·10¹⁴, and the result is in units of 2⁻⁴⁰. With
--- z = (h − 256)/16 + m/4096 + ρ and ρ below 2⁻¹², E(z) is close to high(h)·middle(m)·(1 + ρ + ρ²/2); every step cuts downwards.
+-- z = (h − 256)/16 + m/4096 + ρ and ρ below 2⁻¹², E(z) is close to coarse(h)·middle(m)·(1 + ρ + ρ²/2); every step cuts downwards.
 use mathlib.Core.List.{List, [], _∷_, _++_}
-use Prim.Native.Nat.{ℕ, _+_, _*_, _/_, _%_, _^_, _<_}
-use native.Mathlib.Omega.{arith}
+use Prim.Native.Nat.{ℕ, _+_, _*_, _/_, _%_, _^_}
 use lib.ListN.{getD}
 use Rattle.numbers.specs.Fraction.{Fraction, ten-pos}
 
@@ -12,8 +11,8 @@ abbrev pub exponent : ℕ → Fraction
 exponent x = record { up = x; down = 16 * 10 ^ 14; den = 10 ^ 14; pos = ten-pos 14 }
 
 -- just below 2⁴⁰·E((h − 256)/16), for h from 0 to 321
-unfoldable pub high : List ℕ
-high =
+unfoldable pub coarse : List ℕ
+coarse =
     123733 ∷ 131713 ∷ 140208 ∷ 149251 ∷ 158877 ∷ 169123 ∷ 180031 ∷ 191642 ∷
     204002 ∷ 217159 ∷ 231165 ∷ 246073 ∷ 261944 ∷ 278838 ∷ 296821 ∷ 315965 ∷
     336343 ∷ 358035 ∷ 381126 ∷ 405707 ∷ 431873 ∷ 459726 ∷ 489376 ∷ 520938 ∷
@@ -94,7 +93,7 @@ middle =
 
 -- both, as the program holds them
 unfoldable pub entries : List ℕ
-entries = high ++ middle
+entries = coarse ++ middle
 
 -- ρ in 2⁻⁴⁰, for the rest r = ρ·10¹⁴ below 10¹⁴/4096: 2⁴⁰/10¹⁴ is 2²⁶/5¹⁴
 unfoldable pub rest : ℕ → ℕ
@@ -110,7 +109,7 @@ fine d = getD middle (d / 24414062500) 0 * quadratic (d % 24414062500) / 2 ^ 40
 
 -- E(z)
 unfoldable pub exponential : ℕ → ℕ
-exponential x = getD high (x / 6250000000000) 0 * fine (x % 6250000000000) / 2 ^ 40
+exponential x = getD coarse (x / 6250000000000) 0 * fine (x % 6250000000000) / 2 ^ 40
 
 -- the exponents that are served: z below 4.1
 abbrev pub exponentLimit : ℕ
@@ -118,4 +117,4 @@ exponentLimit = 201 * 10 ^ 13
 
 -- how far 2⁴⁰·E(z) can be above the result: eight for each unit of E, rounded up, and three
 unfoldable pub exponentialError : ℕ → ℕ
-exponentialError x = 8 * (getD high (x / 6250000000000) 0 / 2 ^ 40 + 1) + 3
+exponentialError x = 8 * (getD coarse (x / 6250000000000) 0 / 2 ^ 40 + 1) + 3

@@ -1,5 +1,5 @@
 -- The truncated exponential and the cut root of document 01, "Exact masses", n a parameter of each. Definitions only.
-use mathlib.Core.Bool.{Bool, true, false}
+use mathlib.Core.Bool.{true, false}
 use Prim.Native.Nat.{ℕ, suc, zero, _+_, _*_, _-_, _^_, _/_, _<_}
 use native.Mathlib.Omega.{arith}
 use lib.Dec.{leb}

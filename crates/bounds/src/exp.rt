@@ -21,8 +21,11 @@ const TWO_26: u64 = 67108864;
 
 const FIVE_14: u64 = 6103515625;
 
+// z = 0, as an exponent is held
+pub const ZERO: u64 = 1600000000000000;
+
 // 1 and 2, in units of 2^-40
-const ONE: u64 = 1099511627776;
+pub const ONE: u64 = 1099511627776;
 
 const TWO: u64 = 2199023255552;
 

@@ -6,7 +6,7 @@ ghost use Rattle.bounds.specs.Enclosure.{WithinAll};
 ghost use Rattle.bounds.specs.Series.{root, power2·5};
 ghost use Rattle.bounds.specs.Power.{degrees, halfPower, power, powerError, degreesLimit};
 
-// 0 °C, as a temperature is held
+// 0 °C, as a warmth
 const FREEZING: u64 = 300000000000;
 
 // 2^24: the result is in units of 2^-24, and a root is taken of 2^24 times a number
@@ -41,11 +41,15 @@ fn half_power(n: u64) -> u64
     mul_shift(mul_shift(n, n), square_root(n * SCALE))
 }
 
-// T^2.5 in units of 2^-24, for a temperature T up to 65 °C that is held as (T + 30 °C) * 10^10; 0 below 0 °C
-pub fn power(held: u64) -> u64
-    requires { ⌜ held ≤ degreesLimit ⌝ }
-    ensures { λ r. ⌜ (r ≡ power held) × (r < 2 ^ 40) × WithinAll (2 ^ 24) r powerError (λ n. power2·5 n (degrees held)) ⌝ }
+// T^2.5 in units of 2^-24, for a temperature T up to 65 °C whose warmth is (T + 30 °C) * 10^10; 0 below 0 °C
+pub fn power(warmth: u64) -> u64
+    requires { ⌜ warmth ≤ degreesLimit ⌝ }
+    ensures { λ r. ⌜ (r ≡ power warmth) × (r < 2 ^ 40) × WithinAll (2 ^ 24) r powerError (λ n. power2·5 n (degrees warmth)) ⌝ }
 {
-    let n = if held < FREEZING { 0 } else { held - FREEZING };
+    let n = if warmth < FREEZING {
+        0
+    } else {
+        warmth - FREEZING
+    };
     half_power(n) * FACTOR / SCALE
 }

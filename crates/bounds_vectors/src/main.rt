@@ -1,5 +1,6 @@
 // Holds the bounds of E and of T^2.5 against exact values that tools/vectors.py put into standard input: how many are enclosed, and how
 // far the largest lies above its lower bound, of how far it may.
+use bounds::exp::ZERO;
 use libc::STDIN_FILENO;
 use vectors::input::u64_at;
 use vectors::print::number;
@@ -22,9 +23,7 @@ const VECTOR: usize = 24;
 // The most exponents, or temperatures, in an input
 const MOST: u64 = 1000;
 
-// z = 0, 1 / 4096 and 1 / 16, as an exponent is held
-const ZERO: u64 = 1600000000000000;
-
+// z = 1 / 4096 and 1 / 16, as an exponent is held
 const FINE_STEP: u64 = 1600024414062500;
 
 const COARSE_STEP: u64 = 1606250000000000;

@@ -1,6 +1,7 @@
 // The canister that a row has, in a season: its curve at each mark, and what it has lost when a parking starts.
 use crate::curve::Curve;
 use crate::curve::loss;
+use bounds::exp::ONE;
 use classes::halves;
 use exact::Row;
 use exact::Season;
@@ -8,6 +9,7 @@ ghost use mathlib.Core.Path.{_≡_};
 ghost use Prim.Native.Nat.{ℕ, _+_, _*_, _-_, _^_, _≤_};
 ghost use Rattle.bounds.specs.Exponential.{entries};
 ghost use Rattle.numbers.specs.Lists.{tab, at, AllAtMost};
+ghost use Rattle.sheet.specs.Limits.{vpLimit};
 ghost use Rattle.sheet.specs.Range.{halves};
 ghost use Rattle.factors.specs.Escape.{tenthGrams, base, loss, lossError};
 ghost use Rattle.breakthrough.specs.Through.{CurvesReady};
@@ -22,9 +24,6 @@ pub struct Curves {
     pub load: u64,
     pub gain: u64,
 }
-
-// A gram, in units of 2^-40 g.
-const GRAM: u64 = 1099511627776;
 
 // How far a loss can be above the computed one, in units of 2^-40 g.
 const LOSS_ERROR: u64 = 179;
@@ -46,12 +45,12 @@ fn tenth_grams(m: u64) -> u64
     requires { ⌜ m ≤ 3685 ⌝ }
     ensures { λ r. ⌜ r ≡ tenthGrams m ⌝ }
 {
-    m * GRAM / 10
+    m * ONE / 10
 }
 
 // a at each mark.
 fn bases(warmths: &[u64; 48], vp: u64) -> [u64; 48]
-    requires { ⌜ AllAtMost (80 * 10 ^ 10) (now warmths) × (vp ≤ 1100) ⌝ }
+    requires { ⌜ AllAtMost (80 * 10 ^ 10) (now warmths) × (vp ≤ vpLimit) ⌝ }
     ensures { λ r. ⌜ r ≡ tab (λ (mark : ℕ). base vp (at (now (warmths .entry)) mark)) 48 ⌝ }
 {
     let mut out = [0u64; 48];
@@ -65,7 +64,7 @@ fn bases(warmths: &[u64; 48], vp: u64) -> [u64; 48]
 
 // 2 b s at each mark, for 2 s = times.
 fn growths(warmths: &[u64; 48], vp: u64, times: u64) -> [u64; 48]
-    requires { ⌜ AllAtMost (80 * 10 ^ 10) (now warmths) × (vp ≤ 1100) × (times ≤ 4) ⌝ }
+    requires { ⌜ AllAtMost (80 * 10 ^ 10) (now warmths) × (vp ≤ vpLimit) × (times ≤ 4) ⌝ }
     ensures { λ r. ⌜ r ≡ tab (λ (mark : ℕ). (112 * 10 ^ 11 + at (now (warmths .entry)) mark - 15 * 10 ^ 8 * vp) * times) 48 ⌝ }
 {
     let mut out = [0u64; 48];

@@ -6,8 +6,6 @@ use Rattle.sheet.specs.Check.{numberOf, placeOf}
 use Rattle.inventory.specs.declared.FactorAnswer.{FactorAnswer}
 use Rattle.inventory.specs.declared.FactorAnswer.the-variants as answer
 use Rattle.inventory.specs.FactorCall.{answerNumber, answerPlace, answerLow, answerHigh}
-use Rattle.evaporation.specs.declared.EvpFactor.{EvpFactor}
-use Rattle.evaporation.specs.declared.EvpCheck.{EvpCheck}
 use Rattle.evaporation.specs.Export.{checkNumbers, factorNumbers}
 
 pub check-is : (c : Check) → checkNumbers c ≡ record { number = numberOf c; place = placeOf c }

@@ -1,5 +1,5 @@
 -- The carbon canister: what it loses, and what breaks through. Definitions only.
-use mathlib.Core.Bool.{Bool, true, false}
+use mathlib.Core.Bool.{true, false}
 use Prim.Native.Nat.{ℕ}
 use Rattle.numbers.specs.Fraction.{Fraction, _+ᶠ_, _-ᶠ_, negᶠ, _*ᶠ_, whole, _/10^_, _≤?_}
 use Rattle.bounds.specs.Series.{E}

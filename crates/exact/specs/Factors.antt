@@ -1,7 +1,7 @@
 -- The seven emission factors, "each a weighted mean over the 576 cells". Definitions only.
-use mathlib.Core.Bool.{Bool, true, false}
+use mathlib.Core.Bool.{true, false}
 use mathlib.Core.List.{List, [], _∷_, map, _++_}
-use Prim.Native.Nat.{ℕ, suc, zero, _+_, _*_, _%_, _/_}
+use Prim.Native.Nat.{ℕ, suc, _+_, _*_, _%_, _/_}
 use lib.Dec.{leb}
 use Rattle.numbers.specs.Fraction.{Fraction, _+ᶠ_, _*ᶠ_, whole, _/10^_, _over_, _times_}
 use Rattle.exact.specs.declared.Canister.{Canister}

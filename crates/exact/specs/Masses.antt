@@ -4,7 +4,7 @@ use Prim.Native.Nat.{ℕ, _*_}
 use Rattle.numbers.specs.Fraction.{Fraction, _+ᶠ_, _-ᶠ_, _*ᶠ_, whole, _/10^_, _times_}
 use Rattle.exact.specs.declared.Season.{Season}
 use Rattle.exact.specs.declared.Row.{Row}
-use Rattle.exact.specs.Factors.{Factor, F1, F2, F3, F4, F5, F6, F7, factor}
+use Rattle.exact.specs.Factors.{F1, F2, F3, F4, F5, F6, F7, factor}
 
 -- the three mechanisms of loss
 pub data Mechanism : Type 0 where

@@ -1,5 +1,5 @@
 -- The vapour that a warming tank drives out. Definitions only.
-use mathlib.Core.Bool.{Bool, true, false}
+use mathlib.Core.Bool.{true, false}
 use Prim.Native.Nat.{ℕ, suc, zero}
 use Rattle.numbers.specs.Fraction.{Fraction, _+ᶠ_, _-ᶠ_, _*ᶠ_, whole, _/10^_, _≤?_}
 use Rattle.bounds.specs.Series.{E}

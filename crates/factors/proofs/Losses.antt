@@ -22,7 +22,7 @@ use Rattle.exact.specs.Permeation.{permeation, parkingPermeation}
 use Rattle.exact.specs.Factors.{vp, rowVapour, rowEscape, escapeOver, openVapour, hours, endHour, duration, total, mean}
 use Rattle.sheet.specs.Range.{SeasonInRange}
 use Rattle.sheet.specs.Range.{markWarmth}
-use Rattle.marks.specs.Marks.{stepAt, raise, tenths, rate, passed, heatError, raisedError, rateError}
+use Rattle.marks.specs.Marks.{raise, tenths, rate, heatError, raisedError, rateError}
 use Rattle.sheet.proofs.Temperature.{warmth-most, temperature-is}
 use Rattle.marks.proofs.Heat.{raise-within, raise-most}
 use Rattle.marks.proofs.Rise.{rises, rises-cong, vapour-rises, rise-within, rise-most}

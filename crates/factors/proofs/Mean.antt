@@ -5,7 +5,6 @@ use mathlib.Core.List.{List, [], _∷_}
 use lib.ListN.{length, take, getD}
 use Prim.Native.Nat.{ℕ, suc, zero, _+_, _*_, _^_, _/_, _≤_, _<_}
 use native.Mathlib.Omega.{arith}
-use native.Mathlib.Numerals.{add-one}
 use native.Mathlib.Nat.{mul-le-mul-right, mul-le-mul-left, div-mul-le-self, lt-div-mul-add, le-of-mul-le-mul-right, div-le-of-le-mul, add-zero}
 use Rattle.numbers.specs.Fraction.{Fraction, _≈ᶠ_, _+ᶠ_, _*ᶠ_, whole, _over_, _times_}
 use Rattle.bounds.specs.Enclosure.{Within, WithinAll}
@@ -143,10 +142,6 @@ weighted-suc v cell (count ∷ counts) zero h = rw (add-zero cell) (omega arith)
 weighted-suc v cell (count ∷ counts) (suc i) h =
     let e : cell + suc i ≡ suc cell + i = omega arith in
     rw e (omega (arith, weighted-suc v (suc cell) counts i (omega arith)))
-
-pub weighted-step : (v : ℕ → ℕ) (cell : ℕ) (counts : List ℕ) (i : ℕ) → i < length counts
-    → weighted v cell (take (i + 1) counts) ≡ weighted v cell (take i counts) + getD counts i 0 * v (cell + i)
-weighted-step v cell counts i h = rw add-one (weighted-suc v cell counts i h)
 
 -- the first cells have no more than all
 pub weighted-first : (v : ℕ → ℕ) (cell : ℕ) (counts : List ℕ) (i : ℕ) → weighted v cell (take i counts) ≤ weighted v cell counts

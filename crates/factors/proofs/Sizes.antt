@@ -6,7 +6,6 @@ use Prim.Native.Nat.{ℕ, _+_, _*_, _^_, _/_, _≤_, _<_, min}
 use native.Mathlib.Omega.{arith}
 use native.Mathlib.Nat.{mul-le-mul, div-le-of-le-mul, le-of-lt}
 use lib.Dec.{leb}
-use lib.ListN.{take}
 use Rattle.numbers.specs.Fraction.{_≤ᶠ_, _/10^_}
 use Rattle.bounds.specs.Exponential.{exponential, exponent}
 use Rattle.bounds.proofs.ExponentialBound.{exponential-within}
@@ -14,24 +13,24 @@ use Rattle.exact.specs.declared.Canister.{Canister}
 use Rattle.exact.specs.declared.Canister.the-variants.{None, Small, Medium, Large}
 use Rattle.exact.specs.declared.Season.{Season}
 use Rattle.exact.specs.declared.Row.{Row}
-use Rattle.exact.specs.Factors.{Factor, F1, F2, F3, F4, F5, F6, F7, endHour, duration, total}
+use Rattle.exact.specs.Factors.{Factor, F1, F2, F3, F4, F5, F6, F7, endHour, duration}
 use Rattle.sheet.specs.Range.{SeasonInRange}
 use Rattle.sheet.specs.Range.{markWarmth}
-use Rattle.marks.specs.Marks.{stepAt, raise, tenths, rate, passed}
+use Rattle.marks.specs.Marks.{raise, tenths, rate}
 use Rattle.marks.proofs.Most.{within-most}
 use Rattle.sheet.proofs.Temperature.{warmth-most}
 use Rattle.marks.proofs.Heat.{raise-most}
 use Rattle.marks.proofs.Rise.{rise-most}
 use Rattle.marks.proofs.Permeation.{rate-most, rates-most}
 use Rattle.sheet.specs.Range.{RowInRange}
-use Rattle.factors.specs.Means.{weighted, meanUnits}
+use Rattle.factors.specs.Means.{meanUnits}
 use Rattle.sheet.specs.Range.{halves}
 use Rattle.factors.specs.Escape.{tenthGrams, base, growth, loss, breakUnits}
 use Rattle.factors.specs.Units.{startOf, endOf, parkingRise, parkingRates, vapourUnits, throughUnits, escapeUnits, escapeOverUnits, openUnits, diurnalUnits, soakUnits, runningUnits, carUnits, twoWheelerUnits, factorUnits, highMicrograms}
 use Rattle.factors.proofs.Gain.{gain-most}
 use Rattle.factors.proofs.Breakthrough.{E-most, exponent-most}
 use Rattle.factors.proofs.Canister.{saturated, saturation-most, growth-most, tenthGrams-within}
-use Rattle.factors.proofs.Mean.{weighted-first, weighted-most, meanUnits-most}
+use Rattle.factors.proofs.Mean.{meanUnits-most}
 use Rattle.factors.proofs.Losses.{duration-most}
 
 -- factor k is below so many grams: a diurnal loss, a soak or a trip
@@ -43,12 +42,6 @@ gramsLimit F4 = 2500
 gramsLimit F5 = 2500
 gramsLimit F6 = 2500
 gramsLimit F7 = 2500
-
--- cells below 2⁵⁴, in units of 2⁻²⁸ g and weighted with at most a million counts, have sums that fit, over the first i cells too
-pub partial-size : (v : ℕ → ℕ) → ((cell : ℕ) → v cell ≤ 2 ^ 54) → (counts : List ℕ) → total counts ≤ 10 ^ 6 → (i : ℕ)
-    → weighted (λ (cell : ℕ). v cell / 2 ^ 12) 0 (take i counts) < 2 ^ 62
-partial-size v h counts t i =
-    omega (arith, weighted-first (λ (cell : ℕ). v cell / 2 ^ 12) 0 counts i, weighted-most (λ (cell : ℕ). v cell / 2 ^ 12) (2 ^ 42) (λ cell. omega (arith, h cell)) 0 counts)
 
 -- exponents up to 3
 exponent-≤ : (x : ℕ) → x ≤ 19 * 10 ^ 14 → exponent x ≤ᶠ 3 /10^ 0
@@ -106,26 +99,9 @@ module _ {season : Season} {row : Row} (s : SeasonInRange season) (r : RowInRang
   unfolding parkingRise
   parking-rise-most cell = rise-most (markWarmth season) (λ i. warmth-most i s) (endHour cell) (duration cell) (duration-most cell)
 
-  -- its vapour
-  pub parking-vapour-most : (cell : ℕ) → vapourUnits season row (parkingRise season cell) ≤ 16200 * 2 ^ 40
-  parking-vapour-most cell = vapourUnits-most (450 * 2 ^ 40) (parking-rise-most cell)
-
-  -- what breaks through of it
-  pub parking-through-most : (i cell : ℕ) → throughUnits season row i (parkingRise season cell) ≤ 2 ^ 54
-  parking-through-most i cell =
-      omega (arith, throughUnits-most i (parkingRise season cell), parking-vapour-most cell)
-
   -- the rise over a raise of at most 6 °C from mark i
   pub raise-rise-most : (k i : ℕ) → k ≤ 60 → raise (tenths k) (markWarmth season i) ≤ 56 * 2 ^ 40
   raise-rise-most k i h = raise-most (tenths k) (markWarmth season i) (omega arith) (warmth-most i s)
-
-  -- its vapour
-  pub raise-vapour-most : (k i : ℕ) → k ≤ 60 → vapourUnits season row (raise (tenths k) (markWarmth season i)) ≤ 2016 * 2 ^ 40
-  raise-vapour-most k i h = vapourUnits-most (56 * 2 ^ 40) (raise-rise-most k i h)
-
-  -- what breaks through of it
-  pub raise-through-most : (k i : ℕ) → k ≤ 60 → throughUnits season row i (raise (tenths k) (markWarmth season i)) ≤ 2 ^ 54
-  raise-through-most k i h = omega (arith, throughUnits-most i (raise (tenths k) (markWarmth season i)), raise-vapour-most k i h)
 
   -- permeation over a cell's parking: half a gram for each of 24 half-hours
   pub parking-permeation-most : (cell : ℕ) → parkingRates season cell / 2 ≤ 12 * 2 ^ 40

@@ -1,6 +1,6 @@
 -- The computed factors: which whole numbers they are, in units of 2⁻²⁸ g and in micrograms. Definitions only.
-use mathlib.Core.Bool.{Bool, true, false}
-use mathlib.Core.List.{List, [], _∷_}
+use mathlib.Core.Bool.{true, false}
+use mathlib.Core.List.{List}
 use Prim.Native.Nat.{ℕ, _+_, _*_, _-_, _/_, _^_}
 use lib.Dec.{leb}
 use Rattle.bounds.specs.Exponential.{exponential}

@@ -8,9 +8,9 @@ use Rattle.numbers.specs.Fraction.{Fraction, _≤ᶠ_, _≈ᶠ_, _≤?_, _+ᶠ_
 use Rattle.bounds.specs.Series.{E}
 use Rattle.bounds.specs.Enclosure.{Within, WithinAll}
 use Rattle.bounds.specs.Power.{degrees}
-use Rattle.numbers.proofs.Order.{NonNegative, ≈-refl, ≈-sym, ≈-trans, ≈-by, test-cases, test-cong, not-≤→<, <→≤, +-cong, +-nonNegative, sub-cong, sub-nonNegative, *-cong, *-zero, *-distrib, *-nonNegative, whole-nonNegative, decimal-nonNegative, positive→nonNegative, nonNegative-up, ≈→≥}
+use Rattle.numbers.proofs.Order.{≈-refl, ≈-sym, ≈-trans, test-cases, test-cong, not-≤→<, <→≤, +-cong, sub-cong, *-cong, *-zero, *-distrib}
 use Rattle.bounds.proofs.Within.{widen, weaken, within-cross, whole-within, +-within, all-map₂}
-use Rattle.bounds.proofs.Exponential.{E-cong, E-positive}
+use Rattle.bounds.proofs.Exponential.{E-cong}
 use Rattle.exact.specs.Day.{startMark}
 use Rattle.exact.specs.Vapour.{vapour, stepVapour, parkingVapour}
 use Rattle.marks.specs.Marks.{heat, heatError, stepAt, passed}
@@ -33,17 +33,6 @@ module _ (n : ℕ) where
   step-cases P T U f g =
       test-cases (λ (c : Bool). P (elim c [ true ↦ E n (716 /10^ 4 *ᶠ U) -ᶠ E n (716 /10^ 4 *ᶠ T) | false ↦ whole 0 ])) T U f
       (λ l. g (<→≤ (not-≤→< l)))
-
-  -- a step is 0 or more
-  step-nonNegative : (T U : Fraction) → NonNegative (stepRise n T U)
-  step-nonNegative T U =
-      step-cases NonNegative T U (λ h. sub-nonNegative (heat-mono n h)) (λ h. whole-nonNegative 0)
-
-  -- and so is the rise
-  pub rises-nonNegative : (T : ℕ → Fraction) (hour d : ℕ) → NonNegative (rises n T hour d)
-  unfolding rises
-  rises-nonNegative T hour zero = whole-nonNegative 0
-  rises-nonNegative T hour (suc d) = +-nonNegative (rises-nonNegative T hour d) (step-nonNegative (T (startMark hour (suc d))) (T (startMark hour d)))
 
   -- equal temperatures have equal steps
   step-cong : {T T' U U' : Fraction} → T ≈ᶠ T' → U ≈ᶠ U' → stepRise n T U ≈ᶠ stepRise n T' U'
@@ -88,23 +77,6 @@ module _ (n : ℕ) where
     vapour-rises T hour (suc d) =
         ≈-trans (+-cong (vapour-rises T hour d) (step-is (T (startMark hour (suc d))) (T (startMark hour d))))
         (≈-sym (*-distrib gain (rises n T hour d) (stepRise n (T (startMark hour (suc d))) (T (startMark hour d)))))
-
-    -- equal temperatures have equal vapour
-    pub parkingVapour-cong : {T U : ℕ → Fraction} (hour d : ℕ) → ((i : ℕ) → T i ≈ᶠ U i)
-        → parkingVapour n vp fill tank T hour d ≈ᶠ parkingVapour n vp fill tank U hour d
-    parkingVapour-cong {T} {U} hour d e =
-        ≈-by (vapour-rises T hour d) (vapour-rises U hour d) (*-cong (≈-refl gain) (rises-cong hour d e))
-
-    -- the vapour of a unit of rise is 0 or more
-    pub gain-nonNegative : fill ≤ᶠ whole 1 → NonNegative tank → NonNegative gain
-    gain-nonNegative h k =
-        *-nonNegative (*-nonNegative (*-nonNegative (sub-nonNegative h) k) (decimal-nonNegative 25 3))
-        (positive→nonNegative (E-positive n (205 /10^ 4 *ᶠ vp)))
-
-    -- and so is a parking's vapour
-    pub parkingVapour-nonNegative : fill ≤ᶠ whole 1 → NonNegative tank → (T : ℕ → Fraction) (hour d : ℕ) → NonNegative (parkingVapour n vp fill tank T hour d)
-    parkingVapour-nonNegative h k T hour d =
-        nonNegative-up (≈→≥ (vapour-rises T hour d)) (*-nonNegative (gain-nonNegative h k) (rises-nonNegative T hour d))
 
 -- the mark after that of d + 1 half-hours before the end is that of d before it
 next-mark : (hour d : ℕ) → d < 48 → (startMark hour (suc d) + 1) % 48 ≡ startMark hour d

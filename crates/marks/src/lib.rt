@@ -1,4 +1,5 @@
 // A season at its 48 marks: temperatures, exponentials and permeation as whole numbers.
+use bounds::exp::ZERO;
 use bounds::exp::exponential;
 use bounds::fixed::mul_shift;
 use bounds::hours::weights_table;
@@ -11,9 +12,9 @@ ghost use lib.ListN.{getD};
 ghost use Rattle.bounds.specs.Exponential.{entries};
 ghost use Rattle.numbers.specs.Lists.{tab, AllAtMost};
 ghost use Rattle.bounds.specs.Weights.{weights};
-ghost use Rattle.sheet.specs.Range.{warmth, SeasonInRange};
+ghost use Rattle.sheet.specs.Limits.{coldLimit, warmLimit, vpLimit};
+ghost use Rattle.sheet.specs.Range.{warmth, markWarmth, SeasonInRange};
 ghost use Rattle.marks.specs.AtMarks.{AtMarks};
-ghost use Rattle.sheet.specs.Range.{markWarmth};
 ghost use Rattle.marks.specs.Marks.{heat, heatError, raisedError, pressureFactor, bracketUnits};
 
 // What a season needs at its marks 0 to 47.
@@ -42,10 +43,8 @@ const TENTH: u64 = 1000000000;
 // E(0.0716 T): the exponent in units of 10^-14 above -16 is 716 for each unit of T + 30 °C, and this at -30 °C.
 const COLDEST: u64 = 1385200000000000;
 
-// E(0.004 vp): the exponent is 4 * 10^10 for each tenth of a kPa, and this at 0.
+// E(0.004 vp): the exponent is 4 * 10^10 for each tenth of a kPa.
 const TEN_BILLION: u64 = 10000000000;
-
-const ZERO: u64 = 1600000000000000;
 
 // 6.1656 * 10^-6 * 2^56, cut, and 0.0206 * 2^40, cut.
 const POWER_RATE: u64 = 444278301800;
@@ -59,7 +58,7 @@ const RAISED_ERROR: u64 = 475;
 
 // The temperature at a mark, from the lowest of the day, the span up to the highest, and the mark's weight.
 fn between(lowest: u64, span: u64, weight: u64) -> u64
-    requires { ⌜ (lowest ≤ 800) × (span ≤ 800) × (weight ≤ 10 ^ 9) ⌝ }
+    requires { ⌜ (lowest ≤ coldLimit + warmLimit) × (span ≤ coldLimit + warmLimit) × (weight ≤ 10 ^ 9) ⌝ }
     ensures { λ r. ⌜ r ≡ lowest * 10 ^ 9 + span * weight ⌝ }
 {
     lowest * TENTH + span * weight
@@ -67,7 +66,7 @@ fn between(lowest: u64, span: u64, weight: u64) -> u64
 
 // The temperatures at the marks, from the lowest of the day and the span up to the highest.
 fn temperatures(lowest: u64, span: u64, weights: [u64; 48]) -> [u64; 48]
-    requires { ⌜ (lowest ≤ 800) × (span ≤ 800) × AllAtMost (10 ^ 9) weights ⌝ }
+    requires { ⌜ (lowest ≤ coldLimit + warmLimit) × (span ≤ coldLimit + warmLimit) × AllAtMost (10 ^ 9) weights ⌝ }
     ensures { λ r. ⌜ r ≡ tab (λ (i : ℕ). lowest * 10 ^ 9 + span * getD weights i 0) 48 ⌝ }
 {
     let mut out = [0u64; 48];
@@ -149,7 +148,7 @@ fn raises(tables: &[u64; 578], warmths: [u64; 48], heats: [u64; 48], raise: u64)
 
 // E(0.004 vp), vp in tenths of kPa.
 fn pressure_factor(tables: &[u64; 578], vp: u64) -> u64
-    requires { ⌜ (now tables ≡ entries) × (vp ≤ 1100) ⌝ }
+    requires { ⌜ (now tables ≡ entries) × (vp ≤ vpLimit) ⌝ }
     ensures { λ r. ⌜ (r ≡ pressureFactor vp) × (r < 2 ^ 46) ⌝ }
 {
     exponential(tables, 4 * vp * TEN_BILLION + ZERO)

@@ -10,7 +10,8 @@ ghost use Rattle.sheet.specs.Range.{RowInRange};
 ghost use Rattle.parking.specs.Grid.{cellsIn};
 ghost use Rattle.row_factors.specs.Season.{Lent};
 ghost use Rattle.masses.specs.Figures.{blended};
-ghost use Rattle.masses.specs.Day.{UnitsInRange, MicrogramsInRange, UseInRange, tripLimit, rounded, roundedAll, threeFigures, sixFigures, dayFigures};
+ghost use Rattle.masses.specs.Day.{UnitsInRange, MicrogramsInRange, UseInRange, tripLimit};
+ghost use Rattle.masses.specs.Day.{rounded, roundedAll, threeFigures, sixFigures, dayFigures};
 
 // Units of 10^-12 g in a microgram.
 const MICROGRAM: u64 = 1000000;

@@ -1,14 +1,12 @@
 -- What passed in a parking: from cell to cell of an end hour, and of values that stand in a list.
-use mathlib.Core.Bool.{cond}
 use mathlib.Core.List.{List}
-use mathlib.Core.Path.{_≡_, refl, _∙_, ap, ap₂}
-use Prim.Native.Nat.{ℕ, zero, suc, _+_, _*_, _-_, _/_, _%_, _^_, _≤_, _<_}
+use mathlib.Core.Path.{_≡_, refl, ap}
+use Prim.Native.Nat.{ℕ, zero, suc, _+_, _*_, _-_, _/_, _%_, _≤_, _<_}
 use native.Mathlib.Decide.{ℕ-discrete}
 use native.Mathlib.Numerals.{add-one}
 use native.Mathlib.Nat.{mul-le-mul-right}
 use native.Mathlib.Omega.{arith}
 use borrow.Author.Tests.{eq-eqb, ne-eqb}
-use lib.Dec.{eqb}
 use Rattle.numbers.specs.Lists.{tab, at, AllAtMost}
 use Rattle.numbers.proofs.Lists.{getD-tab}
 use Rattle.exact.specs.Day.{startMark}

@@ -3,7 +3,7 @@ use mathlib.Core.Path.{_≡_}
 use mathlib.Core.Bool.{Bool, true, false, cond}
 use lib.Dec.{eqb}
 use mathlib.Core.List.{List}
-use Prim.Native.Nat.{ℕ, zero, suc, _+_, _*_, _-_, _%_, _^_, _≤_, _<_}
+use Prim.Native.Nat.{ℕ, zero, suc, _+_, _-_, _%_, _^_, _≤_, _<_}
 use lib.ListN.{length, set, replicate, take}
 use Rattle.numbers.specs.Lists.{at}
 use Rattle.exact.specs.Factors.{total, endHour, duration}

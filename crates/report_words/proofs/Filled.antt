@@ -40,10 +40,6 @@ module _ (f : ℕ → ℕ) (old : List ℕ) where
   pub filled-all : (k n : ℕ) → k ≤ n → n ≤ k → filled f k old ≡ filled f n old
   filled-all k n l g = ap (λ (i : ℕ). filled f i old) (le-antisymm l g)
 
-  -- the buffer keeps its length
-  pub filled-length : (n : ℕ) → n ≤ length old → length (filled f n old) ≡ length old
-  filled-length n h = simp (length-append, length-drop, tab-length) (omega arith)
-
   -- the words that were replaced
   pub filled-first : (n k : ℕ) → k < n → getD (filled f n old) k 0 ≡ f k
   filled-first n k h = List·getD-append (tab f n) (drop n old) 0 k (rw (tab-length f n) h) ∙ getD-tab f n k h

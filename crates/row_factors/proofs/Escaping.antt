@@ -1,6 +1,6 @@
 -- What the program averages is the escape of the definitions: with a canister what breaks through in each cell, without one the vapour
 -- of the mean rise.
-use mathlib.Core.Bool.{Bool, true, false}
+use mathlib.Core.Bool.{Bool, false}
 use mathlib.Core.List.{List, [], _∷_}
 use mathlib.Core.Path.{_≡_, refl, _∙_, ap, ap₂}
 use Prim.Native.Nat.{ℕ, zero, suc, _+_, _*_, _/_, _^_, _≤_, _<_}
@@ -34,7 +34,6 @@ use Rattle.parking.proofs.Passed.{passedIn-tab}
 use Rattle.parking.proofs.Tally.{markOf-below}
 use Rattle.parking.proofs.Weighted.{mean-ext, mean-below}
 use Rattle.breakthrough.specs.declared.curves.Curves.{Curves}
-use Rattle.breakthrough.specs.Through.{curveAt, through}
 use Rattle.breakthrough.specs.Curves.{CurvesOf}
 use Rattle.breakthrough.proofs.Fitted.{through-is}
 use Rattle.row_factors.specs.Season.{meanAt}

@@ -4,31 +4,28 @@ use crate::escapes::car;
 use crate::escapes::two_wheeler;
 use crate::season::AtSeason;
 use crate::season::Means;
+use bounds::exp::ZERO;
 use bounds::exp::exponential;
 use exact::Row;
 use exact::Season;
 ghost use mathlib.Core.Path.{_≡_};
 ghost use Prim.Native.Nat.{_+_, _*_, _^_, _<_, _≤_};
 ghost use Rattle.bounds.specs.Exponential.{entries};
-ghost use Rattle.sheet.specs.Range.{SeasonInRange};
-ghost use Rattle.sheet.specs.Range.{RowInRange};
+ghost use Rattle.sheet.specs.Range.{SeasonInRange, RowInRange};
 ghost use Rattle.factors.specs.Units.{gain};
 ghost use Rattle.parking.specs.Grid.{cellsIn};
 ghost use Rattle.row_factors.specs.Season.{Lent};
 ghost use Rattle.row_factors.specs.Seven.{CarFits, carSeven, twoWheelerSeven, sevenUnits};
 
-// E(0.0205 vp): what the exponent gains with each tenth of a kPa, and what it is at 0.
+// E(0.0205 vp): what the exponent gains with each tenth of a kPa.
 const VAPOUR_EXPONENT: u64 = 205000000000;
-
-const ZERO_EXPONENT: u64 = 1600000000000000;
 
 // Grams of vapour for a rise of 1 in E(0.0716 T).
 fn gain(tables: &[u64; 578], season: Season, row: Row) -> u64
     requires { ⌜ (now tables ≡ entries) × SeasonInRange season × RowInRange season row ⌝ }
     ensures { λ r. ⌜ (r ≡ gain season row) × (r ≤ 36 * 2 ^ 40) ⌝ }
 {
-    (100 - row.fill) * row.tank * exponential(tables, VAPOUR_EXPONENT * season.vp + ZERO_EXPONENT)
-        / 40000
+    (100 - row.fill) * row.tank * exponential(tables, VAPOUR_EXPONENT * season.vp + ZERO) / 40000
 }
 
 // The factors of a car: permeation in a parking, in a soak and in the minutes of a trip, and the escapes besides.

@@ -114,22 +114,3 @@ warmth-most i t = omega (arith, warmth-below-highest i t, t .warm)
 -- θ ≤ θ' gives θ·10⁻¹⁰ − 30 ≤ θ'·10⁻¹⁰ − 30
 pub degrees-mono : {θ θ' : ℕ} → θ ≤ θ' → degrees θ ≤ᶠ degrees θ'
 degrees-mono h = omega arith
-
--- tenths in the units of a mark
-above-degrees : (k : ℕ) → aboveColdest k ≈ᶠ degrees (k * 10 ^ 9)
-unfolding aboveColdest
-above-degrees k = record { cross = omega arith }
-
--- lowest ≤ T(i)
-pub temperature-above-lowest : {season : Season} (i : ℕ) → SeasonInRange season → signedTenths (season .lowest) ≤ᶠ temperature season i
-unfolding markWarmth
-temperature-above-lowest {season} i t =
-    ≤-by (≈-trans (signed-is (season .lowest) (t .lowest-bits) (omega arith)) (above-degrees (warmth (season .lowest))))
-    (temperature-is i t) (degrees-mono (omega arith))
-
--- T(i) ≤ highest
-pub temperature-below-highest : {season : Season} (i : ℕ) → SeasonInRange season → temperature season i ≤ᶠ signedTenths (season .highest)
-temperature-below-highest {season} i t =
-    ≤-by (temperature-is i t)
-    (≈-trans (signed-is (season .highest) (t .highest-bits) (t .warm)) (above-degrees (warmth (season .highest))))
-    (degrees-mono (warmth-below-highest i t))

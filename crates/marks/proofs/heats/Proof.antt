@@ -1,6 +1,6 @@
 -- `marks::heats` meets its contract: the first i values are E(0.0716·T) at their marks.
 use mathlib.Core.Path.{refl}
-use Prim.Native.Nat.{ℕ, _+_, _*_, _-_, _^_, _≤_}
+use Prim.Native.Nat.{ℕ, _-_}
 use borrow.Author.Needs.{needs}
 use native.Mathlib.Omega.{arith}
 use lib.ListN.{getD, replicate}

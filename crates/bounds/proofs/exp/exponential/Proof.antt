@@ -1,19 +1,19 @@
 -- `bounds::exp::exponential` meets its contract: the entry and the rest of the exponential fit a product, and the computed exponential encloses the exact one.
 use mathlib.Core.Path.{_≡_}
-use Prim.Native.Nat.{_*_, _/_, _^_, _<_}
+use Prim.Native.Nat.{_/_}
 use native.Mathlib.Omega.{arith}
 use borrow.Author.Needs.{needs}
 use lib.ListN.{getD}
-use Rattle.bounds.specs.Exponential.{high, exponential}
+use Rattle.bounds.specs.Exponential.{coarse, exponential}
 use Rattle.bounds.proofs.ExponentialBound.{exponential-size, exponential-within}
-use Rattle.bounds.proofs.Sizes.{high-below}
-use Rattle.bounds.proofs.Tables.{high-at}
+use Rattle.bounds.proofs.Sizes.{coarse-below}
+use Rattle.bounds.proofs.Tables.{coarse-at}
 use Rattle.bounds.proofs.exp.exponential.Statement.{statement}
 use Rattle.bounds.proofs.exp.exponential.Tie as tie
 
 -- the entry that is read
-entry : (c : tie.Start) → getD (c .args .tables .now) (c .args .x / 6250000000000) 0 ≡ getD high (c .args .x / 6250000000000) 0
-entry c = rw (c .pre .0) (high-at _ (omega arith))
+entry : (c : tie.Start) → getD (c .args .tables .now) (c .args .x / 6250000000000) 0 ≡ getD coarse (c .args .x / 6250000000000) 0
+entry c = rw (c .pre .0) (coarse-at _ (omega arith))
 
 -- the result is the computed exponential
 same : (c : tie.After-mul-shift) → c .mul-shift .result ≡ exponential (c .before .before .before .args .x)
@@ -32,5 +32,5 @@ exponential-spec =
     (λ c. search needs)
     (λ c. search needs)
     (λ c κs. search needs)
-    (λ c κs. omega (arith, entry (c .before .before), high-below (c .before .before .args .x / 6250000000000) (omega arith)))
+    (λ c κs. omega (arith, entry (c .before .before), coarse-below (c .before .before .args .x / 6250000000000) (omega arith)))
     returns)

@@ -4,18 +4,18 @@ use Prim.Native.Nat.{_*_, _/_, _^_, _<_}
 use native.Mathlib.Omega.{arith}
 use borrow.Author.Needs.{needs}
 use lib.ListN.{getD}
-use Rattle.bounds.specs.Exponential.{high, exponentialError}
-use Rattle.bounds.proofs.Sizes.{high-below}
-use Rattle.bounds.proofs.Tables.{high-at}
+use Rattle.bounds.specs.Exponential.{coarse, exponentialError}
+use Rattle.bounds.proofs.Sizes.{coarse-below}
+use Rattle.bounds.proofs.Tables.{coarse-at}
 use Rattle.bounds.proofs.exp.exponential_error.Statement.{statement}
 use Rattle.bounds.proofs.exp.exponential_error.Tie as tie
 
 -- the entry that is read
-entry : (c : tie.Start) → getD (c .args .tables .now) (c .args .x / 6250000000000) 0 ≡ getD high (c .args .x / 6250000000000) 0
-entry c = rw (c .pre .0) (high-at _ (omega arith))
+entry : (c : tie.Start) → getD (c .args .tables .now) (c .args .x / 6250000000000) 0 ≡ getD coarse (c .args .x / 6250000000000) 0
+entry c = rw (c .pre .0) (coarse-at _ (omega arith))
 
 entry-below : (c : tie.Start) → getD (c .args .tables .now) (c .args .x / 6250000000000) 0 < 64 * 10 ^ 12
-entry-below c = rw (entry c) (high-below _ (omega arith))
+entry-below c = rw (entry c) (coarse-below _ (omega arith))
 
 returns : tie.Need-returns
 unfolding exponentialError

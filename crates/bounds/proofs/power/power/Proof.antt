@@ -13,10 +13,10 @@ half-power-requires : tie.Need-half-power-requires
 half-power-requires c κs = ⊎-elim (λ w. omega arith) (λ w. omega arith) (c .if1 .came)
 
 -- the result is the computed T^2.5
-same : (c : tie.After-half-power) → c .half-power .result * 8307674973 / 2 ^ 24 ≡ power (c .before .before .args .held)
+same : (c : tie.After-half-power) → c .half-power .result * 8307674973 / 2 ^ 24 ≡ power (c .before .before .args .warmth)
 unfolding power powerFrom
 same c =
-    let e : c .before .if1 .n ≡ c .before .before .args .held - 30 * 10 ^ 10
+    let e : c .before .if1 .n ≡ c .before .before .args .warmth - 30 * 10 ^ 10
     = ⊎-elim (λ w. omega arith) (λ w. omega arith) (c .before .if1 .came) in
     cc
 

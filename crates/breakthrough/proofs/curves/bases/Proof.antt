@@ -1,6 +1,6 @@
 -- `breakthrough::curves::bases` meets its contract: the first marks hold their a.
 use mathlib.Core.Path.{refl}
-use Prim.Native.Nat.{ℕ, _+_, _*_, _-_, _^_, _≤_}
+use Prim.Native.Nat.{ℕ, _-_}
 use native.Mathlib.Omega.{arith}
 use lib.ListN.{replicate}
 use Rattle.numbers.specs.Lists.{at}

@@ -1,6 +1,6 @@
 -- `breakthrough::losses::through_marks` meets its contract: the first marks hold what breaks through from them.
 use mathlib.Core.Path.{refl}
-use Prim.Native.Nat.{ℕ, _*_, _-_, _^_}
+use Prim.Native.Nat.{ℕ, _-_}
 use native.Mathlib.Omega.{arith}
 use lib.ListN.{replicate}
 use Rattle.numbers.specs.Lists.{at}

@@ -1,5 +1,5 @@
 -- `parking::cells::products` meets its contract: the first cells hold the products.
-use mathlib.Core.Path.{_≡_, refl, _∙_}
+use mathlib.Core.Path.{refl, _∙_}
 use Prim.Native.Nat.{ℕ, _*_, _/_, _%_, _-_, _≤_}
 use native.Mathlib.Omega.{arith}
 use native.Mathlib.Nat.{mul-le-mul}

@@ -1,7 +1,7 @@
 -- `parking::means::mean_by_mark` meets its contract: the sum so far is that of the first marks.
 use mathlib.Core.Bool.{Bool}
 use mathlib.Core.List.{List}
-use mathlib.Core.Path.{_≡_, refl, ap}
+use mathlib.Core.Path.{_≡_}
 use Prim.Native.Nat.{ℕ, _+_, _*_, _-_, _/_, _^_, _≤_, _<_}
 use native.Mathlib.Omega.{arith}
 use Rattle.numbers.specs.Lists as lists

@@ -1,6 +1,6 @@
 -- `parking::walk::walk` meets its contract: the first cells hold what passed in their parkings, and the next goes on from the last of its end hour.
 use mathlib.Core.Path.{_≡_, refl, _∙_, ap}
-use Prim.Native.Nat.{ℕ, _+_, _*_, _-_, _^_, _≤_}
+use Prim.Native.Nat.{ℕ, _+_, _-_, _^_}
 use native.Mathlib.Omega.{arith}
 use lib.ListN.{replicate}
 use Rattle.numbers.specs.Lists.{at}

@@ -1,5 +1,5 @@
 -- `row_factors::escapes::canister_car` meets its contract: each mean of what breaks through is the escape of its definition.
-use mathlib.Core.Bool.{true, false}
+use mathlib.Core.Bool.{false}
 use mathlib.Core.Path.{_∙_}
 use native.Mathlib.Omega.{arith}
 use Rattle.breakthrough.proofs.Fitted.{curves-ready}

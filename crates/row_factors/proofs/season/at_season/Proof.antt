@@ -1,11 +1,10 @@
 -- `row_factors::season::at_season` meets its contract: each mean is the one of its definition.
 use mathlib.Core.Bool.{true, false}
-use mathlib.Core.Path.{_≡_, refl, _∙_, ap}
+use mathlib.Core.Path.{refl, _∙_, ap}
 use Prim.Native.Nat.{ℕ, _/_}
 use native.Mathlib.Omega.{arith}
 use Rattle.parking.proofs.Weighted.{mean-tab, mean-ext, mean-marks}
 use Rattle.row_factors.proofs.Escaping.{raise-list-fits, rate-list-most, rate-list-fits, rates-plain, rates-in, rises-most}
-use borrow.Author.Needs.{needs}
 use Rattle.row_factors.proofs.season.at_season.Statement.{statement}
 use Rattle.row_factors.proofs.season.at_season.Tie as tie
 

@@ -1,8 +1,8 @@
 -- `row_factors::season::permeation_mean` meets its contract.
 use mathlib.Core.Path.{_≡_, _∙_, ap}
-use Prim.Native.Nat.{ℕ, _+_, _*_, _/_, _^_, _<_}
+use Prim.Native.Nat.{ℕ, _/_, _^_}
 use native.Mathlib.Omega.{arith}
-use Rattle.numbers.specs.Lists.{tab, at}
+use Rattle.numbers.specs.Lists.{tab}
 use Rattle.numbers.proofs.Lists.{getD-tab, tab-ext, tab-at-most}
 use Rattle.parking.specs.Grid.{passedIn}
 use Rattle.parking.proofs.Passed.{passedIn-most}
