@@ -44,7 +44,7 @@ def entry(c, n):
 
 
 # below 0 the series stands in a denominator, and 40 terms are needed for one unit
-HIGH = [entry(Fraction(h - 256, 16), 40 if h < 256 else 30) for h in range(322)]
+COARSE = [entry(Fraction(h - 256, 16), 40 if h < 256 else 30) for h in range(322)]
 MIDDLE = [entry(Fraction(m, 4096), 8) for m in range(256)]
 
 
@@ -61,9 +61,8 @@ def listed(entries):
 
 # the file, what stands before the entries, the entries, and what stands after them
 PLACES = [
-    ("src/exp.rt", r"const HIGH_TABLE: \[u64; 322\] = \[\n", source(HIGH), r"\];"),
-    ("src/exp.rt", r"const MIDDLE_TABLE: \[u64; 256\] = \[\n", source(MIDDLE), r"\];"),
-    ("specs/Exponential.antt", r"\nhigh =\n", listed(HIGH), r"\[\]\n"),
+    ("src/exp.rt", r"const TABLES: \[u64; 578\] = \[\n", source(COARSE + MIDDLE), r"\];"),
+    ("specs/Exponential.antt", r"\ncoarse =\n", listed(COARSE), r"\[\]\n"),
     ("specs/Exponential.antt", r"\nmiddle =\n", listed(MIDDLE), r"\[\]\n"),
 ]
 

@@ -15,12 +15,6 @@ use Rattle.masses.proofs.MassSizes.{word-most}
 use Rattle.report_words.proofs.SumSizes.{vehiclesBefore, subtotal-most, grand-total-most, sums-fit}
 use Rattle.report_words.proofs.AcceptedRange.{row-sized}
 
--- every element of a list fits 64 bits
-pub record Fit (xs : List ℕ) : Type 0 where
-  pub at : (k : ℕ) → getD xs k 0 < 2 ^ 64
-
--- and so do those of two lists together
-infixl 5 _and_
 module _ {s : List ℕ} (bytes : Bytes s) (a : Accepted s) where
   -- the vehicles of the first n rows
   vehicles-most : (n : ℕ) → n ≤ rowsOf s → vehiclesBefore s n ≤ rowsLimit * vehiclesLimit
