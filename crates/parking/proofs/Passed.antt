@@ -23,24 +23,32 @@ passed-more : (f : ℕ → ℕ) (hour d : ℕ) {s r : ℕ} → s ≡ passed f ho
 unfolding passed
 passed-more f hour d e h = rw add-one (cc (add-one d))
 
--- what is carried to a cell is what passed in the half-hours before its own
-carried-is : (values xs : List ℕ) (cell : ℕ) → ((k : ℕ) → k < cell → at xs k ≡ passedIn values k)
-    → carried xs cell ≡ passed (at values) (cell / 24 + 1) (cell % 24)
-unfolding carried passedIn endHour duration passed
-carried-is values xs cell h =
-    elim (ℕ-discrete (cell % 24) 0) [
-      | yes e ↦ rw (eq-eqb (cell % 24) 0 e, e) refl
+-- what passed in the half-hours before a cell's own
+unfoldable pub passedBefore : List ℕ → ℕ → ℕ
+passedBefore values cell = passed (at values) (cell / 24 + 1) (cell % 24)
+
+-- nothing is carried to the first cell
+pub carried-first : (values : List ℕ) → carried 0 0 ≡ passedBefore values 0
+unfolding carried passedBefore passed
+carried-first values = refl
+
+-- to the next cell is carried what passed in the half-hours before its own
+pub carried-next : (values : List ℕ) (cell : ℕ) {p : ℕ} → p ≡ passedIn values cell → carried p (cell + 1) ≡ passedBefore values (cell + 1)
+unfolding carried passedBefore passedIn endHour duration passed
+carried-next values cell {p} h =
+    elim (ℕ-discrete ((cell + 1) % 24) 0) [
+      | yes e ↦ rw (eq-eqb ((cell + 1) % 24) 0 e, e) refl
       | no n ↦
-          let hour : (cell - 1) / 24 + 1 ≡ cell / 24 + 1 = omega arith in
-          let half-hours : (cell - 1) % 24 + 1 ≡ cell % 24 = omega arith in
-          rw (ne-eqb (cell % 24) 0 n) (rw (hour, half-hours) at (h (cell - 1) (omega arith)))
+          let hour : cell / 24 + 1 ≡ (cell + 1) / 24 + 1 = omega arith in
+          let half-hours : cell % 24 + 1 ≡ (cell + 1) % 24 = omega arith in
+          rw (ne-eqb ((cell + 1) % 24) 0 n) (rw (hour, half-hours) at h)
     ]
 
 -- with the cell's own mark it is what passed in its parking
-pub walk-more : (values xs : List ℕ) (cell : ℕ) {mark : ℕ} → ((k : ℕ) → k < cell → at xs k ≡ passedIn values k) → mark ≡ startOf cell
-    → carried xs cell + at values mark ≡ passedIn values cell
-unfolding passedIn startOf endHour duration
-walk-more values xs cell h e = passed-more (at values) (cell / 24 + 1) (cell % 24) (carried-is values xs cell h) (ap (at values) e)
+pub walk-more : (values : List ℕ) (cell : ℕ) {before mark : ℕ} → before ≡ passedBefore values cell → mark ≡ startOf cell
+    → before + at values mark ≡ passedIn values cell
+unfolding passedBefore passedIn startOf endHour duration
+walk-more values cell h e = passed-more (at values) (cell / 24 + 1) (cell % 24) h (ap (at values) e)
 
 -- at most 24 values of at most a bound
 pub passedIn-most : (values : List ℕ) (bound cell : ℕ) → AllAtMost bound values → passedIn values cell ≤ 24 * bound

@@ -47,6 +47,6 @@ pub record GridReady (grid : List ℕ) : Type 0 where
 unfoldable pub passedIn : List ℕ → ℕ → ℕ
 passedIn values cell = passed (at values) (endHour cell) (duration cell)
 
--- what is carried to a cell: what passed in the parking of its end hour that is half an hour shorter
-unfoldable pub carried : List ℕ → ℕ → ℕ
-carried passed cell = cond (eqb (cell % 24) 0) 0 (at passed (cell - 1))
+-- what is carried to a cell, of what passed in the parking before it: all within an end hour, nothing where one begins
+unfoldable pub carried : ℕ → ℕ → ℕ
+carried passed cell = cond (eqb (cell % 24) 0) 0 passed

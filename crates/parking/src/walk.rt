@@ -10,15 +10,10 @@ ghost use Rattle.parking.specs.Grid.{carried, passedIn};
 const DURATIONS: usize = 24;
 
 // What passed in the parking that is half an hour shorter; nothing where there is none.
-fn carried(passed: &[u64; 576], cell: usize) -> u64
-    requires { ⌜ cell < 576 ⌝ }
-    ensures { λ r. ⌜ r ≡ carried (now (passed .entry)) cell ⌝ }
+fn carried(passed: u64, cell: usize) -> u64
+    ensures { λ r. ⌜ r ≡ carried passed cell ⌝ }
 {
-    if cell % DURATIONS == 0 {
-        0
-    } else {
-        passed[cell - 1]
-    }
+    if cell % DURATIONS == 0 { 0 } else { passed }
 }
 
 // What passed in every cell's parking, of values by mark.
@@ -27,9 +22,11 @@ pub fn walk(values: &[u64; 48]) -> [u64; 576]
     ensures { λ r. ⌜ r ≡ tab (passedIn (now (values .entry))) 576 ⌝ }
 {
     let mut out = [0u64; 576];
+    let mut passed: u64 = 0;
     let mut cell: usize = 0;
     while cell < 576 {
-        out[cell] = carried(&out, cell) + values[mark_of(cell, false)];
+        passed = carried(passed, cell) + values[mark_of(cell, false)];
+        out[cell] = passed;
         cell += 1;
     }
     out

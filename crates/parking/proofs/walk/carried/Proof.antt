@@ -11,14 +11,11 @@ returns c = rw (eq-eqb _ 0 (c .if1 .taken))
 
 returns-2 : tie.Need-returns-2
 unfolding carried
-returns-2 c = rw (ne-eqb _ 0 (c .before .if1 .left))
+returns-2 c = rw (ne-eqb _ 0 (c .if1 .left))
 
 pub carried-spec : {M : Type 1} → statement M
 carried-spec =
     tie.close
     (tie.spec
-    (λ c. search needs)
-    (λ c. search needs)
-    (λ c. search needs)
     returns
     returns-2)
