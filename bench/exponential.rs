@@ -3,9 +3,9 @@ use std::hint::black_box;
 
 include!(env!("TABLES"));
 
-#[link(name = "bounds", kind = "static")]
+#[link(name = "exponentials", kind = "static")]
 extern "C" {
-    fn bounds_sum_exponentials(xs: *const u64, count: usize) -> u64;
+    fn exponentials_sum(xs: *const u64, count: usize) -> u64;
 }
 
 // The time that this thread had a processor for, so that other work on the machine does not count.
@@ -39,6 +39,7 @@ const ROUNDS: usize = 10;
 const LIMIT: u64 = 2010000000000000;
 const COARSE_STEP: u64 = 6250000000000;
 const FINE_STEP: u64 = 24414062500;
+const MIDDLE: usize = 322;
 const TWO_26: u64 = 1 << 26;
 const FIVE_14: u64 = 6103515625;
 const ONE: u64 = 1 << 40;
@@ -51,25 +52,23 @@ fn mul_shift(a: u64, b: u64) -> u64 {
     a1 * b1 + (a1 * b0 + a0 * b1 + a0 * b0 / HALF) / HALF
 }
 
-fn exponential(highs: &[u64; 322], middles: &[u64; 256], x: u64) -> u64 {
+fn exponential(tables: &[u64; 578], x: u64) -> u64 {
     let d = x % COARSE_STEP;
     let p = d % FINE_STEP * TWO_26 / FIVE_14;
     let quadratic = ONE + p + p * p / TWO;
-    let fine = mul_shift(middles[(d / FINE_STEP) as usize], quadratic);
-    mul_shift(highs[(x / COARSE_STEP) as usize], fine)
+    let fine = mul_shift(tables[MIDDLE + (d / FINE_STEP) as usize], quadratic);
+    mul_shift(tables[(x / COARSE_STEP) as usize], fine)
 }
 
 fn sum_ours(xs: &[u64]) -> u64 {
     // The library takes a slice as its pointer and its length.
-    unsafe { bounds_sum_exponentials(xs.as_ptr(), xs.len()) }
+    unsafe { exponentials_sum(xs.as_ptr(), xs.len()) }
 }
 
 #[inline(never)]
 fn sum_same(xs: &[u64]) -> u64 {
     let served = xs.iter().filter(|&&x| x < LIMIT);
-    served.fold(0, |sum: u64, &x| {
-        sum.wrapping_add(exponential(&HIGH_TABLE, &MIDDLE_TABLE, x))
-    })
+    served.fold(0, |sum: u64, &x| sum.wrapping_add(exponential(&TABLES, x)))
 }
 
 #[inline(never)]

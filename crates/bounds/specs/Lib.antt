@@ -2,5 +2,4 @@ pub mod Series
 pub mod Enclosure
 pub mod Exponential
 pub mod Power
-pub mod Total
 pub mod Weights

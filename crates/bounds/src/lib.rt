@@ -1,6 +1,5 @@
 // Bounds of the exponential and of the root: the lower crate of document 01.
 pub mod exp;
-pub mod export;
 pub mod fixed;
 pub mod hours;
 pub mod power;

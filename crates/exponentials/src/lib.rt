@@ -1,9 +1,9 @@
 // What a program in Rust or C can call: the exponential over many exponents at once, with the tables made once.
-use crate::exp::exponential;
-use crate::exp::tables;
+use bounds::exp::exponential;
+use bounds::exp::tables;
 ghost use mathlib.Core.Path.{_≡_};
 ghost use Rattle.bounds.specs.Exponential.{entries};
-ghost use Rattle.bounds.specs.Total.{served, total};
+ghost use Rattle.exponentials.specs.Total.{served, total};
 
 // The first exponent that is not served
 const LIMIT: u64 = 2010000000000000;
@@ -30,7 +30,7 @@ fn total(tables: &[u64; 578], xs: &[u64]) -> u64
 
 // The sum of the exponentials, of which 64 bits are kept. An exponent that is not served counts as 0.
 #[no_mangle]
-pub extern "C" fn bounds_sum_exponentials(xs: &[u64]) -> u64
+pub extern "C" fn exponentials_sum(xs: &[u64]) -> u64
     ensures { λ r. ⌜ r ≡ total (now (xs .entry)) ⌝ }
 {
     let tables = tables();

@@ -1,9 +1,9 @@
--- `bounds::export::served` meets its contract.
+-- `exponentials::served` meets its contract.
 use borrow.Author.Needs.{needs}
 use borrow.Author.Tests.{lt-ltb, le-ltb}
-use Rattle.bounds.specs.Total.{served}
-use Rattle.bounds.proofs.export.served.Statement.{statement}
-use Rattle.bounds.proofs.export.served.Tie as tie
+use Rattle.exponentials.specs.Total.{served}
+use Rattle.exponentials.proofs.served.Statement.{statement}
+use Rattle.exponentials.proofs.served.Tie as tie
 
 returns : tie.Need-returns
 unfolding served

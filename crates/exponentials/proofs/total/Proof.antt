@@ -1,4 +1,4 @@
--- `bounds::export::total` meets its contract. The loop's invariant: the sum is that of the exponents passed, in 64 bits.
+-- `exponentials::total` meets its contract. The loop's invariant: the sum is that of the exponents passed, in 64 bits.
 -- The measure is what is left of the exponents.
 use mathlib.Core.List.{List}
 use mathlib.Core.Path.{_≡_, _∙_, ap, refl}
@@ -7,10 +7,10 @@ use native.Mathlib.Omega.{arith}
 use borrow.Author.Needs.{needs}
 use lib.ListN.{length, getD}
 use Rattle.numbers.specs.Lists.{sum}
-use Rattle.bounds.specs.Total.{served, total}
+use Rattle.exponentials.specs.Total.{served, total}
 use Rattle.numbers.proofs.Lists.{sum-none, sum-more}
-use Rattle.bounds.proofs.export.total.Statement.{statement}
-use Rattle.bounds.proofs.export.total.Tie as tie
+use Rattle.exponentials.proofs.total.Statement.{statement}
+use Rattle.exponentials.proofs.total.Tie as tie
 
 -- the exponential of the exponent at k
 abbrev part : List ℕ → ℕ → ℕ
