@@ -6,7 +6,7 @@ use Prim.Native.Nat.{ℕ, suc, zero, _+_, _*_, _-_, _^_, _/_, _≤_, _<_}
 use native.Mathlib.Omega.{arith}
 use native.Mathlib.Numerals.{unary-clauses}
 use native.Mathlib.Decide.{decLe}
-use native.Mathlib.Nat.{mul-le-mul, mul-le-mul-right, div-mul-le-self, lt-div-mul-add, le-dest, add-sub-cancel-left, le-refl, le-antisymm}
+use native.Mathlib.Nat.{mul-le-mul, mul-le-mul-right, div-mul-le-self, lt-div-mul-add, le-dest, le-of-lt, lt-of-not-le, add-sub-cancel-left, le-refl, le-antisymm}
 use lib.Dec.{leb}
 use borrow.Author.Tests.{leb-true, leb-false, le-leb, lt-leb}
 use Rattle.numbers.specs.Fraction.{Fraction, _≤ᶠ_, _<ᶠ_, _*ᶠ_, _^ᶠ_, whole, _≤?_}
@@ -71,6 +71,23 @@ root-one h g = le-antisymm (root-largest g (h .low)) (root-largest h (g .low))
 -- the root of k² is k
 pub root-square : (k : ℕ) → root (k * k) ≡ k
 root-square k = root-one (root-is (k * k)) (omega arith)
+
+-- 4ab ≤ (a + b)²
+four-products : (a b : ℕ) → 4 * (a * b) ≤ (a + b) * (a + b)
+four-products a b =
+    elim (decLe a b) [
+      | yes l ↦ let (d, e) = le-dest l in rw (← e) (omega arith)
+      | no l ↦ let (d, e) = le-dest (le-of-lt (lt-of-not-le l)) in rw (← e) (omega arith)
+    ]
+
+-- the half of r + x/r, cut, is no lower than the root, whatever r is
+pub halved-above : (x r : ℕ) → 0 < r → x < ((r + x / r) / 2 + 1) * ((r + x / r) / 2 + 1)
+halved-above x r h =
+    let q : ℕ = x / r in
+    let s : ℕ = (r + q) / 2 in
+    let a : x < q * r + r = lt-div-mul-add {a = x} h in
+    let b : r + (q + 1) ≤ 2 * (s + 1) = omega arith in
+    omega (arith, a, four-products r (q + 1), mul-le-mul b b)
 
 -- k / 2ⁿ
 unfoldable pub multiple : ℕ → ℕ → Fraction

@@ -15,22 +15,23 @@ const SCALE: u64 = 16777216;
 // 2^116 / 10^25, cut: from units of 10^-25 to units of 2^-24
 const FACTOR: u64 = 8307674973;
 
-// The largest whole number whose square is at most x, by halving the gap between a number whose square is at most x
-// and one whose square is above.
+// The largest whole number whose square is at most x, of 1 or more: Newton's steps come down to it from above.
+fn root_from_above(x: u64) -> u64
+    requires { ⌜ 0 < x ⌝ }
+    ensures { λ r. ⌜ (r ≡ root x) × (r < 2 ^ 32) ⌝ }
+{
+    let mut r: u64 = 4294967295;
+    while x / r < r {
+        r = (r + x / r) / 2;
+    }
+    r
+}
+
+// The same, of 0 too.
 pub fn square_root(x: u64) -> u64
     ensures { λ r. ⌜ (r ≡ root x) × (r < 2 ^ 32) ⌝ }
 {
-    let mut low: u64 = 0;
-    let mut high: u64 = 4294967296;
-    while low + 1 < high {
-        let middle = (low + high) / 2;
-        if middle * middle <= x {
-            low = middle;
-        } else {
-            high = middle;
-        }
-    }
-    low
+    if x == 0 { 0 } else { root_from_above(x) }
 }
 
 // n^2.5 / 2^68, for a temperature n from 0 to 65 °C in units of 10^-10 °C

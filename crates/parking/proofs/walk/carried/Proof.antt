@@ -1,7 +1,6 @@
 -- `parking::walk::carried` meets its contract.
 use borrow.Author.Tests.{eq-eqb, ne-eqb}
 use Rattle.parking.specs.Grid.{carried}
-use borrow.Author.Needs.{needs}
 use Rattle.parking.proofs.walk.carried.Statement.{statement}
 use Rattle.parking.proofs.walk.carried.Tie as tie
 
