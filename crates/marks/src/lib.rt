@@ -154,7 +154,7 @@ fn pressure_factor(tables: &[u64; 578], vp: u64) -> u64
     exponential(tables, 4 * vp * TEN_BILLION + ZERO)
 }
 
-// Permeation per hour where E(0.004 vp) is `mild`, up to 65 °C.
+// Permeation per hour where E(0.004 vp) is `pressure`, up to 65 °C.
 fn rate_at(pressure: u64, warmth: u64) -> u64
     requires { ⌜ (pressure < 2 ^ 46) × (warmth ≤ 95 * 10 ^ 10) ⌝ }
     ensures { λ r. ⌜ r ≡ pressure * bracketUnits warmth / 2 ^ 40 ⌝ }
@@ -179,7 +179,7 @@ fn rates(pressure: u64, warmths: [u64; 48], raise: u64) -> [u64; 48]
     out
 }
 
-// The values of a season at its marks. The tables are those that `high_table` and `middle_table` of `bounds` give.
+// The values of a season at its marks. The tables are those that `tables` of `bounds` gives.
 pub fn at_marks(tables: &[u64; 578], season: Season) -> Marks
     requires { ⌜ (now tables ≡ entries) × SeasonInRange season ⌝ }
     ensures { λ r. ⌜ AtMarks season r ⌝ }

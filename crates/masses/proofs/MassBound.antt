@@ -149,13 +149,13 @@ module _ {row : Row} (shares : Shares row) (counts : List ℕ) (mechanism : Mech
       ≤-trans (+-mono (times-mono _ (day-below shares e mechanism n h)) (year-below seasons es))
       (≈→≤ (year-step (season .days) _ _ (row .vehicles)))
 
-  -- "Each of a row's three exact masses in grams, times 1,000, is at least its low
+  -- "Each of a row's three exact masses in grams, times 1,000, is at least its low ..".
   pub low-above : (seasons : List Season) → Every (λ (season : Season). Enclosed counts season row) seasons
       → whole (lowFigure counts seasons row mechanism) ≤ᶠ mass n counts seasons row mechanism *ᶠ whole 1000
   unfolding lowFigure
   low-above seasons e = cut-down _ (year-above seasons e)
 
-  -- and at most its high."
+  -- ".. and at most its high."
   pub high-below : (seasons : List Season) → Every (λ (season : Season). Enclosed counts season row) seasons
       → mass n counts seasons row mechanism *ᶠ whole 1000 ≤ᶠ whole (highFigure counts seasons row mechanism)
   unfolding highFigure

@@ -117,7 +117,8 @@ fn sum_of_three(words: &[u64], at: usize) -> u64
 
 // The low and the high of the grand total, each the sum of three words for all rows.
 fn totals(s: &[u8], words: &mut [u64])
-    requires { ⌜ (sheetCheck (now s) ≡ Pass) × (6 * rowsOf (now s) + 26 ≤ length (now words)) × (take (6 * rowsOf (now s) + 24) (now words) ≡ tab (reportWord (now s)) (6 * rowsOf (now s) + 24)) ⌝ }
+    requires { ⌜ (sheetCheck (now s) ≡ Pass) × (6 * rowsOf (now s) + 26 ≤ length (now words))
+        × (take (6 * rowsOf (now s) + 24) (now words) ≡ tab (reportWord (now s)) (6 * rowsOf (now s) + 24)) ⌝ }
     ensures { λ _. ⌜ now (words .exit) ≡ filled (reportWord (now (s .entry))) (6 * rowsOf (now (s .entry)) + 26) (now (words .entry)) ⌝ }
 {
     let all = SIX * rows_of(s) + 18;

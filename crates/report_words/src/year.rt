@@ -53,8 +53,10 @@ fn add_rows(
     s: &[u8],
     words: &mut [u64],
 )
-    requires { ⌜ SeasonLent (now s) (now tables) (now grid) (now rises) at × (6 * rowsOf (now s) ≤ length (now words)) × SeasonFits (now s) (at .season) (now words) ⌝ }
-    ensures { λ _. ⌜ now (words .exit) ≡ filled (seasonAdded (now (s .entry)) (at .season) (now (words .entry))) (6 * rowsOf (now (s .entry))) (now (words .entry)) ⌝ }
+    requires { ⌜ SeasonLent (now s) (now tables) (now grid) (now rises) at
+        × (6 * rowsOf (now s) ≤ length (now words)) × SeasonFits (now s) (at .season) (now words) ⌝ }
+    ensures { λ _. ⌜ now (words .exit)
+        ≡ filled (seasonAdded (now (s .entry)) (at .season) (now (words .entry))) (6 * rowsOf (now (s .entry))) (now (words .entry)) ⌝ }
 {
     let season = at.season;
     let rows = rows_of(s);
@@ -81,7 +83,8 @@ fn add_season(tables: &[u64; 578], grid: &[u64; 673], s: &[u8], j: usize, words:
 // All seasons.
 fn add_seasons(tables: &[u64; 578], grid: &[u64; 673], s: &[u8], words: &mut [u64])
     requires { ⌜ SheetLent (now s) (now tables) (now grid) × RowsHold (yearWord (now s) 0) (now s) (now words) ⌝ }
-    ensures { λ _. ⌜ now (words .exit) ≡ filled (yearWord (now (s .entry)) (seasonsOf (now (s .entry)))) (6 * rowsOf (now (s .entry))) (now (words .entry)) ⌝ }
+    ensures { λ _. ⌜ now (words .exit)
+        ≡ filled (yearWord (now (s .entry)) (seasonsOf (now (s .entry)))) (6 * rowsOf (now (s .entry))) (now (words .entry)) ⌝ }
 {
     let seasons = seasons_of(s);
     let mut j: usize = 0;
@@ -94,7 +97,8 @@ fn add_seasons(tables: &[u64; 578], grid: &[u64; 673], s: &[u8], words: &mut [u6
 // The whole year of an accepted sheet is added to words that are 0. The tables and the grid are made once.
 pub fn add_year(s: &[u8], words: &mut [u64])
     requires { ⌜ (sheetCheck (now s) ≡ Pass) × RowsHold (yearWord (now s) 0) (now s) (now words) ⌝ }
-    ensures { λ _. ⌜ now (words .exit) ≡ filled (yearWord (now (s .entry)) (seasonsOf (now (s .entry)))) (6 * rowsOf (now (s .entry))) (now (words .entry)) ⌝ }
+    ensures { λ _. ⌜ now (words .exit)
+        ≡ filled (yearWord (now (s .entry)) (seasonsOf (now (s .entry)))) (6 * rowsOf (now (s .entry))) (now (words .entry)) ⌝ }
 {
     let tables = tables();
     let grid = sheet_grid(s);
