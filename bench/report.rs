@@ -8,7 +8,7 @@ struct Check {
     place: u64,
 }
 
-#[link(name = "inventory", kind = "static")]
+#[link(name = "evaporation", kind = "static")]
 extern "C" {
     fn evp_report(sheet: *const u8, bytes: usize, words: *mut u64, count: usize) -> Check;
 }

@@ -1,6 +1,6 @@
 /* The two calls of the evaporation workbook for a program in C: the report of a sheet, and one emission factor.
  *
- * They stand in the static library target/staticlib/libinventory.a, which `rt staticlib inventory` makes from the proved
+ * They stand in the static library target/staticlib/libevaporation.a, which `rt staticlib evaporation` makes from the proved
  * crate (x86-64 Linux); it needs only the C library. c/example.c is a program over them.
  *
  * Sheets of two versions are read, and the sheet itself says which it is: in version 1 the parking is two lists of 24 counts,

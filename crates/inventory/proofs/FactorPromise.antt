@@ -8,12 +8,14 @@ use Rattle.factors.specs.Units.{lowMicrograms, highMicrograms}
 use Rattle.factors.proofs.FactorBound.{high-near-low}
 use Rattle.sheet.specs.declared.Check.{Check}
 use Rattle.sheet.specs.declared.Check.the-variants.{Pass, Refused}
+use Rattle.sheet.specs.Check.{numberOf, placeOf}
+use Rattle.sheet.specs.Demands.{Says}
 use Rattle.sheet.proofs.Accepted.{Bytes}
 use Rattle.inventory.specs.declared.FactorAnswer.{FactorAnswer}
 use Rattle.inventory.specs.declared.FactorAnswer.the-variants as answer
-use Rattle.inventory.specs.FactorCall.{numbered, factorCheck, unitsAt, answered, factorAnswer, FactorBand, FactorPromise}
+use Rattle.inventory.specs.FactorCall.{numbered, factorCheck, unitsAt, answered, factorAnswer, FactorBand, answerNumber, answerPlace, answerLow, answerHigh, factorDemands, FactorReply}
 use Rattle.report_words.proofs.AcceptedRange.{enclosed}
-use Rattle.inventory.proofs.CallConditions.{factor-accepted}
+use Rattle.inventory.proofs.CallConditions.{factor-accepted, factor-judged, factor-says, number-zero}
 
 module _ (s : List ℕ) (season row k : ℕ) (bytes : Bytes s) where
   -- "low and high micrograms, at most 1,000 apart", around the exact factor
@@ -31,15 +33,18 @@ module _ (s : List ℕ) (season row k : ℕ) (bytes : Bytes s) where
       }
 
   -- for either outcome of the checks
-  promise-kept : (c : Check) → factorCheck s season row k ≡ c → FactorPromise s season row k (answered c (unitsAt s season row k))
-  unfolding answered FactorPromise
-  promise-kept Pass h = (h, factor-band h)
-  promise-kept (Refused number place) h = h
-
-  -- what is promised of the answer holds of it
-  pub factor-promise : FactorPromise s season row k (factorAnswer s season row k)
-  unfolding factorAnswer
-  factor-promise = promise-kept (factorCheck s season row k) refl
+  reply-kept : (c : Check) → factorCheck s season row k ≡ c → {r : FactorAnswer} → r ≡ answered c (unitsAt s season row k)
+      → Says (factorDemands s season row k) (answerNumber r) (answerPlace r) × (answerNumber r ≡ 0 → FactorBand s season row k (answerLow r) (answerHigh r))
+  unfolding answered answerNumber answerPlace answerLow answerHigh numberOf placeOf
+  reply-kept Pass h e = rw e (rw h at (factor-says s season row k), λ _. factor-band h)
+  reply-kept (Refused number place) h e =
+      rw e (
+        rw h at (factor-says s season row k),
+        λ zero.
+            let passed : factorCheck s season row k ≡ Pass = number-zero s (factorCheck s season row k) (factor-judged s season row k) (omega arith) (rw h zero) in
+            let clash : _≡_ {A = ℕ} 0 1 = cc in
+            absurd (omega arith),
+      )
 
   -- Each outcome of the code is the answer.
   pub refusal-is : {number place : ℕ} → factorCheck s season row k ≡ Refused number place → answer.Refused number place ≡ factorAnswer s season row k
@@ -52,5 +57,6 @@ module _ (s : List ℕ) (season row k : ℕ) (bytes : Bytes s) where
   band-is h u l g = rw (h, l, g, u)
 
   -- and an outcome that is the answer is what is promised
-  pub promised : {r : FactorAnswer} → r ≡ factorAnswer s season row k → (r ≡ factorAnswer s season row k) × FactorPromise s season row k r
-  promised e = (e, rw e factor-promise)
+  pub promised : {r : FactorAnswer} → r ≡ factorAnswer s season row k → FactorReply s season row k r
+  unfolding factorAnswer
+  promised e = let kept = reply-kept (factorCheck s season row k) refl e in record { answer-is = e; says = kept .0; band = kept .1 }

@@ -3,4 +3,3 @@ pub mod CallsAlike
 pub mod FactorPromise
 pub mod Written
 pub mod ReportPromise
-pub mod ExportNumbers

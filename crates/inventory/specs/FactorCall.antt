@@ -2,7 +2,7 @@
 use mathlib.Core.Path.{_≡_}
 use mathlib.Core.Bool.{Bool, true, false, _||_}
 use mathlib.Core.List.{List}
-use Prim.Native.Nat.{ℕ, suc, zero, _+_, _≤_}
+use Prim.Native.Nat.{ℕ, suc, zero, _+_, _≤_, _<_}
 use lib.Dec.{leb}
 use Rattle.numbers.specs.Fraction.{_≤ᶠ_, _/10^_}
 use Rattle.exact.specs.Factors.{Factor, F1, F2, F3, F4, F5, F6, F7, factor}
@@ -11,6 +11,7 @@ use Rattle.sheet.specs.declared.Check.the-variants.{Pass, Refused}
 use Rattle.sheet.specs.Bytes.{seasonsOf, rowsOf, cellsOf, seasonAt, rowAt}
 use Rattle.sheet.specs.Check.{refuse, _then_}
 use Rattle.sheet.specs.Sheet.{outside, sheetCheck}
+use Rattle.sheet.specs.Demands.{Demands, demand, _next_, Says, demands}
 use Rattle.factors.specs.Units.{factorUnits, lowMicrograms, highMicrograms}
 use Rattle.inventory.specs.declared.FactorAnswer.{FactorAnswer}
 use Rattle.inventory.specs.declared.FactorAnswer.the-variants as answer
@@ -51,7 +52,30 @@ pub record FactorBand (s : List ℕ) (season row k low high : ℕ) : Type 0 wher
   pub narrow : high ≤ low + 1000
   pub narrower : high ≤ low + 5
 
--- What is promised of an answer. Document 01 leaves low and high open within these bounds.
-unfoldable pub FactorPromise : List ℕ → ℕ → ℕ → ℕ → FactorAnswer → Type 0
-FactorPromise s season row k (answer.Refused number place) = factorCheck s season row k ≡ Refused number place
-FactorPromise s season row k (answer.Band low high) = (factorCheck s season row k ≡ Pass) × FactorBand s season row k low high
+-- "a definition gives this paper's number and values for each of the enum's cases": number 0 stands for a band, and a refusal has none
+unfoldable pub answerNumber : FactorAnswer → ℕ
+answerNumber (answer.Refused number place) = number
+answerNumber (answer.Band low high) = 0
+
+unfoldable pub answerPlace : FactorAnswer → ℕ
+answerPlace (answer.Refused number place) = place
+answerPlace (answer.Band low high) = 0
+
+unfoldable pub answerLow : FactorAnswer → ℕ
+answerLow (answer.Refused number place) = 0
+answerLow (answer.Band low high) = low
+
+unfoldable pub answerHigh : FactorAnswer → ℕ
+answerHigh (answer.Refused number place) = 0
+answerHigh (answer.Band low high) = high
+
+abbrev pub factorDemands : List ℕ → ℕ → ℕ → ℕ → Demands
+factorDemands s season row k =
+    demands s next
+    demand 23 0 (((season < seasonsOf s) × (row < rowsOf s)) × ((1 ≤ k) × (k ≤ 7)))
+
+-- What holds of the answer. Document 01 leaves low and high open within the bounds of the band.
+pub record FactorReply (s : List ℕ) (season row k : ℕ) (r : FactorAnswer) : Type 0 where
+  pub answer-is : r ≡ factorAnswer s season row k
+  pub says : Says (factorDemands s season row k) (answerNumber r) (answerPlace r)
+  pub band : answerNumber r ≡ 0 → FactorBand s season row k (answerLow r) (answerHigh r)

@@ -1,3 +1,2 @@
 pub mod FactorCall
 pub mod ReportCall
-pub mod Export

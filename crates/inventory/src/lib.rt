@@ -8,14 +8,11 @@ use row_factors::micrograms::low_micrograms;
 use sheet::Check;
 ghost use mathlib.Core.Path.{_≡_};
 ghost use Prim.Native.Nat.{_^_, _<_};
-ghost use lib.ListN.{length};
 ghost use Rattle.sheet.specs.declared.Check.the-variants.{Pass};
-ghost use Rattle.report_words.specs.Report.{report};
-ghost use Rattle.inventory.specs.FactorCall.{factorCheck, unitsAt, factorAnswer, FactorPromise};
-ghost use Rattle.inventory.specs.ReportCall.{reportCheck, written, ReportPromise};
+ghost use Rattle.inventory.specs.FactorCall.{factorCheck, unitsAt, FactorReply};
+ghost use Rattle.inventory.specs.ReportCall.{ReportAnswer};
 
 mod check;
-pub mod export;
 
 // What the factor call answers.
 pub enum FactorAnswer {
@@ -37,7 +34,7 @@ fn units_at(s: &[u8], season: usize, row: usize, k: usize) -> u64
 // One factor, 1 to 7, of a season and a row, counted from 0, in micrograms. Document 01 leaves low and high open within
 // the bounds that are promised here; the answer is also a function of the bytes and the three numbers.
 pub fn factor(s: &[u8], season: u64, row: u64, k: u64) -> FactorAnswer
-    ensures { λ r. ⌜ (r ≡ factorAnswer (now (s .entry)) season row k) × FactorPromise (now (s .entry)) season row k r ⌝ }
+    ensures { λ r. ⌜ FactorReply (now (s .entry)) season row k r ⌝ }
 {
     if let Check::Refused(number, place) = factor_check(s, season, row, k) {
         return FactorAnswer::Refused(number, place);
@@ -49,7 +46,7 @@ pub fn factor(s: &[u8], season: u64, row: u64, k: u64) -> FactorAnswer
 // All words of the report in milligrams, or a refusal that leaves the buffer as it is. Document 01 leaves a low or high
 // open within the bounds that are promised here; all words are also a function of the bytes.
 pub fn report(s: &[u8], words: &mut [u64]) -> Check
-    ensures { λ r. ⌜ (r ≡ reportCheck (now (s .entry)) (length (now (words .entry)))) × (now (words .exit) ≡ written r (report (now (s .entry))) (now (words .entry))) × (r ≡ Pass → ReportPromise (now (s .entry))) ⌝ }
+    ensures { λ r. ⌜ ReportAnswer (now (s .entry)) (now (words .entry)) (now (words .exit)) r ⌝ }
 {
     let check = report_check(s, words.len());
     if let Check::Refused(_, _) = check {

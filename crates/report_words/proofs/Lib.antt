@@ -8,3 +8,4 @@ pub mod YearWords
 pub mod SeasonWork
 pub mod SeasonWords
 pub mod Totals
+pub mod Promised

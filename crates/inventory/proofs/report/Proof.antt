@@ -2,25 +2,23 @@
 -- Assumes nothing.
 use mathlib.Core.Path.{_≡_, refl, sym, _∙_}
 use borrow.Author.Needs.{needs}
-use Rattle.sheet.specs.declared.Check.the-variants.{Pass}
 use Rattle.sheet.proofs.Accepted.{Bytes}
 use Rattle.report_words.specs.Report.{reportLength}
-use Rattle.inventory.specs.ReportCall.{written, ReportPromise}
+use Rattle.inventory.specs.ReportCall.{written}
 use Rattle.inventory.proofs.CallConditions.{report-accepted, report-sheet}
-use Rattle.inventory.proofs.ReportPromise.{answered-promise, report-written}
+use Rattle.inventory.proofs.ReportPromise.{report-answer, report-written}
 use Rattle.inventory.proofs.report.Statement.{statement}
 use Rattle.inventory.proofs.report.Tie as tie
 
--- what is promised wherever the checks have passed
-promise : (c : tie.After-report-check) → let x = c .before .before .before .args in c .report-check .result ≡ Pass → ReportPromise (x .s .now)
-promise c e =
-    let known = c .before .before in
-    let bytes : Bytes (known .before .args .s .now) = record { byte = λ k. known .shared-slice-known .given k .fits } in
-    answered-promise _ _ bytes (sym (c .report-check .ensures) ∙ e)
+-- each element of the sheet is a byte
+bytes : (c : tie.After-report-check) → Bytes (c .before .before .before .args .s .now)
+bytes c = record { byte = λ k. c .before .before .shared-slice-known .given k .fits }
 
 returns : tie.Need-returns
 unfolding written
-returns c = let check = c .before .before in (check .report-check .ensures, rw (c .enum-told .given .1) refl, promise check)
+returns c =
+    let check = c .before .before in
+    report-answer (bytes check) (check .report-check .ensures) (rw (c .enum-told .given .1) refl)
 
 write-report-requires : tie.Need-write-report-requires
 unfolding reportLength
@@ -32,7 +30,8 @@ write-report-requires c κs =
 returns-2 : tie.Need-returns-2
 returns-2 c =
     let check = c .before .before .before .before .before .before in
-    (check .report-check .ensures, rw (c .before .before .before .before .enum-told2 .given .1) (c .before .before .write-report .ensures ∙ report-written _ _), promise check)
+    report-answer (bytes check) (check .report-check .ensures)
+    (rw (c .before .before .before .before .enum-told2 .given .1) (c .before .before .write-report .ensures ∙ report-written _ _))
 
 pub report-spec : {M : Type 1} → statement M
 report-spec =

@@ -6,7 +6,7 @@ use Rattle.report.proofs.answer.Statement.{statement}
 use Rattle.report.proofs.answer.Tie as tie
 
 print-report-requires : tie.Need-print-report-requires
-print-report-requires c κs = sym (c .before .before .before .before .report .ensures .0) ∙ c .before .enum-told .given .1
+print-report-requires c κs = sym (c .before .before .before .before .report .ensures .answer-is) ∙ c .before .enum-told .given .1
 
 pub answer-spec : {M : Type 1} → statement M
 answer-spec =

@@ -1,9 +1,8 @@
--- `inventory::export::factor_numbers` meets its contract.
--- Assumes nothing.
+-- `evaporation::factor_numbers` meets its contract.
 use borrow.Author.Needs.{needs}
-use Rattle.inventory.specs.Export.{factorNumbers}
-use Rattle.inventory.proofs.export.factor_numbers.Statement.{statement}
-use Rattle.inventory.proofs.export.factor_numbers.Tie as tie
+use Rattle.evaporation.specs.Export.{factorNumbers}
+use Rattle.evaporation.proofs.factor_numbers.Statement.{statement}
+use Rattle.evaporation.proofs.factor_numbers.Tie as tie
 
 returns : tie.Need-returns
 unfolding factorNumbers

@@ -1,9 +1,8 @@
--- `inventory::export::check_numbers` meets its contract.
--- Assumes nothing.
+-- `evaporation::check_numbers` meets its contract.
 use borrow.Author.Needs.{needs}
-use Rattle.inventory.specs.Export.{checkNumbers}
-use Rattle.inventory.proofs.export.check_numbers.Statement.{statement}
-use Rattle.inventory.proofs.export.check_numbers.Tie as tie
+use Rattle.evaporation.specs.Export.{checkNumbers}
+use Rattle.evaporation.proofs.check_numbers.Statement.{statement}
+use Rattle.evaporation.proofs.check_numbers.Tie as tie
 
 returns : tie.Need-returns
 unfolding checkNumbers

@@ -1,13 +1,10 @@
 // The two calls for a program in another language. A slice is passed as a pointer and a length.
-use crate::FactorAnswer;
+use inventory::FactorAnswer;
 use sheet::Check;
 ghost use mathlib.Core.Path.{_≡_};
-ghost use lib.ListN.{length};
-ghost use Rattle.sheet.specs.declared.Check.the-variants.{Pass};
-ghost use Rattle.inventory.specs.FactorCall.{factorAnswer, FactorPromise};
-ghost use Rattle.report_words.specs.Report.{report};
-ghost use Rattle.inventory.specs.ReportCall.{reportCheck, written, ReportPromise};
-ghost use Rattle.inventory.specs.Export.{checkNumbers, factorNumbers};
+ghost use Rattle.inventory.specs.FactorCall.{factorAnswer};
+ghost use Rattle.inventory.specs.ReportCall.{reportCheck};
+ghost use Rattle.evaporation.specs.Export.{checkNumbers, factorNumbers, ReportNumbers, FactorNumbers};
 
 // A refusal's number and place; number 0 where the sheet is accepted.
 #[repr(C)]
@@ -59,15 +56,15 @@ fn check_numbers(c: Check) -> EvpCheck
 // The factor call.
 #[no_mangle]
 pub extern "C" fn evp_factor(sheet: &[u8], season: u64, row: u64, factor: u64) -> EvpFactor
-    ensures { λ r. ⌜ (r ≡ factorNumbers (factorAnswer (now (sheet .entry)) season row factor)) × FactorPromise (now (sheet .entry)) season row factor (factorAnswer (now (sheet .entry)) season row factor) ⌝ }
+    ensures { λ r. ⌜ FactorNumbers (now (sheet .entry)) season row factor r ⌝ }
 {
-    factor_numbers(crate::factor(sheet, season, row, factor))
+    factor_numbers(inventory::factor(sheet, season, row, factor))
 }
 
 // The report call.
 #[no_mangle]
 pub extern "C" fn evp_report(sheet: &[u8], words: &mut [u64]) -> EvpCheck
-    ensures { λ r. ⌜ (r ≡ checkNumbers (reportCheck (now (sheet .entry)) (length (now (words .entry))))) × (now (words .exit) ≡ written (reportCheck (now (sheet .entry)) (length (now (words .entry)))) (report (now (sheet .entry))) (now (words .entry))) × (reportCheck (now (sheet .entry)) (length (now (words .entry))) ≡ Pass → ReportPromise (now (sheet .entry))) ⌝ }
+    ensures { λ r. ⌜ ReportNumbers (now (sheet .entry)) (now (words .entry)) (now (words .exit)) r ⌝ }
 {
-    check_numbers(crate::report(sheet, words))
+    check_numbers(inventory::report(sheet, words))
 }
