@@ -26,7 +26,7 @@ extern "C" {
 #define EVP_SHEET_BYTES 2024
 #define EVP_REPORT_WORDS 218
 
-/* Where the seasons start, behind the parking: in version 1, and in version 2. Rows start 8 bytes a season later. */
+/* Where the parking ends and the seasons start, in version 1 and in version 2. A season has 8 bytes; the rows follow them. */
 #define EVP_LISTS_END 104
 #define EVP_GRID_END 1160
 

@@ -10,6 +10,8 @@ The file says in four bytes how many sheets there are. Each sheet follows its
 length in two bytes, the number in one (0 where it is accepted) and the place
 in two. Every number has its lowest byte first.
 
+Sheets of version 1 come first, those made for version 2 behind them.
+
 A sheet that is made for a condition or a limit carries the answer that
 document 01's table gives it. Where evaporation.py gives another the run ends,
 so that a slip of either does not pass unseen. Where no answer is known
