@@ -1,9 +1,11 @@
-/* The two calls from C: reads two sample sheets, holds their reports and factors against the values below, and tries a refusal
- * of each call. Prints what it found; the exit status is 0 only where all of it is as expected.
+/* The two calls from C: reads two sample sheets of version 1, holds their reports and factors against the values below, and tries
+ * refusals of each call. Then the same for the sheets of version 2 that have the products of their lists as a grid, which must
+ * answer alike. Prints what it found; the exit status is 0 only where all of it is as expected.
  *
  * usage: example EXAMPLE.evp TABLE-3-5-DAY.evp */
 #include <inttypes.h>
 #include <stdio.h>
+#include <string.h>
 
 #include "evaporation.h"
 
@@ -36,6 +38,11 @@ static int read_sheet(const char *path) {
     return 1;
 }
 
+/* Two bytes of the sheet, the lowest first: the version, or a count. */
+static uint64_t count_at(size_t at) {
+    return sheet[at] + UINT64_C(256) * sheet[at + 1];
+}
+
 static void clear_words(void) {
     for (size_t i = 0; i < EVP_REPORT_WORDS; i++)
         words[i] = UNTOUCHED;
@@ -61,7 +68,8 @@ static void expect_report(const uint64_t *expected, size_t count) {
 static void expect_factors(uint64_t row, const uint64_t expected[7][2]) {
     for (uint64_t factor = 1; factor <= 7; factor++) {
         struct evp_factor_band answer = evp_factor(sheet, sheet_bytes, 0, row, factor);
-        printf("row %" PRIu64 " factor %" PRIu64 ": %" PRIu64 " to %" PRIu64 " micrograms\n", row, factor, answer.low, answer.high);
+        printf("version %" PRIu64 " row %" PRIu64 " factor %" PRIu64 ": %" PRIu64 " to %" PRIu64 " micrograms\n", count_at(3), row,
+               factor, answer.low, answer.high);
         expect("number of the factor", answer.number, EVP_ACCEPTED);
         expect("low of the factor", answer.low, expected[factor - 1][0]);
         expect("high of the factor", answer.high, expected[factor - 1][1]);
@@ -93,6 +101,28 @@ static const uint64_t table_factors[7][2] = {
     {127906, 127910},   {1840815, 1840819}, {10061793, 10061798},
 };
 
+static void put_count(size_t at, uint64_t count) {
+    sheet[at] = (uint8_t)(count % 256);
+    sheet[at + 1] = (uint8_t)(count / 256);
+}
+
+/* The sheet, of version 1 until now, as one of version 2: the grid has the products of the two lists, end hour 1 first, and all
+ * else stands behind it as before. */
+static void make_grid(void) {
+    enum { LIST = 24, DURATIONS = 8, HOURS = 56 };
+    uint64_t durations[LIST], hours[LIST];
+    for (size_t i = 0; i < LIST; i++) {
+        durations[i] = count_at(DURATIONS + 2 * i);
+        hours[i] = count_at(HOURS + 2 * i);
+    }
+    memmove(sheet + EVP_GRID_END, sheet + EVP_LISTS_END, sheet_bytes - EVP_LISTS_END);
+    sheet_bytes += EVP_GRID_END - EVP_LISTS_END;
+    put_count(3, 2);
+    for (size_t t = 0; t < LIST; t++)
+        for (size_t d = 0; d < LIST; d++)
+            put_count(DURATIONS + 2 * (LIST * t + d), hours[t] * durations[d]);
+}
+
 /* One word too few, a row that is not there, and a sheet that lacks its last byte. */
 static void expect_refusals(uint64_t rows) {
     clear_words();
@@ -105,20 +135,50 @@ static void expect_refusals(uint64_t rows) {
     expect_untouched(0);
 }
 
-/* A tank above 150.0 litres in the second row, which starts at byte 136. */
-static void expect_place(void) {
-    const size_t second_row = 136, tank = second_row + 6;
-    uint8_t kept = sheet[tank + 1];
-    sheet[tank + 1] = 255;
+/* Both calls refuse the sheet with this number and place. */
+static void expect_refused(const char *what, uint64_t number, uint64_t place) {
     clear_words();
     struct evp_check answer = evp_report(sheet, sheet_bytes, words, EVP_REPORT_WORDS);
-    expect("number of a tank too large", answer.number, EVP_TANK);
-    expect("its place", answer.place, second_row);
     struct evp_factor_band factor = evp_factor(sheet, sheet_bytes, 0, 0, 1);
-    expect("number of a tank too large", factor.number, EVP_TANK);
-    expect("its place", factor.place, second_row);
+    expect(what, answer.number, number);
+    expect(what, answer.place, place);
+    expect(what, factor.number, number);
+    expect(what, factor.place, place);
     expect_untouched(0);
+}
+
+/* A tank above 150.0 litres in the second row, behind one season. */
+static void expect_place(size_t seasons_start) {
+    const size_t second_row = seasons_start + 8 + 24, tank = second_row + 6;
+    uint8_t kept = sheet[tank + 1];
+    sheet[tank + 1] = 255;
+    expect_refused("a tank too large", EVP_TANK, second_row);
     sheet[tank + 1] = kept;
+}
+
+/* In version 2, a grid of zeros and the other version in the head; what follows reads another sheet. */
+static void expect_grid_refusals(void) {
+    memset(sheet + 8, 0, EVP_GRID_END - 8);
+    expect_refused("a grid of zeros", EVP_GRID, 8);
+    put_count(3, 1);
+    expect_refused("version 1 with a grid", EVP_LENGTH, 0);
+    put_count(3, 3);
+    expect_refused("version 3", EVP_VERSION, 3);
+}
+
+/* The two samples: document 01's example, and three rows of Table 3-5. */
+static void expect_example(void) {
+    expect_report(example_words, EVP_WORDS_OF(1));
+    expect_factors(0, example_factors);
+    expect_refusals(1);
+}
+
+static void expect_table(size_t seasons_start) {
+    expect_report(table_words, EVP_WORDS_OF(3));
+    for (uint64_t row = 0; row < 3; row++)
+        expect_factors(row, table_factors);
+    expect_refusals(3);
+    expect_place(seasons_start);
 }
 
 int main(int count, char **paths) {
@@ -128,16 +188,15 @@ int main(int count, char **paths) {
     }
     if (!read_sheet(paths[1]))
         return 2;
-    expect_report(example_words, EVP_WORDS_OF(1));
-    expect_factors(0, example_factors);
-    expect_refusals(1);
+    expect_example();
+    make_grid();
+    expect_example();
     if (!read_sheet(paths[2]))
         return 2;
-    expect_report(table_words, EVP_WORDS_OF(3));
-    for (uint64_t row = 0; row < 3; row++)
-        expect_factors(row, table_factors);
-    expect_refusals(3);
-    expect_place();
+    expect_table(EVP_LISTS_END);
+    make_grid();
+    expect_table(EVP_GRID_END);
+    expect_grid_refusals();
     if (mismatches != 0) {
         printf("%d mismatches\n", mismatches);
         return 1;

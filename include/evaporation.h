@@ -3,9 +3,14 @@
  * They stand in the static library target/staticlib/libevaporation.a, which `rt staticlib evaporation` makes from the proved
  * crate (x86-64 Linux); it needs only the C library. c/example.c is a program over them.
  *
+ * Sheets of two versions are read, and the sheet itself says which it is: in version 1 the parking is two lists of 24 counts,
+ * durations and end hours; in version 2 it is a grid of 576 counts, end hour 1 first, its 24 durations in a row. What a call
+ * answers has the same form for both.
+ *
  * A sheet and a report are passed as a pointer and a number of elements. A pointer is never null, also where the number is 0,
- * and points to that many elements; those of the sheet are not written, and sheet and words do not overlap. Neither call keeps
- * a pointer, takes memory, reads or writes a file or holds state: two threads may call at once with words of their own.
+ * and points to that many elements; `words` is aligned for uint64_t, and the bytes of sheet and words must not overlap. Those
+ * of the sheet are not written. Neither call keeps a pointer, takes memory, reads or writes a file or holds state: two threads
+ * may call at once with words of their own.
  */
 #ifndef EVAPORATION_H
 #define EVAPORATION_H
@@ -17,26 +22,32 @@
 extern "C" {
 #endif
 
-/* The longest sheet, of 12 seasons and 32 rows, in bytes; and its report, in words. */
-#define EVP_SHEET_BYTES 968
+/* The longest sheet, of version 2 with 12 seasons and 32 rows, in bytes; and its report, in words. */
+#define EVP_SHEET_BYTES 2024
 #define EVP_REPORT_WORDS 218
+
+/* Where the parking ends and the seasons start, in version 1 and in version 2. A season has 8 bytes; the rows follow them. */
+#define EVP_LISTS_END 104
+#define EVP_GRID_END 1160
 
 /* The words of the report of a sheet with this many rows. */
 #define EVP_WORDS_OF(rows) (6 * (size_t)(rows) + 26)
 
-/* Why a call answers nothing else. 0 stands for a sheet that is accepted. The first that applies is returned, in this order,
- * with its place: a byte of the head, the first byte of a list, or the first byte of the season or row at fault. */
+/* Why a call answers nothing else. 0 stands for a sheet that is accepted. The first that applies is returned, in the order in
+ * which they stand here, with its place: a byte of the head, the first byte of a list or grid, or the first byte of the season
+ * or row at fault. 8 and 9 are of version 1 alone, 24 of version 2 alone. */
 enum evp_number {
     EVP_ACCEPTED = 0,
     EVP_HEAD_SHORT = 1,      /* the input has fewer than 8 bytes; place 0 */
     EVP_MARK = 2,            /* it does not start with the letters EVP; place 0 */
-    EVP_VERSION = 3,         /* the version is not 1; place 3 */
+    EVP_VERSION = 3,         /* the version is neither 1 nor 2; place 3 */
     EVP_SEASONS = 4,         /* the number of seasons is not 1 to 12; place 5 */
     EVP_ROWS = 5,            /* the number of rows is not 1 to 32; place 6 */
     EVP_HEAD_ZERO = 6,       /* the last byte of the head is not zero; place 7 */
-    EVP_LENGTH = 7,          /* the length is not 104 + 8 * seasons + 24 * rows; place 0 */
+    EVP_LENGTH = 7,          /* the length is not 104 + 8 * seasons + 24 * rows, in version 2 1160 + ..; place 0 */
     EVP_DURATIONS = 8,       /* the 24 counts of durations do not sum to 1 to 1,000; place 8 */
     EVP_HOURS = 9,           /* the 24 counts of end hours do not sum to 1 to 1,000; place 56 */
+    EVP_GRID = 24,           /* the 576 counts of the grid do not sum to 1 to 1,000,000; place 8 */
     EVP_DAYS = 10,           /* the days of a season, or of all seasons up to it, are not 1 to 366 */
     EVP_TEMPERATURES = 11,   /* a temperature is not -30.0 to 50.0 degrees C, or the lowest is above the highest */
     EVP_VAPOUR_PRESSURE = 12,/* the vapour pressure is not 30.0 to 110.0 kPa */

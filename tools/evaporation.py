@@ -5,6 +5,12 @@ The method is Tier 3 of the guidebook (source document 001) as document 01
 settles it. This file is a second reckoning, made apart from the program, so
 that the program's lows and highs can be held against it.
 
+Sheets of two versions are read. Version 1 has two lists of counts, durations
+and end hours; version 2 has a grid of 576 counts, end hour 1 first, its 24
+durations in a row. Both are read as a grid, that of two lists being their
+products, and a cell weighs its count over the sum of all. Whatever follows the
+reading knows the grid alone.
+
 Two ways of reckoning ("modes"):
 
 exact    Fractions all through. Right for every n, but the fractions grow
@@ -123,7 +129,8 @@ Row = namedtuple(
     "vehicle_class technology canister carburettor hot fill tank vehicles "
     "trips minutes load saturation spare",
 )
-Sheet = namedtuple("Sheet", "durations hours seasons rows")
+# The grid has a tuple for each end hour, of the counts of its 24 durations.
+Sheet = namedtuple("Sheet", "grid seasons rows")
 
 
 def _u16(data, at):
@@ -136,6 +143,21 @@ def _i16(data, at):
 
 def _u32(data, at):
     return int.from_bytes(data[at:at + 4], "little")
+
+
+def _counts(data, at, many):
+    return tuple(_u16(data, at + 2 * i) for i in range(many))
+
+
+def _has_grid(data):
+    """Whether the parking is a grid (version 2) or two lists (version 1)."""
+    return _u16(data, 3) == 2
+
+
+def seasons_start(data):
+    """Where the first season starts: the parking is 96 bytes of lists, or 1152
+    of a grid, behind a head of 8."""
+    return 1160 if _has_grid(data) else 104
 
 
 def season_at(data, at):
@@ -177,7 +199,7 @@ def check(data, words=None, call=None):
         return 1, 0
     if bytes(data[0:3]) != b"EVP":
         return 2, 0
-    if _u16(data, 3) != 1:
+    if _u16(data, 3) not in (1, 2):
         return 3, 3
     seasons, rows = data[5], data[6]
     if not 1 <= seasons <= 12:
@@ -186,17 +208,17 @@ def check(data, words=None, call=None):
         return 5, 6
     if data[7] != 0:
         return 6, 7
-    if len(data) != 104 + 8 * seasons + 24 * rows:
+    start = seasons_start(data)
+    if len(data) != start + 8 * seasons + 24 * rows:
         return 7, 0
-    if not 1 <= sum(_u16(data, 8 + 2 * i) for i in range(24)) <= 1000:
-        return 8, 8
-    if not 1 <= sum(_u16(data, 56 + 2 * i) for i in range(24)) <= 1000:
-        return 9, 56
+    refusal = _check_grid(data) if _has_grid(data) else _check_lists(data)
+    if refusal is not None:
+        return refusal
 
     all_seasons = []
     days = 0
     for index in range(seasons):
-        place = 104 + 8 * index
+        place = start + 8 * index
         season = season_at(data, place)
         days += season.days
         if not 1 <= season.days <= 366 or days > 366:
@@ -208,7 +230,7 @@ def check(data, words=None, call=None):
         all_seasons.append(season)
 
     for index in range(rows):
-        place = 104 + 8 * seasons + 24 * index
+        place = start + 8 * seasons + 24 * index
         number = _check_row(row_at(data, place), all_seasons)
         if number is not None:
             return number, place
@@ -219,6 +241,20 @@ def check(data, words=None, call=None):
         season, row, k = call
         if not (0 <= season < seasons and 0 <= row < rows and 1 <= k <= 7):
             return 23, 0
+    return None
+
+
+def _check_lists(data):
+    if not 1 <= sum(_counts(data, 8, 24)) <= 1000:
+        return 8, 8
+    if not 1 <= sum(_counts(data, 56, 24)) <= 1000:
+        return 9, 56
+    return None
+
+
+def _check_grid(data):
+    if not 1 <= sum(_counts(data, 8, 576)) <= 1_000_000:
+        return 24, 8
     return None
 
 
@@ -255,13 +291,19 @@ def read(data):
     refusal = check(data)
     if refusal is not None:
         raise ValueError("refused %d at %d" % refusal)
-    seasons, rows = data[5], data[6]
+    start, seasons, rows = seasons_start(data), data[5], data[6]
     return Sheet(
-        tuple(_u16(data, 8 + 2 * i) for i in range(24)),
-        tuple(_u16(data, 56 + 2 * i) for i in range(24)),
-        tuple(season_at(data, 104 + 8 * i) for i in range(seasons)),
-        tuple(row_at(data, 104 + 8 * seasons + 24 * i) for i in range(rows)),
+        _grid(data),
+        tuple(season_at(data, start + 8 * i) for i in range(seasons)),
+        tuple(row_at(data, start + 8 * seasons + 24 * i) for i in range(rows)),
     )
+
+
+def _grid(data):
+    if _has_grid(data):
+        return tuple(_counts(data, 8 + 48 * i, 24) for i in range(24))
+    durations, hours = _counts(data, 8, 24), _counts(data, 56, 24)
+    return tuple(tuple(j * q for j in durations) for q in hours)
 
 
 # ------------------------------------------------------- series, root, modes
@@ -459,39 +501,39 @@ def is_two_wheeler(row):
 
 
 def cells(sheet):
-    """The cells of the parking grid that weigh something: (d, t, weight) with
-    d half-hours, end hour t, and weight the product of the two counts."""
+    """The cells of the parking grid that weigh something: (d, t, count) with
+    d half-hours and end hour t."""
     return [
-        (d, t, j * q)
-        for d, j in enumerate(sheet.durations, 1) if j
-        for t, q in enumerate(sheet.hours, 1) if q
+        (d, t, count)
+        for t, counts in enumerate(sheet.grid, 1)
+        for d, count in enumerate(counts, 1) if count
     ]
 
 
 def _mean(sheet, numbers, total):
-    return numbers.scaled(total, Fraction(1, sum(sheet.durations) * sum(sheet.hours)))
+    return numbers.scaled(total, Fraction(1, sum(map(sum, sheet.grid))))
 
 
 def _mean_at_start(sheet, day, value):
     """Mean over the cells of what depends on the start mark alone."""
     weights = [0] * 48
-    for d, t, weight in cells(sheet):
-        weights[start_mark(t, d)] += weight
+    for d, t, count in cells(sheet):
+        weights[start_mark(t, d)] += count
     return _mean(sheet, day.numbers, sum(w * value(i) for i, w in enumerate(weights) if w))
 
 
 def _mean_at_end(sheet, day, value):
     """Mean over the cells of what depends on the end mark alone."""
     weights = [0] * 48
-    for d, t, weight in cells(sheet):
-        weights[2 * t % 48] += weight
+    for d, t, count in cells(sheet):
+        weights[2 * t % 48] += count
     return _mean(sheet, day.numbers, sum(w * value(i) for i, w in enumerate(weights) if w))
 
 
 def _diurnal(sheet, day, row):
     by_start = {}
-    for d, t, weight in cells(sheet):
-        by_start.setdefault(start_mark(t, d), {})[d] = weight
+    for d, t, count in cells(sheet):
+        by_start.setdefault(start_mark(t, d), {})[d] = count
     total = 0
     for start, lengths in by_start.items():
         escape = Escape(day, row, start)

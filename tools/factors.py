@@ -19,15 +19,15 @@ lowest byte first.
 import math
 import sys
 from collections import Counter, namedtuple
+from dataclasses import replace
 from fractions import Fraction
 from itertools import chain, product
 
 import evaporation
 import sheets
 from inputs import TOP, answer_text, packed, serve
-from sheets import BY_CLASS, EMPTY, PAIRS, ROW, SEASON, Chance, Plan, chance_plan, most
+from sheets import BY_CLASS, EMPTY, PAIRS, ROW, SEASON, Chance, Plan, cells_grid, chance_grid_plan, chance_plan, most
 
-ROOM = 65536  # what the program can read
 TERMS = (40, 60)
 NANOGRAMS = 10 ** 9
 
@@ -37,6 +37,7 @@ CLEAR = Fraction(1, 10 ** 40)
 
 LEAST_FACTORS = 260
 LEAST_OF_A_FACTOR = 30
+LEAST_OF_GRIDS = 100  # of version 2
 ALL = range(1, 8)
 
 # A sheet and the calls on it, each (season, row, factor).
@@ -142,6 +143,8 @@ def sample_groups():
     yield Group("Table 3-5", data, [*product(range(4), (0,), ALL)])
     data = (TOP / "samples" / "region.evp").read_bytes()
     yield Group("region", data, [(j % 4, j, 1 + j % 7) for j in range(data[6])])
+    data = (TOP / "samples" / "survey.evp").read_bytes()
+    yield Group("survey", data, [(j % 2, j, k) for j in range(data[6]) for k in (1, 2 + j % 6)])
 
 
 def chance_groups():
@@ -153,31 +156,90 @@ def chance_groups():
         yield Group("values by chance", data, sorted(set(calls)))
 
 
+# ---------------------------------------------------------------- version 2
+
+# A car without canister and a two-wheeler with one, on a day that crosses 0 C.
+TWO_ROWS = Plan(
+    ({**SEASON, "lowest": -42, "highest": 263, "vp": 905},),
+    (PLAIN, {**ROW, "class": 9, "technology": 0, "load": 250, "saturation": 300, "fill": 12}),
+)
+TWO_ROWS_CALLS = [*product((0,), (0,), ALL), (0, 1, 1), (0, 1, 3), (0, 1, 6)]
+
+# No two lists have these cells alone, or with these counts. The last is full:
+# long parkings end late and short ones early.
+UNLISTED = {
+    "two cells": {(24, 7): 5, (2, 14): 3},
+    "a cell of each duration": {(d, (5 * d) % 24 + 1): d for d in range(1, 25)},
+    "three cells, of 65535 and of 1": {(9, 12): 65535, (9, 24): 1, (24, 12): 65535},
+    "long parkings end late": {(d, t): 1 + (d * t) ** 2 // 100 for d in range(1, 25) for t in range(1, 25)},
+}
+
+# Each has the factors and the masses of its grid of products. The sums of the
+# last are the largest that lists can have.
+LISTED = (
+    replace(TWO_ROWS, **dict(zip(("durations", "hours"), FEW))),
+    replace(TWO_ROWS, **dict(zip(("durations", "hours"), one_cell(24, 14)))),
+    chance_plan(2, 3),
+    chance_plan(4, 4),
+    replace(chance_plan(3, 2), durations=(41,) * 23 + (57,), hours=(57,) + (41,) * 23),
+)
+
+
+def grid_cell_groups():
+    """Single parkings; the count does not matter."""
+    for cell, count in {(3, 20): 1, (20, 3): 1000, (1, 24): 7, (24, 1): 65535, (24, 24): 1, (1, 1): 65535}.items():
+        plan = replace(TWO_ROWS, grid=cells_grid({cell: count}))
+        yield Group("grid: %d half-hours to hour %d, count %d" % (*cell, count), plan.data(), TWO_ROWS_CALLS)
+
+
+def unlisted_groups():
+    for words, cells in UNLISTED.items():
+        yield Group("grid: " + words, replace(TWO_ROWS, grid=cells_grid(cells)).data(), TWO_ROWS_CALLS)
+
+
+def listed_groups():
+    """Lists, and the grid of their products."""
+    for i, plan in enumerate(LISTED, 1):
+        calls = [
+            (s, r, 1 + (s + 3 * r + k) % 7)
+            for s in range(len(plan.seasons)) for r in range(len(plan.rows)) for k in (0, 2, 5)]
+        yield Group("pair %d, lists" % i, plan.data(), calls)
+        yield Group("pair %d, grid" % i, plan.gridded().data(), calls)
+
+
+def chance_grid_groups():
+    """Cells all over the grid; the largest sum is among them."""
+    for seasons, rows, total in ((2, 3, 577), (3, 4, 123_456), (2, 5, 1_000_000)):
+        calls = [(j % seasons, j % rows, 1 + j % 7) for j in range(14)]
+        data = chance_grid_plan(seasons, rows, total).data()
+        yield Group("grid by chance, sum %d" % total, data, sorted(set(calls)))
+
+
 # ------------------------------------------------------------------ refused
 
 LARGEST = 2 ** 64 - 1
 
 
-def absent_group():
+def absent_groups():
     """A season, a row or a factor that is not there, number 23."""
-    plan = sheets.BASE
+    for plan in (sheets.BASE, sheets.BASE_GRID):
+        yield Group("absent", plan.data(), absent_calls(plan))
+
+
+def absent_calls(plan):
     seasons, rows = len(plan.seasons), len(plan.rows)
-    calls = [
+    return [
         (seasons, 0, 1), (0, rows, 1), (0, 0, 0), (0, 0, 8), (seasons, rows, 8), (seasons - 1, rows, 7),
         (LARGEST, 0, 1), (0, LARGEST, 1), (0, 0, LARGEST), (256, 0, 1), (0, 256, 1), (0, 0, 257), (2 ** 32, 0, 1),
         (0, 2 ** 32, 1), (0, 0, 2 ** 32 + 1),
     ]
-    return Group("absent", plan.data(), calls)
 
 
 def refused_groups():
     """A sheet for each number, which is returned whether the call's season,
     row and factor are there or not."""
-    found = {}
-    for case in sheets.all_cases():
-        found.setdefault(case.answer[0], case)
-    for number in range(1, sheets.LAST_NUMBER + 1):
-        yield Group(found[number].words, found[number].data, [(0, 0, 1), (LARGEST, LARGEST, 0)])
+    for case in sheets.refused_cases():
+        yield Group(case.words, case.data, [(0, 0, 1), (LARGEST, LARGEST, 0)])
 
 
 # ------------------------------------------------------------------ the file
@@ -209,7 +271,11 @@ def groups():
     yield from load_groups()
     yield from pair_groups()
     yield from chance_groups()
-    yield absent_group()
+    yield from grid_cell_groups()
+    yield from unlisted_groups()
+    yield from listed_groups()
+    yield from chance_grid_groups()
+    yield from absent_groups()
     yield from refused_groups()
 
 
@@ -234,8 +300,15 @@ def missing(found):
         yield "not every class with every canister"
     if {row.canister for row in rows} != {0, 1, 2, 3, BY_CLASS}:
         yield "not every canister code"
-    if {call.number for _, call in calls} != {0, 23, *range(1, sheets.LAST_NUMBER + 1)}:
+    if {call.number for _, call in calls} != {0, 23, *sheets.NUMBERS}:
         yield "not every number"
+    of_grids = sum(sheets.is_grid(group.data) for group, call in calls if not call.number)
+    if of_grids < LEAST_OF_GRIDS:
+        yield "%d factors of version 2" % of_grids
+    calls_of = {group.data: group.calls for group in found}
+    for plan in LISTED:
+        if calls_of[plan.data()] != calls_of[plan.gridded().data()]:
+            yield "lists and the grid of their products have other factors"
 
 
 def encoded(found):
@@ -254,4 +327,4 @@ def lines(found):
 
 
 if __name__ == "__main__":
-    serve(__doc__, "factor_vectors", ROOM, all_groups, encoded, missing, lines)
+    serve(__doc__, "factor_vectors", all_groups, encoded, missing, lines)

@@ -6,6 +6,8 @@ from pathlib import Path
 
 TOP = Path(__file__).resolve().parent.parent
 
+ROOM = 2 ** 19  # what a program can read: `buffer` of crates/vectors/src/input.rt
+
 
 def packed(size, numbers):
     """Numbers of this many bytes each, the lowest byte first."""
@@ -16,12 +18,12 @@ def answer_text(number, place):
     return "refused %d at %d" % (number, place) if number else "accepted"
 
 
-def serve(doc, program, room, found, encoded, missing=None, lines=None):
+def serve(doc, program, found, encoded, missing=None, lines=None):
     """Writes crates/PROGRAM/stdin, or with --check says whether it is up to
     date, or with --list prints a line for each vector.
 
     found() makes the vectors, encoded(vectors) the bytes of the file, of which
-    the program reads `room`; missing(vectors) yields what they should show and
+    the program reads ROOM; missing(vectors) yields what they should show and
     do not, lines(vectors) what --list prints."""
     words = sys.argv[1:]
     if words not in ([], ["--check"], *([["--list"]] if lines else [])):
@@ -30,8 +32,8 @@ def serve(doc, program, room, found, encoded, missing=None, lines=None):
     vectors = found()
     data = encoded(vectors)
     faults = list(missing(vectors)) if missing else []
-    if len(data) > room:
-        faults.append("%d bytes, and the program reads %d" % (len(data), room))
+    if len(data) > ROOM:
+        faults.append("%d bytes, and the program reads %d" % (len(data), ROOM))
     if faults:
         sys.exit("%s: %s" % (tool, "; ".join(faults)))
     name = "crates/%s/stdin" % program

@@ -23,15 +23,15 @@ from itertools import chain
 
 import evaporation
 import sheets
-from factors import few_cells, one_cell, whole
+from factors import LISTED, TWO_ROWS, UNLISTED, few_cells, one_cell, whole
 from inputs import TOP, answer_text, packed, serve
-from sheets import EMPTY, PAIRS, ROW, SEASON, Chance, Plan, chance_plan
+from sheets import EMPTY, PAIRS, ROW, SEASON, Chance, Plan, cells_grid, chance_grid_plan, chance_plan, grid_of
 
-ROOM = 2 ** 18  # what the program can read
 WORDS = 256  # the words of its buffer
 MILLIGRAMS = 1000
 
 LEAST_ACCEPTED = 60
+LEAST_GRIDS = 20  # of version 2
 MOST_AT_60 = 40  # seasons times rows up to which n = 60 is calculated too
 
 # A sheet and the words of the buffer.
@@ -56,7 +56,7 @@ def roomy(words, plan):
 
 
 def sample_cases():
-    for name in ("example", "table-3-5", "table-3-5-day", "region"):
+    for name in ("example", "table-3-5", "table-3-5-day", "region", "survey"):
         data = (TOP / "samples" / (name + ".evp")).read_bytes()
         yield Case(name, data, length(data))
 
@@ -115,12 +115,53 @@ def limit_cases():
     yield roomy("trips of no minutes", Plan((hot,), ({**largest, "minutes": 0, "carburettor": 0},), *one_cell(1, 24)))
 
 
+# ------------------------------------------------------------------ version 2
+
+
+def listed_plans():
+    """Sheets whose lists are held against the grid of their products."""
+    yield sheets.EXAMPLE
+    yield from LISTED
+    yield whole_year(chance_plan(12, 2))
+    chance = Chance("pairs")
+    yield from (thinned(chance, chance_plan(*size)) for size in ((1, 7), (5, 3), (2, 32)))
+
+
+def listed_cases():
+    for i, plan in enumerate(listed_plans(), 1):
+        yield exactly("pair %d, lists" % i, plan)
+        yield exactly("pair %d, grid" % i, plan.gridded())
+
+
+def cell_cases():
+    """Single parkings, which a grid read the other way round puts elsewhere."""
+    for i, (cell, count) in enumerate({(3, 20): 1, (20, 3): 65535, (1, 24): 9, (24, 1): 1, (24, 14): 65535}.items()):
+        plan = replace(TWO_ROWS, grid=cells_grid({cell: count}))
+        yield (exactly, roomy)[i % 2]("grid: %d half-hours to hour %d, count %d" % (*cell, count), plan)
+
+
+def unlisted_cases():
+    for words, cells in UNLISTED.items():
+        yield exactly("grid: " + words, replace(TWO_ROWS, grid=cells_grid(cells)))
+
+
+def chance_grid_cases():
+    """Cells all over the grid, and the largest sum: over all cells, and in as
+    few as can hold it."""
+    for i, (seasons, rows, total) in enumerate(((1, 1, 576), (2, 3, 65_537), (4, 4, 1_000_000), (1, 32, 1_000_000))):
+        plan = chance_grid_plan(seasons, rows, total)
+        yield (exactly, roomy)[i % 2]("grid by chance, sum %d, %s" % (total, sheets.sized(plan)), whole_year(plan))
+    for start in (0, 560):
+        plan = replace(chance_plan(3, 2), grid=grid_of(sheets.MILLION, start))
+        yield exactly("grid: sum 1000000 from cell %d on" % start, plan)
+
+
 # -------------------------------------------------------------------- refused
 
 
 def short_cases():
     """Buffers of no word, one word and a word too few, number 22."""
-    for plan in (sheets.SMALLEST, sheets.BASE, sheets.LARGEST):
+    for plan in (sheets.SMALLEST, sheets.BASE, sheets.LARGEST, sheets.SMALL_GRID, sheets.LARGE_GRID):
         data = plan.data()
         for room in (0, 1, 6 * data[6], length(data) - 1):
             yield Case("room for %d words, %s" % (room, sheets.sized(plan)), data, room)
@@ -128,12 +169,9 @@ def short_cases():
 
 def refused_cases():
     """A sheet for each number, with room for any report and with none."""
-    found = {}
-    for case in sheets.all_cases():
-        found.setdefault(case.answer[0], case)
-    for number in range(1, sheets.LAST_NUMBER + 1):
+    for case in sheets.refused_cases():
         for room in (WORDS, 0):
-            yield Case(found[number].words, found[number].data, room)
+            yield Case(case.words, case.data, room)
 
 
 # ------------------------------------------------------------------- the file
@@ -165,7 +203,10 @@ def vector(case):
 
 
 def all_vectors():
-    groups = (sample_cases, chance_cases, full_cases, category_cases, limit_cases, short_cases, refused_cases)
+    groups = (
+        sample_cases, chance_cases, full_cases, category_cases, limit_cases, listed_cases, cell_cases, unlisted_cases,
+        chance_grid_cases, short_cases, refused_cases,
+    )
     return [vector(case) for group in groups for case in group()]
 
 
@@ -174,8 +215,15 @@ def missing(vectors):
     accepted = [evaporation.read(v.case.data) for v in vectors if v.rows]
     if len(accepted) < LEAST_ACCEPTED:
         yield "%d accepted sheets" % len(accepted)
-    if {v.answer[0] for v in vectors} != {*range(sheets.LAST_NUMBER + 2)}:
+    if {v.answer[0] for v in vectors} != {0, 22, *sheets.NUMBERS}:
         yield "not every number"
+    grids = sum(sheets.is_grid(v.case.data) for v in vectors if v.rows)
+    if grids < LEAST_GRIDS:
+        yield "%d accepted sheets of version 2" % grids
+    rows_of = {v.case.data: v.rows for v in vectors}
+    for plan in listed_plans():
+        if rows_of[plan.data()] != rows_of[plan.gridded().data()]:
+            yield "lists and the grid of their products have other masses"
     for words, found, wanted in (
         ("rows", {len(sheet.rows) for sheet in accepted}, {1, 32}),
         ("seasons", {len(sheet.seasons) for sheet in accepted}, {1, 12}),
@@ -202,4 +250,4 @@ def lines(vectors):
 
 
 if __name__ == "__main__":
-    serve(__doc__, "report_vectors", ROOM, all_vectors, encoded, missing, lines)
+    serve(__doc__, "report_vectors", all_vectors, encoded, missing, lines)

@@ -25,7 +25,7 @@ import evaporation as ev  # noqa: E402
 import sheet as writer  # noqa: E402
 
 SAMPLES = os.path.join(os.path.dirname(HERE), "samples")
-NAMES = ("example", "table-3-5", "table-3-5-day", "region")
+NAMES = ("example", "table-3-5", "table-3-5-day", "region", "survey")
 MICROGRAM = Fraction(1, 10 ** 6)
 
 
@@ -117,6 +117,24 @@ def check_writer():
         ("row class=1 technology=0 trips=655.36", "line 1: trips: 655.36 does not fit"),
         ("season days=1 lowest=1 highest=3276.8 vp=60", "line 1: highest: 3276.8 does not fit"),
         ("durations 65536", "line 1: durations: 65536 does not fit"),
+        # a grid: its end hours, 24 counts to each, and no lists beside it
+        ("grid", "line 1: grid: an end hour and its counts wanted"),
+        ("grid 0 1", "line 1: grid: end hour 0 is not 1 to 24"),
+        ("grid 25 1", "line 1: grid: end hour 25 is not 1 to 24"),
+        ("grid 256 1", "line 1: grid: 256 does not fit"),
+        ("grid 1.0 1", "line 1: grid: 1.0 has a point"),
+        ("grid -1 1", "line 1: grid: -1 has a sign"),
+        ("grid x 1", "line 1: grid: 'x' is no number"),
+        ("grid 3 1 65536", "line 1: grid 3: 65536 does not fit"),
+        ("grid 3 1 2.0", "line 1: grid 3: 2.0 has a point"),
+        ("grid 3 1 1e2", "line 1: grid 3: '1e2' is no number"),
+        ("grid 3" + " 1" * 25, "line 1: grid 3: 24 counts wanted, 25 found"),
+        ("grid 3" + " 1" * 20 + "\n\ngrid 3" + " 1" * 5, "line 3: grid 3: 24 counts wanted, 25 found"),
+        (grid_text({}).replace("grid 24 0", "grid 24"), "line 24: grid 24: 24 counts wanted, 23 found"),
+        (grid_text({}).replace("grid 7 ", "grid 8 "), "line 8: grid 8: 24 counts wanted, 48 found"),
+        ("\n".join(grid_text({}).split("\n")[:23]), "line 23: grid 24: 24 counts wanted, 0 found"),
+        ("durations 1\n" + grid_text({}), "line 2: a grid stands in place of durations and hours"),
+        (grid_text({}) + "hours 1", "line 25: a grid stands in place of durations and hours"),
     )
     for text, expected in faults:
         try:
@@ -127,6 +145,54 @@ def check_writer():
         else:
             raise Failure("writer: %r was taken" % text)
     return "%d texts that cannot be read: each named with its line" % len(faults)
+
+
+def grid_text(cells):
+    """The lines of a grid with these counts: {(half-hours, end hour): count}."""
+    return "".join(
+        "grid %d %s\n" % (t, " ".join(str(cells.get((d, t), 0)) for d in range(1, 25))) for t in range(1, 25))
+
+
+def check_grid_text():
+    """Where the writer puts the counts of a grid, and that it reads them back."""
+    rest = "season days=1 lowest=1 highest=2 vp=60\nrow class=1 technology=0\n"
+    data = writer.write(grid_text({(1, 1): 7, (2, 1): 258, (1, 2): 65535, (24, 24): 3, (3, 20): 9}) + rest)
+    same(len(data), 1160 + 8 + 24, "bytes of a sheet with a grid")
+    same(data[:8], b"EVP\2\0\1\1\0", "head of a sheet with a grid")
+    same({at: data[at] for at in range(8, 1160) if data[at]},
+         {8: 7, 10: 2, 11: 1, 56: 255, 57: 255, 8 + 48 * 19 + 4: 9, 1158: 3}, "bytes of a grid")
+    same(data[1160:1168].hex(), "01000a0014005802", "season behind a grid")
+    same(writer.read(data).count("grid "), 24, "lines of a grid read back")
+    for name, sheet in (("grid", data), ("survey", sample("survey", ".evp"))):
+        want("version" not in writer.read(sheet), "%s: the text gives the version", name)
+        same(writer.write(writer.read(sheet)), sheet, "%s read back" % name)
+    # in any order, and spread over lines
+    lines = grid_text({(1, 5): 4, (24, 5): 6}).splitlines()
+    mixed = lines[::-1]
+    mixed[mixed.index(lines[4])] = "grid 5 4" + " 0" * 11 + "\ngrid 05" + " 0" * 11 + " 6  # the later half"
+    found, expected = (writer.write("\n".join(order) + "\n" + rest) for order in (mixed, lines))
+    same(found, expected, "a grid in disorder")
+    # faulty ones: the head says another version, and bytes that the other lacks
+    for text, verdict in (
+        (grid_text({(1, 1): 1}) + rest + "version 1", "refused 7 at 0 "),
+        (grid_text({(1, 1): 1}) + rest + "version 3", "refused 3 at 3 (the version is neither 1 nor 2)"),
+        (FEW_CELLS + rest + "version 2", "refused 7 at 0 "),
+        (grid_text({}) + rest, "refused 24 at 8 (grid counts sum to 0 or above 1,000,000)"),
+        (grid_text({(1, 1): 1}) + rest + rest.replace("highest=2", "highest=0"), "refused 11 at 1168 (season 2: "),
+        (grid_text({(1, 1): 1}) + rest + "row class=9 technology=3", "refused 13 at 1192 (row 2: "),
+    ):
+        found = writer.verdict(writer.write(text))
+        want(found.startswith(verdict), "writer: %r found, %r expected", found, verdict)
+    for version in (1, 3):
+        other = writer.write(grid_text({(5, 6): 1}) + rest + "version %d" % version)
+        same(writer.write(writer.read(other)), other, "a grid under version %d read back" % version)
+    try:
+        writer.read(writer.write(FEW_CELLS + rest + "version 2"))
+    except writer.TextError as error:
+        want("too few" in str(error), "read of version 2 without a grid: %s", error)
+    else:
+        raise Failure("lists under version 2 were read as a grid")
+    return "a text with a grid: each count at its byte, read back the same; faulty ones named"
 
 
 def check_edges():
@@ -201,7 +267,7 @@ def check_write():
         want(not os.path.exists(at("d.evp")), "a sheet of 12.000 vehicles was written")
         same(run_writer("write", at("none.txt"))[0], 2, "write of no file")
         same(run_writer("write", at("a.txt"), at("below"))[0], 2, "write to a folder")
-    same(sorted(writer.MEANINGS), list(range(1, 22)), "numbers with a meaning")
+    same(sorted(writer.MEANINGS), [*range(1, 22), 24], "numbers with a meaning")
     return "the command: what it wrote and whether it is accepted; its text never overwritten"
 
 
@@ -424,7 +490,7 @@ def plain_factors(sheet, season, row):
     sums = [0.0] * 7
     for j in range(24):
         for q in range(24):
-            weight = sheet.durations[j] * sheet.hours[q]
+            weight = sheet.grid[q][j]
             if not weight:
                 continue
             length, end = (j + 1) / 2, q + 1
@@ -444,13 +510,13 @@ def plain_factors(sheet, season, row):
                     running + (vapour(T2, T2 + rise) if s is None else 0) for rise in (1, 5)]
             for k in range(7):
                 sums[k] += weight * cell[k]
-    return [x / sum(sheet.durations) / sum(sheet.hours) for x in sums]
+    return [x / sum(map(sum, sheet.grid)) for x in sums]
 
 
 def check_plain():
     farthest = 0.0
     count = 0
-    sheets = [ev.read(sample(name, ".evp")) for name in ("table-3-5-day", "region")] + spread()
+    sheets = [ev.read(sample(name, ".evp")) for name in ("table-3-5-day", "region", "survey")] + spread()
     for sheet in sheets:
         season = len(sheet.seasons) // 2
         for row in range(0, len(sheet.rows), 2):
@@ -488,6 +554,101 @@ def check_masses():
     return "masses of %d rows of the region against plain floating point; none without vehicles" % len(rows)
 
 
+def as_grid(data):
+    """The bytes of version 2 for those of version 1: the products of the two
+    lists as the grid, else the same."""
+    counts = [int.from_bytes(data[at:at + 2], "little") for at in range(8, 104, 2)]
+    durations, hours = counts[:24], counts[24:]
+    counts = b"".join((j * q).to_bytes(2, "little") for q in hours for j in durations)
+    return data[:3] + b"\2\0" + data[5:8] + counts + data[104:]
+
+
+def turned(data):
+    """A grid read the other way round: durations before end hours."""
+    cells = [data[8 + 2 * i:10 + 2 * i] for i in range(576)]
+    return data[:8] + b"".join(cells[24 * t + d] for d in range(24) for t in range(24)) + data[1160:]
+
+
+def said_exact(data, n):
+    """What the commands factors and masses print in fractions."""
+    with tempfile.TemporaryDirectory() as folder:
+        path = os.path.join(folder, "sheet")
+        with open(path, "wb") as file:
+            file.write(data)
+        out = io.StringIO()
+        for command in ("factors", "masses"):
+            same(ev.run([command, path, "--n", str(n), "--exact"], out), 0, command)
+    return out.getvalue()
+
+
+def check_products():
+    """Lists and the grid of their products: the same fractions. With the grid
+    turned they are others, so that this can be seen to fail."""
+    values = 0
+    for case in SMALL_CASES:
+        lists = writer.write(FEW_CELLS + case)
+        same(ev.check(as_grid(lists)), None, "check of a grid of products")
+        for n in (2, 3):
+            said = said_exact(lists, n)
+            want(said_exact(as_grid(lists), n) == said, "the fractions of a grid of products at n = %d", n)
+            want(said_exact(turned(as_grid(lists)), n) != said, "a grid that is turned has the same fractions")
+            values += said.count("\n")
+    # all 576 cells, at n = 40; the tables' products sum to 980,036
+    for name, rows in (("table-3-5", (0, 1, 2)), ("region", (0, 5, 20))):
+        data = sample(name, ".evp")
+        lists, grid = ev.read(data), ev.read(as_grid(data))
+        for row in rows:
+            same(ev.masses(grid, row), ev.masses(lists, row), "masses of %s as a grid" % name)
+            values += 3
+    return "lists and the grid of their products, %d values: the same fractions; others where it is turned" % values
+
+
+def check_cells():
+    """A grid's factor is the mean of its cells' factors, weighed by count over
+    sum. Each cell's is taken from a sheet of version 1 with that cell alone."""
+    season = "season days=1 lowest=3.0 highest=21.0 vp=70.0\n"
+    cells = {(1, 13): 5, (6, 24): 1, (18, 7): 3, (24, 16): 2}
+    for row in (
+        "row class=1 technology=0 fill=35 minutes=20",
+        "row class=2 technology=1 fill=20 minutes=20 load=20.0 saturation=22.0",
+        "row class=9 technology=0 fill=20 load=30.0 saturation=61.0",
+    ):
+        of_cells = {
+            (d, t): ev.factors(sheet_of("durations%s\nhours%s\n" % (
+                "".join(" %d" % (i == d) for i in range(1, 25)), "".join(" %d" % (i == t) for i in range(1, 25)),
+            ) + season + row), 0, 0, 3, "exact")
+            for d, t in cells
+        }
+        found = ev.factors(sheet_of(grid_text(cells) + season + row), 0, 0, 3, "exact")
+        for k in range(7):
+            mean = sum(count * of_cells[cell][k] for cell, count in cells.items()) / Fraction(11)
+            same(found[k], mean, "factor %d of four cells" % (k + 1))
+        # a count more moves the mean, twice the counts do not
+        more = ev.factors(sheet_of(grid_text({**cells, (18, 7): 4}) + season + row), 0, 0, 3, "exact")
+        want(more[0] != found[0], "a count of the grid does not count")
+        twice = {cell: 2 * count for cell, count in cells.items()}
+        same(ev.factors(sheet_of(grid_text(twice) + season + row), 0, 0, 3, "exact"), found, "twice the counts")
+    return "grids of four cells: each factor is the mean of its cells' factors, weighed by count over sum"
+
+
+def check_survey():
+    """No two lists hold the survey: it has cells a, b of one end hour and c, d
+    of another with a.d other than b.c. Its margins give other masses."""
+    sheet = ev.read(sample("survey", ".evp"))
+    grid = sheet.grid
+    same((sum(map(sum, grid)), grid[11][17], grid[16][17], grid[12][0]), (21108, 0, 420, 763), "counts of the survey")
+    want(grid[11][17] * grid[16][0] != grid[11][0] * grid[16][17], "two lists hold the survey")
+    lengths = [sum(hour[d] for hour in grid) for d in range(24)]
+    same((lengths[17], sum(grid[11])), (1432, 1727), "margins of the survey")
+    margins = sheet._replace(grid=tuple(tuple(j * sum(hour) for j in lengths) for hour in grid))
+    apart = [float(y / x) - 1 for x, y in zip(ev.masses(sheet, 0), ev.masses(margins, 0))]
+    want(abs(apart[0]) > 0.01, "the margins of the survey give its diurnal mass")
+    # what depends on the end hour alone is in the margins
+    want(abs(apart[2]) < 1e-12, "the margins of the survey give another running mass")
+    return "the survey: no two lists hold it; its margins have a diurnal mass %+.1f %%, soak %+.1f %%" % (
+        100 * apart[0], 100 * apart[1])
+
+
 BASE = """
 durations 1 0 0 0 0 0 0 0 0 0 0 0 0 0 0 0 0 0 0 0 0 0 0 2
 hours     1 0 0 0 0 0 0 0 0 0 0 0 0 0 0 0 0 0 0 0 0 0 0 2
@@ -506,6 +667,46 @@ def patched(data, *changes):
     return bytes(data)
 
 
+def grid_refusals(lists):
+    """Cases of version 2, made of a sheet of version 1."""
+    base = as_grid(lists)
+    season_0, season_1, row_0, row_1 = 1160, 1168, 1176, 1200
+
+    def p(*changes):
+        return patched(base, *changes)
+
+    # fifteen full cells, of end hours 5 and 6; with the four of the base and
+    # this in the next they sum to a million
+    full = [(8 + 2 * i, 65535, 2) for i in range(96, 111)]
+    rest = 1_000_000 - 15 * 65535 - 9
+    at = 8 + 2 * 111
+    empty = [(8 + 2 * i, 0, 2) for i in range(576)]
+    return [
+        (base, None), (p((3, 1, 2)), (7, 0)), (p((3, 0, 2)), (3, 3)), (p((3, 3, 2)), (3, 3)),
+        (p((3, 258, 2)), (3, 3)), (p((3, 513, 2)), (3, 3)),
+        (base[:7], (1, 0)), (base[:8], (7, 0)), (base[:-1], (7, 0)), (base + b"\0", (7, 0)),
+        (base[:len(lists)], (7, 0)), (base[:1160], (7, 0)), (p((5, 1, 1)), (7, 0)), (p((6, 1, 1)), (7, 0)),
+        (p((5, 13, 1)), (4, 5)), (p((6, 0, 1)), (5, 6)), (p((7, 2, 1)), (6, 7)), (p((1, 0, 1)), (2, 0)),
+        (p(*empty), (24, 8)), (p(*empty, (8, 1, 2)), None), (p(*empty, (1158, 1, 2)), None),
+        (p(*empty, (104, 1, 2)), None), (p(*empty, (1158, 65535, 2)), None),
+        (p(*full, (at, rest, 2)), None), (p(*full, (at, rest + 1, 2)), (24, 8)), (p(*full, (at, rest - 1, 2)), None),
+        (p(*full, (at, rest, 2), (1156, 1, 2)), (24, 8)),
+        (p(*((place, 65535, 2) for place, _, _ in empty)), (24, 8)),
+        # 8 and 9 are of version 1 alone
+        (p((8, 1001, 2)), None), (p((56, 1001, 2)), None), (p((8, 0, 2), (54, 0, 2)), None),
+        # 24 stands behind 7 and before 10
+        (p(*empty) + b"\0", (7, 0)), (p(*empty, (7, 1, 1)), (6, 7)), (p(*empty, (season_0, 0, 2)), (24, 8)),
+        (p(*empty, (row_1, 0, 1)), (24, 8)), (p(*empty), (24, 8), 0), (p(*empty), (24, 8), None, (9, 9, 9)),
+        (p((season_0, 0, 2)), (10, season_0)), (p((season_1, 167, 2)), (10, season_1)),
+        (p((season_0 + 2, -301, 2)), (11, season_0)), (p((season_1 + 6, 1101, 2)), (12, season_1)),
+        (p((row_0, 10, 1)), (13, row_0)), (p((row_1 + 2, 254, 1)), (14, row_1)), (p((row_0 + 5, 101, 1)), (15, row_0)),
+        (p((row_1 + 8, 10_000_001, 4)), (16, row_1)), (p((row_0 + 6, 1501, 2)), (17, row_0)),
+        (p((row_1 + 14, 1441, 2)), (18, row_1)), (p((row_0 + 18, 1, 2)), (19, row_0)),
+        (p((row_1 + 18, 600, 2)), (20, row_1)), (p((row_1 + 23, 128, 1)), (21, row_1)),
+        (base, (22, 0), 37), (base, None, 38), (base, (23, 0), None, (2, 0, 1)), (base, None, None, (1, 1, 7)),
+    ]
+
+
 def check_refusals():
     base = writer.write(BASE)
     same(ev.check(base), None, "check of the base sheet")
@@ -517,7 +718,7 @@ def check_refusals():
         # (bytes, expected, words, call)
         (b"", (1, 0)), (base[:7], (1, 0)), (b"XXX", (1, 0)),
         (p((0, 0x65, 1)), (2, 0)), (p((2, 0, 1)), (2, 0)),
-        (p((3, 2, 2)), (3, 3)), (p((3, 257, 2)), (3, 3)), (p((3, 0, 2)), (3, 3)),
+        (p((3, 3, 2)), (3, 3)), (p((3, 257, 2)), (3, 3)), (p((3, 0, 2)), (3, 3)), (p((3, 2, 2)), (7, 0)),
         (p((5, 0, 1)), (4, 5)), (p((5, 13, 1)), (4, 5)),
         (p((6, 0, 1)), (5, 6)), (p((6, 33, 1)), (5, 6)),
         (p((7, 1, 1)), (6, 7)),
@@ -577,6 +778,7 @@ def check_refusals():
     equal = rule.replace("highest=30.0", "highest=0.0")
     cases += [(writer.write(equal % "155.0"), None), (writer.write(equal % "155.1"), (20, 120))]
 
+    cases += grid_refusals(base)
     seen = set()
     for index, (data, expected, *rest) in enumerate(cases):
         words = rest[0] if rest else None
@@ -584,8 +786,8 @@ def check_refusals():
         same(ev.check(data, words, call), expected, "refusal case %d, counted from 0" % index)
         if expected:
             seen.add(expected[0])
-    same(sorted(seen), list(range(1, 24)), "refusal numbers met")
-    return "%d sheets and calls, each number 1 to 23 with its place, order and edges" % len(cases)
+    same(sorted(seen), list(range(1, 25)), "refusal numbers met")
+    return "%d sheets and calls, each number 1 to 24 with its place, order and edges" % len(cases)
 
 
 def check_class_table():
@@ -653,12 +855,16 @@ CHECKS = (
     check_writer,
     check_edges,
     check_write,
+    check_grid_text,
     check_p_examples,
     check_weights,
     check_class_table,
     check_refusals,
     check_table_3_5,
     check_exact,
+    check_products,
+    check_cells,
+    check_survey,
     check_plain,
     check_masses,
     check_n,
@@ -667,6 +873,7 @@ CHECKS = (
 
 
 def main():
+    sys.set_int_max_str_digits(0)  # as evaporation.py does, for its fractions
     begin = time.monotonic()
     for check in CHECKS:
         try:

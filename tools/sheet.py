@@ -1,5 +1,6 @@
 #!/usr/bin/env python3
-"""Makes a sheet (version 1 of document 01) from a readable text, and back.
+"""Makes a sheet from a readable text, and back. A text with two lists of
+parkings makes a sheet of version 1, one with a grid a sheet of version 2.
 
   python3 tools/sheet.py write TEXT [SHEET]   SHEET is TEXT's name with .evp
                                               where none is given
@@ -16,6 +17,8 @@ The text, one record to a line, # starts a comment:
 
   durations C C ...   24 counts for 0.5, 1, .. 12 h (may be spread over lines)
   hours C C ...       24 counts for end hours 1 to 24 (likewise)
+  grid T C C ...      in place of these two: for end hour T, 1 to 24, the 24
+                      counts of its durations (likewise); all 24 end hours
   season days=92 lowest=20.0 highest=35.0 vp=60.0
   row class=1 technology=0 canister=class carburettor=40 hot=30 fill=35
       tank=class vehicles=1000 trips=2.50 minutes=20 load=30.0 saturation=60.0
@@ -30,7 +33,7 @@ field left out is 0.
 For faulty sheets only:
 
   letters 455650      the three letters, in hexadecimal
-  version 2           the version
+  version 3           the version in the head, whatever the parking is
   seasons 3           the count of seasons in the head, whatever follows
   rows 0              the count of rows in the head, whatever follows
   zero 1              byte 7
@@ -74,11 +77,11 @@ ROW_FIELDS = (
 MEANINGS = {
     1: "under 8 bytes",
     2: "the letters EVP are missing",
-    3: "the version is not 1",
+    3: "the version is neither 1 nor 2",
     4: "seasons not 1 to 12",
     5: "rows not 1 to 32",
     6: "byte 7 is not 0",
-    7: "the length is not 104 + 8S + 24R",
+    7: "the length is not 104 + 8S + 24R, or in version 2 1160 + 8S + 24R",
     8: "duration counts sum to 0 or above 1,000",
     9: "end-hour counts sum to 0 or above 1,000",
     10: "days 0, above 366, or above 366 with the seasons before",
@@ -93,6 +96,7 @@ MEANINGS = {
     19: "load above m_sat, or either without canister",
     20: "a + b.s.m_sat above 3 at some season's highest temperature",
     21: "bytes 20 to 23 of the row are not zero",
+    24: "grid counts sum to 0 or above 1,000,000",
 }
 
 
@@ -178,11 +182,56 @@ def _row(words):
     return record + _hexadecimal(given.get("spare", "00000000"), "spare", 4)
 
 
+LISTS = ("durations", "hours")
+GRID = tuple("grid %d" % t for t in range(1, 25))  # a list for each end hour
+
+
+class Parking:
+    """The lists of counts that the lines of a text give, by name."""
+
+    def __init__(self):
+        self.counts = {}
+        self.ends = {}  # the line where each list ends
+
+    def add(self, number, name, words):
+        """The counts of one line; of a grid's line the end hour comes first."""
+        if name == "grid":
+            name, words = _end_hour(words), words[1:]
+        self.counts.setdefault(name, []).extend(_number(word, name, 2, False, 1) for word in words)
+        self.ends[name] = number
+        if self.has_grid() and not self.counts.keys().isdisjoint(LISTS):
+            raise TextError("a grid stands in place of durations and hours, and both are given")
+        if len(self.counts[name]) > 24:
+            raise self.miscounted(name)
+
+    def has_grid(self):
+        return not self.counts.keys().isdisjoint(GRID)
+
+    def miscounted(self, name):
+        return TextError("%s: 24 counts wanted, %d found" % (name, len(self.counts.get(name, []))))
+
+    def data(self, last):
+        """The bytes of the parking; `last` is the last line of the text."""
+        names = GRID if self.has_grid() else LISTS
+        for name in names:
+            if len(self.counts.get(name, [])) != 24:
+                raise TextError("line %d: %s" % (self.ends.get(name, last), self.miscounted(name)))
+        return b"".join(b"".join(self.counts[name]) for name in names)
+
+
+def _end_hour(words):
+    if not words:
+        raise TextError("grid: an end hour and its counts wanted")
+    name = "grid %d" % int.from_bytes(_number(words[0], "grid", 1, False, 1), "little")
+    if name not in GRID:
+        raise TextError("grid: end hour %s is not 1 to 24" % words[0])
+    return name
+
+
 def write(text):
     """The bytes of the sheet that a text describes; TextError with the line
     number where the text cannot be read."""
-    lists = {"durations": [], "hours": []}
-    list_ends = {"durations": 0, "hours": 0}
+    parking = Parking()
     seasons, rows = [], []
     single = {}  # lines that may stand once
     number = 0
@@ -192,11 +241,8 @@ def write(text):
             continue
         name, rest = words[0], words[1:]
         try:
-            if name in lists:
-                lists[name] += [_number(word, name, 2, False, 1) for word in rest]
-                list_ends[name] = number
-                if len(lists[name]) > 24:
-                    raise TextError("%s: 24 counts wanted, %d found" % (name, len(lists[name])))
+            if name in (*LISTS, "grid"):
+                parking.add(number, name, rest)
             elif name == "season":
                 seasons.append(_season(rest))
             elif name == "row":
@@ -219,10 +265,7 @@ def write(text):
                 raise TextError("%r: no such line" % name)
         except TextError as error:
             raise TextError("line %d: %s" % (number, error)) from None
-    for name, counts in lists.items():
-        if len(counts) != 24:
-            raise TextError("line %d: %s: 24 counts wanted, %d found" % (
-                list_ends[name] or number, name, len(counts)))
+    counts = parking.data(number)
     for name, records in (("seasons", seasons), ("rows", rows)):
         if name not in single:
             if len(records) > 255:
@@ -230,11 +273,10 @@ def write(text):
             single[name] = bytes([len(records)])
     data = (
         single.get("letters", b"EVP")
-        + single.get("version", b"\x01\x00")
+        + single.get("version", b"\x02\x00" if parking.has_grid() else b"\x01\x00")
         + single["seasons"] + single["rows"]
         + single.get("zero", b"\x00")
-        + b"".join(lists["durations"]) + b"".join(lists["hours"])
-        + b"".join(seasons) + b"".join(rows)
+        + counts + b"".join(seasons) + b"".join(rows)
         + single.get("tail", b"")
     )
     return data[:single["cut"]] if "cut" in single else data
@@ -264,20 +306,21 @@ def _record(data, at, fields):
 
 def read(data):
     """The text of a sheet's bytes; write() makes the same bytes of it."""
-    if len(data) < 8 or len(data) < 104 + 8 * data[5] + 24 * data[6]:
+    if len(data) < 8 or len(data) < evaporation.seasons_start(data) + 8 * data[5] + 24 * data[6]:
         raise TextError("%d bytes, too few for the records its head tells of" % len(data))
     lines = []
     if data[0:3] != b"EVP":
         lines.append("letters %s" % data[0:3].hex())
     version = int.from_bytes(data[3:5], "little")
-    if version != 1:
+    if version not in (1, 2):
         lines.append("version %d" % version)
     if data[7]:
         lines.append("zero %d" % data[7])
-    for name, at in (("durations", 8), ("hours", 56)):
+    at = 8
+    for name in GRID if version == 2 else LISTS:
         counts = [int.from_bytes(data[at + 2 * i:at + 2 * i + 2], "little") for i in range(24)]
         lines.append("%s %s" % (name, " ".join(map(str, counts))))
-    at = 104
+        at += 48
     for _ in range(data[5]):
         lines.append("season " + _record(data, at, SEASON_FIELDS))
         at += 8
@@ -299,9 +342,9 @@ def verdict(data):
     number, place = refusal
     where = ""
     if 10 <= number <= 12:
-        where = "season %d: " % ((place - 104) // 8 + 1)
+        where = "season %d: " % ((place - evaporation.seasons_start(data)) // 8 + 1)
     if 13 <= number <= 21:
-        where = "row %d: " % ((place - 104 - 8 * data[5]) // 24 + 1)
+        where = "row %d: " % ((place - evaporation.seasons_start(data) - 8 * data[5]) // 24 + 1)
     return "refused %d at %d (%s%s)" % (number, place, where, MEANINGS[number])
 
 

@@ -10,6 +10,8 @@ The file says in four bytes how many sheets there are. Each sheet follows its
 length in two bytes, the number in one (0 where it is accepted) and the place
 in two. Every number has its lowest byte first.
 
+Sheets of version 1 come first, those made for version 2 behind them.
+
 A sheet that is made for a condition or a limit carries the answer that
 document 01's table gives it. Where evaporation.py gives another the run ends,
 so that a slip of either does not pass unseen. Where no answer is known
@@ -26,14 +28,13 @@ import evaporation
 import sheet
 from inputs import answer_text, packed, serve
 
-ROOM = 2 ** 18  # what the program can read
-
 # `answer` is (number, place), or None where only evaporation.py tells.
 Case = namedtuple("Case", "words data answer")
 ACCEPTED = (0, 0)
 
-LAST_NUMBER = 21
+NUMBERS = (*range(1, 22), 24)  # those of a sheet; 22 and 23 are those of a call
 LEAST_SHEETS = 420
+LEAST_GRIDS = 150  # of version 2
 LEAST_OF_A_NUMBER = 5
 
 # ------------------------------------------------------------ making a sheet
@@ -75,11 +76,18 @@ def counted(counts):
 
 @dataclass(frozen=True)
 class Plan:
-    """The values of a sheet, in the units of its fields."""
+    """The values of a sheet, in the units of its fields: version 2 where it
+    has a grid, of 576 counts in the order of the sheet, else version 1."""
     seasons: tuple
     rows: tuple
     durations: tuple = tuple(range(24, 0, -1))
     hours: tuple = tuple(range(1, 25))
+    grid: tuple = None
+
+    def gridded(self):
+        """The same in version 2: the grid holds the products of the lists, end
+        hour 1 first, its 24 durations in a row."""
+        return replace(self, grid=tuple(j * q for q in self.hours for j in self.durations))
 
     def changed(self, kind, i, change):
         """The same with some values of one record changed, `kind` being
@@ -89,13 +97,15 @@ class Plan:
         return replace(self, **{kind: tuple(records)})
 
     def place(self, kind, i):
-        return 104 + 8 * i if kind == "seasons" else 104 + 8 * len(self.seasons) + 24 * i
+        start = 104 if self.grid is None else 1160
+        return start + 8 * i if kind == "seasons" else start + 8 * len(self.seasons) + 24 * i
 
     def data(self):
-        head = b"EVP" + bytes([1, 0, len(self.seasons), len(self.rows), 0])
+        head = b"EVP" + bytes([1 if self.grid is None else 2, 0, len(self.seasons), len(self.rows), 0])
+        parking = counted(self.durations + self.hours if self.grid is None else self.grid)
         seasons = [record(SEASON_FIELDS, season) for season in self.seasons]
         rows = [record(ROW_FIELDS, row) for row in self.rows]
-        return head + counted(self.durations) + counted(self.hours) + b"".join(seasons + rows)
+        return head + parking + b"".join(seasons + rows)
 
 
 def plain(seasons, rows):
@@ -131,6 +141,15 @@ def of_record(plan, kind, i, change, number):
     return Case(words, plan.changed(kind, i, change).data(), answer)
 
 
+def is_grid(data):
+    """Whether the head says version 2."""
+    return data[3:5] == b"\2\0"
+
+
+def records_start(data):
+    return 1160 if is_grid(data) else 104
+
+
 def patched(data, at, values):
     return data[:at] + values + data[at + len(values):]
 
@@ -140,19 +159,24 @@ def patched(data, at, values):
 # Number, place, offset, bytes that do not pass there.
 HEAD_FAULTS = (
     (2, 0, 0, (b"\0", b"e", b"EPV", b"PVE", b"VEP")), (2, 0, 1, (b"v", b"W")), (2, 0, 2, (b"p", b"\0", b"Q")),
-    (3, 3, 3, (b"\0\0", b"\2\0", b"\0\1", b"\1\1", b"\xff\xff")),
+    (3, 3, 3, (b"\0\0", b"\3\0", b"\0\1", b"\1\1", b"\0\2", b"\2\2", b"\xff\xff")),
     (4, 5, 5, (b"\0", b"\x0d", b"\xff")),
     (5, 6, 6, (b"\0", b"\x21", b"\xff")),
     (6, 7, 7, (b"\1", b"\x80", b"\xff")),
 )
 
 
-def head_cases():
-    """Each fault in a whole sheet, and in a head that nothing follows."""
+def head_faults(*sheets):
+    """Each fault in each of these sheets."""
     faults = [(number, place, at, b) for number, place, at, all_b in HEAD_FAULTS for b in all_b]
-    for (number, place, at, b), data in product(faults, (BASE.data(), BASE.data()[:8])):
+    for (number, place, at, b), data in product(faults, sheets):
         words = "head: %s at byte %d, %d bytes" % (b.hex(), at, len(data))
         yield Case(words, patched(data, at, b), (number, place))
+
+
+def head_cases():
+    """In a whole sheet, and in a head that nothing follows."""
+    return head_faults(BASE.data(), BASE.data()[:8])
 
 
 def count_cases():
@@ -443,7 +467,7 @@ def season_and_row_cases():
 
 # Faults of the parts that stand once, each as an edit of a sheet's bytes.
 PARTS = (
-    (2, 0, lambda data: patched(data, 2, b"Q")), (3, 3, lambda data: patched(data, 3, b"\2")),
+    (2, 0, lambda data: patched(data, 2, b"Q")), (3, 3, lambda data: patched(data, 3, b"\3")),
     (4, 5, lambda data: patched(data, 5, b"\0")), (5, 6, lambda data: patched(data, 6, b"\x21")),
     (6, 7, lambda data: patched(data, 7, b"\1")), (7, 0, lambda data: data + b"\0"),
     (8, 8, lambda data: patched(data, 8, b"\xff\xff")), (9, 56, lambda data: patched(data, 56, b"\xff\xff")),
@@ -543,7 +567,7 @@ def bit_changed(chance, data):
 
 
 def record_byte_changed(chance, data):
-    at, value = chance.between(104, len(data) - 1), chance.below(256)
+    at, value = chance.between(records_start(data), len(data) - 1), chance.below(256)
     return "byte %d of the records becomes %d" % (at, value), patched(data, at, bytes([value]))
 
 
@@ -553,7 +577,7 @@ def neighbours_exchanged(chance, data):
 
 
 def part_overwritten(chance, data):
-    at, size = chance.between(104, len(data) - 8), chance.between(2, 8)
+    at, size = chance.between(records_start(data), len(data) - 8), chance.between(2, 8)
     values = bytes(chance.below(256) for _ in range(size))
     return "%d bytes from %d overwritten" % (size, at), patched(data, at, values)
 
@@ -578,12 +602,180 @@ def damaged_cases():
         yield Case("%s: %s" % (sized(plan), words), data, None)
 
 
+# ------------------------------------------------------------------- version 2
+
+SMALL_GRID, BASE_GRID, LARGE_GRID = (plan.gridded() for plan in (SMALLEST, BASE, LARGEST))
+
+
+def odds_cases():
+    """A version and the length of the other, and versions that are neither."""
+    for plan in (EXAMPLE, SMALLEST, BASE, LARGEST):
+        yield Case("version 2 of version 1's length, %s" % sized(plan), patched(plan.data(), 3, b"\2"), (7, 0))
+        data = plan.gridded().data()
+        yield Case("version 1 of version 2's length, %s" % sized(plan), patched(data, 3, b"\1"), (7, 0))
+        yield Case("version 2 cut to version 1's length, %s" % sized(plan), data[:len(plan.data())], (7, 0))
+    for version in (b"\0\0", b"\3\0", b"\0\2", b"\2\1", b"\2\2", b"\xff\xff"):
+        data = patched(SMALL_GRID.data(), 3, version)
+        yield Case("version %s of version 2's length" % version.hex(), data, (3, 3))
+
+
+def grid_head_cases():
+    return head_faults(SMALL_GRID.data()[:8])
+
+
+def grid_length_cases():
+    """Short, long and miscounted."""
+    data = SMALL_GRID.data()
+    for length in (7, 8, 9, 103, 104, 1159, 1160, 1161, 1167, 1168, 1169, len(data) - 8, len(data) - 1):
+        answer = (1, 0) if length < 8 else (7, 0)
+        yield Case("version 2 cut to %d of %d bytes" % (length, len(data)), data[:length], answer)
+    for tail in (b"\0", b"\2", record(SEASON_FIELDS, SEASON), record(ROW_FIELDS, ROW), bytes(96)):
+        yield Case("version 2 of %d bytes and %d more" % (len(data), len(tail)), data + tail, (7, 0))
+    for counts in (b"\2\1", b"\1\2", b"\2\2"):
+        words = "version 2, %s: the head says %d and %d" % (sized(SMALL_GRID), *counts)
+        yield Case(words, patched(data, 5, counts), (7, 0))
+    data = LARGE_GRID.data()
+    yield Case("version 2, the largest less a byte", data[:-1], (7, 0))
+    yield Case("version 2, the largest and a byte", data + b"\0", (7, 0))
+
+
+def grid_of(counts, start=0):
+    """Counts in a row from this cell on, and nothing in the others."""
+    return (0,) * start + tuple(counts) + (0,) * (576 - start - len(counts))
+
+
+MILLION = (65535,) * 15 + (16975,)
+GRIDS = (
+    # words, counts, whether their sum passes
+    ("sum 0", grid_of(()), False),
+    ("sum 1 in the first", grid_of((1,)), True),
+    ("sum 1 in the last", grid_of((1,), 575), True),
+    ("sum 1 at the second end hour", grid_of((1,), 24), True),
+    ("sum 1 behind where version 1 has its lists", grid_of((1,), 48), True),
+    ("sum 1001, all in the first 24", grid_of((1001,)), True),
+    ("sum 1001, all in the second 24", grid_of((1001,), 24), True),
+    ("sum 65535", grid_of((65535,), 300), True),
+    ("sum 65536, which 16 bits do not hold", grid_of((32768, 32768), 23), True),
+    ("sum 131072, which 16 bits do not hold", grid_of((65535, 65535, 2), 46), True),
+    ("sum 999999 in the last", grid_of((*MILLION[:-1], 16974), 560), True),
+    ("sum 1000000 in the first", grid_of(MILLION), True),
+    ("sum 1000000 in the last", grid_of(MILLION, 560), True),
+    ("sum 1000000 over all", (1736,) * 575 + (1800,), True),
+    ("sum 1000000, one in the last", grid_of((*MILLION[:-1], 16974))[:-1] + (1,), True),
+    ("sum 1000001 in the first", grid_of((*MILLION[:-1], 16976)), False),
+    ("sum 1000001 in the last", grid_of((*MILLION[:-1], 16976), 560), False),
+    ("sum 1000001 over all", (1736,) * 575 + (1801,), False),
+    ("sum 1000001, one in the last", grid_of(MILLION)[:-1] + (1,), False),
+    ("sum 1000001, one in the first", (1,) + grid_of(MILLION, 560)[1:], False),
+    ("sum 1048576, which 20 bits do not hold", grid_of((65535,) * 16 + (16,)), False),
+    ("sum 1048577, which 20 bits do not hold", grid_of((65535,) * 16 + (17,), 48), False),
+    ("sum 576 times 1737", (1737,) * 576, False),
+    ("sum 576 times 65535", (65535,) * 576, False),
+)
+
+
+def grid_cases():
+    for words, counts, passes in GRIDS:
+        yield Case("grid: %s" % words, replace(SMALL_GRID, grid=counts).data(), ACCEPTED if passes else (24, 8))
+        if words in ("sum 0", "sum 1000000 in the last", "sum 1000001 in the last"):
+            plan = replace(LARGE_GRID, grid=counts)
+            yield Case("grid: %s, %s" % (words, sized(plan)), plan.data(), ACCEPTED if passes else (24, 8))
+
+
+def grid_record_cases():
+    """Each limit of a record at its place in version 2: outside it in the first
+    and in the last record, inside it in the last; and in the last record of the
+    largest sheet."""
+    for kind, number, inside, outside in LIMITS:
+        last = len(getattr(BASE_GRID, kind)) - 1
+        yield of_record(BASE_GRID, kind, 0, outside[0], number)
+        yield of_record(BASE_GRID, kind, last, outside[-1], number)
+        for change in inside[:1]:
+            yield of_record(BASE_GRID, kind, last, change, 0)
+        yield of_record(LARGE_GRID, kind, len(getattr(LARGE_GRID, kind)) - 1, outside[0], number)
+
+
+def grid_days_cases():
+    """The same with one cell in place of the lists; the seasons then start
+    1160 - 104 bytes later."""
+    for case in days_cases():
+        data = patched(case.data[:8], 3, b"\2") + counted(grid_of((1,))) + case.data[104:]
+        number, place = case.answer
+        yield Case("%s, version 2" % case.words, data, (number, place + 1056) if number else ACCEPTED)
+
+
+def grid_saturation_cases():
+    """Check 20 on both sides, for each size; and where the last season and the
+    last row alone decide."""
+    for (highest, vp), canister, more in product(((0, 1000), (500, 300)), (1, 2, 3), (0, 1)):
+        season = {"days": 366, "lowest": -300, "highest": highest, "vp": vp}
+        row = {"canister": canister, "load": 0, "saturation": most(canister, season) + more}
+        yield of_record(SMALL_GRID.changed("seasons", 0, season), "rows", 0, row, 20 * more)
+    hot = {"highest": 500, "vp": 300}
+    for j, more in product((0, 3), (0, 1)):
+        row = {"canister": 2, "load": 0, "saturation": most(2, hot) + more}
+        yield of_record(BASE_GRID.changed("seasons", 2, hot), "rows", j, row, 20 * more)
+
+
+GRID_PARTS = (
+    *PARTS[:6], (24, 8, lambda data: patched(data, 8, bytes(1152))),
+    (12, 1160, lambda data: patched(data, 1166, b"\0\0")), (21, 1184, lambda data: patched(data, 1204, b"\1")),
+)
+
+
+def grid_part_cases():
+    """A sum of 0 with each fault of the head, and any two parts behind it."""
+    data, head, later = BASE_GRID.data(), GRID_PARTS[:5], GRID_PARTS[5:]
+    for (a, place, first), (b, _, second) in (*product(head, later[1:2]), *combinations(later, 2)):
+        yield Case("version 2: %d and %d" % (a, b), second(first(data)), (a, place))
+
+
+def cells_grid(cells):
+    """The counts of a grid, of which these cells have some: {(half-hours, end
+    hour): count}."""
+    return tuple(cells.get((d, t), 0) for t in range(1, 25) for d in range(1, 25))
+
+
+def chance_grid(chance, total):
+    """Counts by chance that sum to this: three cells in four have some, and
+    what division leaves over stands in one of them."""
+    parts = [chance.one_of((0, 1, 1, 1)) * chance.between(1, 1000) for _ in range(576)]
+    counts = [part * total // sum(parts) for part in parts]
+    counts[chance.below(576)] += total - sum(counts)
+    return tuple(counts)
+
+
+def chance_grid_plan(seasons, rows, total):
+    chance = Chance("grid of %d for %d seasons and %d rows" % (total, seasons, rows))
+    return replace(chance_plan(seasons, rows), grid=chance_grid(chance, total))
+
+
+def grid_accepted_cases():
+    for seasons, rows, total in ((1, 1, 1_000_000), (2, 3, 577), (5, 9, 123_456), (12, 1, 65_537), (12, 32, 1_000_000)):
+        plan = chance_grid_plan(seasons, rows, total)
+        yield Case("%s: grid by chance, sum %d" % (sized(plan), total), plan.data(), ACCEPTED)
+    for plan in (EXAMPLE.gridded(), SMALL_GRID, BASE_GRID, LARGE_GRID):
+        yield Case("%s: grid of products" % sized(plan), plan.data(), ACCEPTED)
+
+
+def grid_damaged_cases():
+    """The sum stands at its limit, so that half of what befalls the grid takes
+    it past."""
+    chance = Chance("damage of grids")
+    for size, damage, _ in product(((1, 1), (2, 3)), DAMAGE, range(3)):
+        plan = chance_grid_plan(*size, 1_000_000)
+        words, data = damage(chance, plan.data())
+        yield Case("%s, version 2: %s" % (sized(plan), words), data, None)
+
+
 # -------------------------------------------------------------------- the file
 
 GROUPS = (
     accepted_cases, head_cases, count_cases, cut_cases, shortened_cases, lengthened_cases, miscounted_cases,
     parking_cases, limit_cases, days_cases, far_cases, class_cases, table_cases, absent_cases, saturation_cases,
     season_cases, same_record_cases, two_record_cases, season_and_row_cases, part_cases, short_cases, damaged_cases,
+    odds_cases, grid_head_cases, grid_length_cases, grid_cases, grid_record_cases, grid_days_cases,
+    grid_saturation_cases, grid_part_cases, grid_accepted_cases, grid_damaged_cases,
 )
 
 
@@ -604,28 +796,43 @@ def all_cases():
     return [answered(case) for case in found.values()]
 
 
+def refused_cases():
+    """The first sheet for each number, of each version that can have it."""
+    found = {}
+    for case in all_cases():
+        found.setdefault((case.answer[0], is_grid(case.data)), case)
+    return [found[key] for key in sorted(found) if key[0]]
+
+
 def end_of(case):
     """The number with "first" or "last" where the place is that of the first
     or last of several records."""
     number, place = case.answer
-    if number < 10:
+    if not 10 <= number <= 21:
         return None
     seasons, rows = case.data[5], case.data[6]
-    count, index = (seasons, (place - 104) // 8) if number < 13 else (rows, (place - 104 - 8 * seasons) // 24)
+    place -= records_start(case.data)
+    count, index = (seasons, place // 8) if number < 13 else (rows, (place - 8 * seasons) // 24)
     return (number, {0: "first", count - 1: "last"}.get(index)) if count > 1 else None
 
 
 def missing(cases):
     """What the sheets as a whole should show and do not."""
     numbers = Counter(case.answer[0] for case in cases)
-    ends = {end_of(case) for case in cases}
-    if len(cases) < LEAST_SHEETS:
-        yield "%d sheets" % len(cases)
-    for number in range(1, LAST_NUMBER + 1):
+    grids = [case for case in cases if is_grid(case.data)]
+    lists = [case for case in cases if not is_grid(case.data)]
+    if len(cases) < LEAST_SHEETS or len(grids) < LEAST_GRIDS:
+        yield "%d sheets, %d of them of version 2" % (len(cases), len(grids))
+    for number in NUMBERS:
         if numbers[number] < LEAST_OF_A_NUMBER:
             yield "number %d: %d sheets" % (number, numbers[number])
-        if number >= 10 and not {(number, "first"), (number, "last")} <= ends:
-            yield "number %d: not in the first and in the last record" % number
+    for version, of_version, absent in ((1, lists, {24}), (2, grids, {3, 8, 9})):
+        if {case.answer[0] for case in of_version} != {0, *NUMBERS} - absent:
+            yield "version %d: not the numbers that it can have" % version
+        ends = {end_of(case) for case in of_version}
+        for number in range(10, 22):
+            if not {(number, "first"), (number, "last")} <= ends:
+                yield "version %d: number %d not in the first and in the last record" % (version, number)
 
 
 def encoded(cases):
@@ -642,4 +849,4 @@ def lines(cases):
 
 
 if __name__ == "__main__":
-    serve(__doc__, "sheet_vectors", ROOM, all_cases, encoded, missing, lines)
+    serve(__doc__, "sheet_vectors", all_cases, encoded, missing, lines)

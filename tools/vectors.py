@@ -21,7 +21,6 @@ from itertools import chain
 import evaporation
 from inputs import packed, serve
 
-ROOM = 65536  # what the program can read
 TERMS = (40, 60)
 
 EXPONENT_UNIT = 10 ** 14
@@ -144,4 +143,4 @@ def encoded(vectors):
 
 
 if __name__ == "__main__":
-    serve(__doc__, "bounds_vectors", ROOM, found, encoded)
+    serve(__doc__, "bounds_vectors", found, encoded)

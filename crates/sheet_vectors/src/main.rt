@@ -19,7 +19,7 @@ ghost use lib.ListN.{length};
 // The bytes before each sheet: its length (two), a number (one) and a place (two). No list is behind it.
 const HEAD: usize = 5;
 
-const LAST_NUMBER: u64 = 21;
+const LAST_NUMBER: u64 = 24;
 
 fn answer_of(found: Check) -> Answer {
     match found {

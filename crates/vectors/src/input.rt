@@ -14,10 +14,10 @@ pub struct Record {
 }
 
 // Zeros for the longest input. The `ensures` gives only the length, which lending the array as a slice needs.
-pub fn buffer() -> [u8; 262144]
-    ensures { λ r. ⌜ 262144 ≡ length r ⌝ }
+pub fn buffer() -> [u8; 524288]
+    ensures { λ r. ⌜ 524288 ≡ length r ⌝ }
 {
-    [0; 262144]
+    [0; 524288]
 }
 
 fn wide(b: u8) -> u64
