@@ -10,7 +10,8 @@ use exact::Season;
 ghost use mathlib.Core.Path.{_≡_};
 ghost use Prim.Native.Nat.{_+_, _^_, _<_, _≤_};
 ghost use lib.ListN.{length};
-ghost use Rattle.sheet.specs.Bytes.{u8At, u16At, u32At, seasonsOf, rowsOf, countsAt, durationCounts, hourCounts};
+ghost use Rattle.sheet.specs.Integers.{u8At, u16At, u32At};
+ghost use Rattle.sheet.specs.Bytes.{seasonsOf, rowsOf, countsAt, durationCounts, hourCounts};
 ghost use Rattle.sheet.specs.Bytes.{seasonPlace, rowPlace, seasonFrom, seasonAt, equipmentAt, canisterOf, tankOf, rowFrom, rowAt};
 ghost use Rattle.sheet.specs.Range.{warmth};
 

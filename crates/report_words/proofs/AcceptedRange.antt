@@ -9,7 +9,7 @@ use lib.ListN.{length}
 use Rattle.exact.specs.declared.Season.{Season}
 use Rattle.exact.specs.Factors.{total}
 use Rattle.parking.specs.Grid.{CellsInRange}
-use Rattle.parking.proofs.Products.{products-length, products-total}
+use Rattle.exact.proofs.Products.{products-length, products-total}
 use Rattle.factors.proofs.FactorBound.{low-≤-factor, factor-≤-high}
 use Rattle.factors.proofs.Sizes.{highMicrograms-most}
 use Rattle.sheet.specs.Limits.{countsLimit}
