@@ -8,7 +8,7 @@ use exact::Equipment;
 use exact::Row;
 use exact::Season;
 ghost use mathlib.Core.Path.{_≡_};
-ghost use Prim.Native.Nat.{_+_, _^_, _<_, _≤_};
+ghost use Prim.Native.Nat.{_+_, _*_, _^_, _<_, _≤_};
 ghost use lib.ListN.{length};
 ghost use Rattle.sheet.specs.Integers.{u8At, u16At, u32At};
 ghost use Rattle.sheet.specs.Versions.{versionOf, hasGrid, seasonsStart};
@@ -145,6 +145,14 @@ pub fn hour_counts(s: &[u8]) -> [u64; 24]
     counts_at(s, HOURS_START)
 }
 
+// The count of a cell of the grid, cells counted from 0, end hour 1 first, its 24 durations in a row.
+fn cell_at(s: &[u8], cell: usize) -> u64
+    requires { ⌜ (1160 ≤ length (now s)) × (cell < 576) ⌝ }
+    ensures { λ r. ⌜ r ≡ u16At (now (s .entry)) (8 + 2 * cell) ⌝ }
+{
+    u16_at(s, GRID_START + 2 * cell)
+}
+
 // The counts of the grid.
 pub fn grid_counts(s: &[u8]) -> [u64; 576]
     requires { ⌜ 1160 ≤ length (now s) ⌝ }
@@ -153,7 +161,7 @@ pub fn grid_counts(s: &[u8]) -> [u64; 576]
     let mut counts = [0u64; 576];
     let mut i: usize = 0;
     while i < CELLS {
-        counts[i] = u16_at(s, GRID_START + 2 * i);
+        counts[i] = cell_at(s, i);
         i += 1;
     }
     counts
