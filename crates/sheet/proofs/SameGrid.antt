@@ -7,16 +7,15 @@ use mathlib.Core.Path.{_≡_, refl, sym, _∙_}
 use Prim.Native.Nat.{ℕ, suc, zero, _+_, _*_, _≤_, _<_}
 use native.Mathlib.Nat.{mul-le-mul}
 use native.Mathlib.Omega.{arith}
-use lib.ListN.{length}
 use Rattle.exact.specs.Factors.{total}
 use Rattle.exact.proofs.Products.{products-total}
 use Rattle.sheet.specs.declared.Check.the-variants.{Pass}
 use Rattle.sheet.specs.Limits.{countsLimit, gridLimit}
 use Rattle.sheet.specs.Integers.{u8At, u16At}
 use Rattle.sheet.specs.Versions.{versionOf, hasGrid, seasonsStart}
-use Rattle.sheet.specs.Bytes.{seasonsOf, rowsOf, durationCounts, hourCounts, gridCounts, cellsOf, seasonPlace, rowPlace, seasonAt, seasonsFrom, seasonList, rowAt, equipmentAt}
+use Rattle.sheet.specs.Bytes.{seasonsOf, durationCounts, hourCounts, gridCounts, cellsOf, rowPlace, seasonAt, seasonsFrom, seasonList, rowAt}
 use Rattle.sheet.specs.Sheet.{daysBefore, sheetCheck}
-use Rattle.sheet.specs.Demands.{Met, markDemands, numbersDemands, seasonDemands, rowDemands, demands}
+use Rattle.sheet.specs.Demands.{Met, markDemands, numbersDemands, seasonDemands, rowDemands}
 use Rattle.sheet.specs.SameGrid.{GridOf}
 use Rattle.sheet.proofs.Versions.{start-grid, start-lists, cells-grid, cells-lists}
 use Rattle.sheet.proofs.Conditions.{sheet-judged, met-accepted}
