@@ -10,7 +10,8 @@ use Rattle.sheet.specs.Versions.{versionOf}
 use Rattle.sheet.specs.Bytes.{seasonsOf, rowsOf, durationCounts, hourCounts, gridCounts}
 
 -- t is s in version 2: its grid holds the products of the two lists of s, and all bytes but those of the version and of the parking are
--- the same. A count is a u16 and a product can be 1,000,000, so not every s has such a t.
+-- the same. A count is a u16 and a product can be 1,000,000, so not every s has such a t; where every product is a u16 there is one
+-- (proofs/GridMade).
 pub record GridOf (s t : List ℕ) : Type 0 where
   pub lists : versionOf s ≡ 1
   pub grid : versionOf t ≡ 2
