@@ -1,16 +1,17 @@
 // Head and length: numbers 1 to 7.
 use fields::ROW_BYTES;
 use fields::SEASON_BYTES;
-use fields::SEASONS_START;
 use fields::limits::ROWS_LIMIT;
 use fields::limits::SEASONS_LIMIT;
+use fields::limits::VERSION_LIMIT;
 use fields::refusal::or_else;
 use fields::refusal::outside;
 use fields::refusal::when;
 use fields::rows_of;
 use fields::seasons_of;
+use fields::seasons_start;
 use fields::u8_at;
-use fields::u16_at;
+use fields::version_of;
 use sheet::Check;
 ghost use mathlib.Core.Path.{_≡_};
 ghost use Prim.Native.Nat.{_≤_};
@@ -19,9 +20,6 @@ ghost use Rattle.sheet.specs.Sheet.{lettersMissing, markCheck, numbersCheck, he
 
 // The length of the head.
 const HEAD: usize = 8;
-
-// The version that is read.
-const VERSION: u64 = 1;
 
 // The sheet does not start with the letters EVP.
 fn letters_missing(s: &[u8]) -> bool
@@ -47,10 +45,11 @@ fn numbers_check(s: &[u8]) -> Check
     requires { ⌜ 8 ≤ length (now s) ⌝ }
     ensures { λ r. ⌜ r ≡ numbersCheck (now (s .entry)) ⌝ }
 {
+    let version = outside(1, VERSION_LIMIT, version_of(s));
     let seasons = outside(1, SEASONS_LIMIT, u8_at(s, 5));
     let rows = outside(1, ROWS_LIMIT, u8_at(s, 6));
     or_else(
-        when(u16_at(s, 3) != VERSION, 3, 3),
+        when(version, 3, 3),
         or_else(
             when(seasons, 4, 5),
             or_else(when(rows, 5, 6), when(u8_at(s, 7) != 0, 6, 7)),
@@ -69,13 +68,13 @@ pub fn head_check(s: &[u8]) -> Check
     numbers_check(s)
 }
 
-// The length is the one that the head's numbers of seasons and rows give.
+// The length is the one that the head's version and its numbers of seasons and rows give.
 pub fn length_check(s: &[u8]) -> Check
     requires { ⌜ 8 ≤ length (now s) ⌝ }
     ensures { λ r. ⌜ r ≡ lengthCheck (now (s .entry)) ⌝ }
 {
     when(
-        s.len() != SEASONS_START + SEASON_BYTES * seasons_of(s) + ROW_BYTES * rows_of(s),
+        s.len() != seasons_start(s) + SEASON_BYTES * seasons_of(s) + ROW_BYTES * rows_of(s),
         7,
         0,
     )

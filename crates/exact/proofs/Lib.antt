@@ -2,3 +2,4 @@ pub mod Open
 pub mod Marked
 pub mod Values
 pub mod Loss
+pub mod Products

@@ -1,4 +1,4 @@
-// The fields of a sheet where document 01 places them. Integers are little-endian.
+// The fields of a sheet where documents 01 and 02 place them. Integers are little-endian.
 use crate::limits::COLD_LIMIT;
 use classes::canister_of;
 use classes::equipment_of;
@@ -8,9 +8,11 @@ use exact::Equipment;
 use exact::Row;
 use exact::Season;
 ghost use mathlib.Core.Path.{_≡_};
-ghost use Prim.Native.Nat.{_+_, _^_, _<_, _≤_};
+ghost use Prim.Native.Nat.{_+_, _*_, _^_, _<_, _≤_};
 ghost use lib.ListN.{length};
-ghost use Rattle.sheet.specs.Bytes.{u8At, u16At, u32At, seasonsOf, rowsOf, countsAt, durationCounts, hourCounts};
+ghost use Rattle.sheet.specs.Integers.{u8At, u16At, u32At};
+ghost use Rattle.sheet.specs.Versions.{versionOf, hasGrid, seasonsStart};
+ghost use Rattle.sheet.specs.Bytes.{seasonsOf, rowsOf, countsAt, durationCounts, hourCounts, gridCounts};
 ghost use Rattle.sheet.specs.Bytes.{seasonPlace, rowPlace, seasonFrom, seasonAt, equipmentAt, canisterOf, tankOf, rowFrom, rowAt};
 ghost use Rattle.sheet.specs.Range.{warmth};
 
@@ -24,9 +26,19 @@ pub const DURATIONS_START: usize = 8;
 
 pub const HOURS_START: usize = 56;
 
-// Where the seasons start, and the bytes of a season and of a row. The rows follow the seasons.
-pub const SEASONS_START: usize = 104;
+// How many counts a grid has, where it starts, and the first version with a grid in place of the two lists.
+pub const CELLS: usize = 576;
 
+pub const GRID_START: usize = 8;
+
+const GRID_VERSION: u64 = 2;
+
+// Where the parking ends and the seasons start: after two lists, and after a grid.
+const AFTER_LISTS: usize = 104;
+
+const AFTER_GRID: usize = 1160;
+
+// The bytes of a season and of a row. The rows follow the seasons.
 pub const SEASON_BYTES: usize = 8;
 
 pub const ROW_BYTES: usize = 24;
@@ -61,6 +73,30 @@ pub fn u32_at(s: &[u8], i: usize) -> u64
     ensures { λ r. ⌜ (r ≡ u32At (now (s .entry)) i) × (r < 2 ^ 32) ⌝ }
 {
     u16_at(s, i) + 65536 * u16_at(s, i + 2)
+}
+
+// The version that the head gives.
+pub fn version_of(s: &[u8]) -> u64
+    requires { ⌜ 8 ≤ length (now s) ⌝ }
+    ensures { λ r. ⌜ r ≡ versionOf (now (s .entry)) ⌝ }
+{
+    u16_at(s, 3)
+}
+
+// Whether the parking is a grid.
+pub fn has_grid(s: &[u8]) -> bool
+    requires { ⌜ 8 ≤ length (now s) ⌝ }
+    ensures { λ r. ⌜ r ≡ hasGrid (now (s .entry)) ⌝ }
+{
+    GRID_VERSION <= version_of(s)
+}
+
+// Where the seasons start.
+pub fn seasons_start(s: &[u8]) -> usize
+    requires { ⌜ 8 ≤ length (now s) ⌝ }
+    ensures { λ r. ⌜ (r ≡ seasonsStart (now (s .entry))) × (r ≤ 1160) ⌝ }
+{
+    if has_grid(s) { AFTER_GRID } else { AFTER_LISTS }
 }
 
 // How many seasons the head gives.
@@ -109,6 +145,28 @@ pub fn hour_counts(s: &[u8]) -> [u64; 24]
     counts_at(s, HOURS_START)
 }
 
+// The count of a cell of the grid, cells counted from 0, end hour 1 first, its 24 durations in a row.
+fn cell_at(s: &[u8], cell: usize) -> u64
+    requires { ⌜ (1160 ≤ length (now s)) × (cell < 576) ⌝ }
+    ensures { λ r. ⌜ r ≡ u16At (now (s .entry)) (8 + 2 * cell) ⌝ }
+{
+    u16_at(s, GRID_START + 2 * cell)
+}
+
+// The counts of the grid.
+pub fn grid_counts(s: &[u8]) -> [u64; 576]
+    requires { ⌜ 1160 ≤ length (now s) ⌝ }
+    ensures { λ r. ⌜ r ≡ gridCounts (now (s .entry)) ⌝ }
+{
+    let mut counts = [0u64; 576];
+    let mut i: usize = 0;
+    while i < CELLS {
+        counts[i] = cell_at(s, i);
+        i += 1;
+    }
+    counts
+}
+
 // The season that starts at p.
 fn season_from(s: &[u8], p: usize) -> Season
     requires { ⌜ p + 8 ≤ length (now s) ⌝ }
@@ -122,12 +180,20 @@ fn season_from(s: &[u8], p: usize) -> Season
     }
 }
 
+// Where season i starts, counted from 0.
+pub fn season_place(s: &[u8], i: usize) -> usize
+    requires { ⌜ seasonPlace (now s) i + 8 ≤ length (now s) ⌝ }
+    ensures { λ r. ⌜ r ≡ seasonPlace (now (s .entry)) i ⌝ }
+{
+    seasons_start(s) + SEASON_BYTES * i
+}
+
 // Season i, counted from 0.
 pub fn season_at(s: &[u8], i: usize) -> Season
     requires { ⌜ seasonPlace (now s) i + 8 ≤ length (now s) ⌝ }
     ensures { λ r. ⌜ (r ≡ seasonAt (now (s .entry)) i) × (r .days < 65536) × (r .lowest < 65536) × (r .highest < 65536) ⌝ }
 {
-    season_from(s, SEASONS_START + SEASON_BYTES * i)
+    season_from(s, season_place(s, i))
 }
 
 // A temperature's tenths of °C above −30 °C, at most 800 for one that a sheet may have.
@@ -188,7 +254,7 @@ pub fn row_place(s: &[u8], i: usize) -> usize
     requires { ⌜ rowPlace (now s) i + 24 ≤ length (now s) ⌝ }
     ensures { λ r. ⌜ r ≡ rowPlace (now (s .entry)) i ⌝ }
 {
-    SEASONS_START + SEASON_BYTES * seasons_of(s) + ROW_BYTES * i
+    seasons_start(s) + SEASON_BYTES * seasons_of(s) + ROW_BYTES * i
 }
 
 // Row i, counted from 0.

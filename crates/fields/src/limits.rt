@@ -1,4 +1,7 @@
-// The limits of a sheet, version 1, each named once for the code; sheet/specs/Limits.antt names them for the definitions.
+// The limits of a sheet, each named once for the code; sheet/specs/Limits.antt names them for the definitions.
+
+// The versions that are read, from 1 on.
+pub const VERSION_LIMIT: u64 = 2;
 
 pub const SEASONS_LIMIT: u64 = 12;
 
@@ -6,6 +9,9 @@ pub const ROWS_LIMIT: u64 = 32;
 
 // The sum of each list of counts, at least 1.
 pub const COUNTS_LIMIT: u64 = 1000;
+
+// The sum of a grid, at least 1.
+pub const GRID_LIMIT: u64 = 1000000;
 
 // The days of a season, at least 1, and of all seasons together.
 pub const DAYS_LIMIT: u64 = 366;

@@ -1,5 +1,6 @@
 pub mod CallConditions
 pub mod CallsAlike
+pub mod SameGrid
 pub mod FactorPromise
 pub mod Written
 pub mod ReportPromise

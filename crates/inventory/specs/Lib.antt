@@ -1,2 +1,3 @@
 pub mod FactorCall
 pub mod ReportCall
+pub mod SameGrid

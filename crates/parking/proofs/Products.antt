@@ -1,37 +1,18 @@
--- The cells of two lists of counts: which product stands in which, how many they are and what they sum to.
+-- The cells of two lists of counts: which product stands in which.
 use mathlib.Core.Path.{_≡_, sym, _∙_, ap}
-use mathlib.Core.List.{List, [], _∷_, _++_, map}
+use mathlib.Core.List.{List, [], _∷_, map}
 use Prim.Native.Nat.{ℕ, zero, suc, _+_, _*_, _/_, _%_, _≤_, _<_}
 use native.Mathlib.Omega.{arith}
 use native.Mathlib.Nat.{mul-le-mul}
-use lib.ListN.{length, getD, length-append, length-map, List·getD-append, List·getD-map}
+use lib.ListN.{length, getD, length-map, List·getD-append, List·getD-map}
 use lib.Seq.{getD-append-add, ext-getD}
 use Rattle.numbers.specs.Lists.{tab, at}
 use Rattle.numbers.proofs.Lists.{tab-length, getD-tab}
 use Rattle.exact.specs.Factors.{total, products}
+use Rattle.exact.proofs.Products.{products-length, products-total}
 use Rattle.parking.specs.Grid.{CellsInRange}
 
 module _ (durations : List ℕ) where
-  -- as many as pairs of counts
-  pub products-length : (hours : List ℕ) → length (products durations hours) ≡ length hours * length durations
-  unfolding products
-  products-length [] = omega arith
-  products-length (q ∷ hours) =
-      length-append (map (λ (j : ℕ). j * q) durations) (products durations hours) ∙
-      omega (arith, length-map durations (λ (j : ℕ). j * q), products-length hours)
-
-  -- n durations times q
-  scaled-total : (q : ℕ) (js rest : List ℕ) → total (map (λ (j : ℕ). j * q) js ++ rest) ≡ total js * q + total rest
-  unfolding total
-  scaled-total q [] rest = omega arith
-  scaled-total q (j ∷ js) rest = omega (arith, scaled-total q js rest)
-
-  -- P·Q
-  pub products-total : (hours : List ℕ) → total (products durations hours) ≡ total durations * total hours
-  unfolding products total
-  products-total [] = omega arith
-  products-total (q ∷ hours) = omega (arith, scaled-total q durations (products durations hours), products-total hours)
-
   -- the cell of an end hour and a duration holds the product of their counts
   products-at : (hours : List ℕ) (n h k : ℕ) → length durations ≡ n → k < n → h < length hours
       → at (products durations hours) (n * h + k) ≡ at durations k * at hours h

@@ -1,6 +1,7 @@
 // The program `report`: reads one sheet from standard input and prints its report, or the number and the place where it stops. Where
 // the input cannot be read it prints neither, and says so on standard error; likewise where not all of its answer could be written.
 use fields::rows_of;
+use fields::version_of;
 use inventory::report;
 use libc::STDERR_FILENO;
 use libc::STDIN_FILENO;
@@ -14,8 +15,8 @@ ghost use Rattle.inventory.specs.ReportCall.{reportCheck};
 // The words of the longest report, of 32 rows: 6 · 32 + 26.
 const WORDS: usize = 218;
 
-// One byte more than the longest sheet, which has 104 + 8 · 12 + 24 · 32 bytes.
-const ROOM: usize = 969;
+// One byte more than the longest sheet, which has 1160 + 8 · 12 + 24 · 32 bytes.
+const ROOM: usize = 2025;
 
 // Each function that prints takes whether all before it was written, prints nothing more where it was not, so that no line has a gap, and
 // answers whether all is written now.
@@ -86,13 +87,11 @@ fn print_sums(words: &[u64; 218], rows: usize, ok: bool) -> bool
 }
 
 // "The first line gives the version and R".
-fn print_head(rows: usize) -> bool
+fn print_head(version: u64, rows: usize) -> bool
     requires { ⌜ rows ≤ 32 ⌝ }
 {
-    print(
-        b"\n",
-        print_number(rows as u64, print(b"EVP 1 rows ", true)),
-    )
+    let read = print_number(version, print(b"EVP ", true));
+    print(b"\n", print_number(rows as u64, print(b" rows ", read)))
 }
 
 fn print_refusal(number: u64, place: u64) -> bool {
@@ -105,7 +104,7 @@ fn print_report(s: &[u8], words: &[u64; 218]) -> bool
     requires { ⌜ reportCheck (now s) 218 ≡ Pass ⌝ }
 {
     let rows = rows_of(s);
-    let head = print_head(rows);
+    let head = print_head(version_of(s), rows);
     print_sums(words, rows, print_rows(words, rows, head))
 }
 

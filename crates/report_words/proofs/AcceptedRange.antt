@@ -1,20 +1,22 @@
 -- The seasons, rows and counts of an accepted sheet are in range, so that all its factors are enclosed and of limited size.
 -- Assumes nothing.
+use mathlib.Core.Bool.{Bool, true, false}
 use mathlib.Core.List.{List}
-use mathlib.Core.Path.{_≡_, refl, ap, _∙_}
-use Prim.Native.Nat.{ℕ, suc, zero, _+_, _*_, _≤_, _<_}
-use native.Mathlib.Nat.{mul-le-mul, mul-pos}
+use mathlib.Core.Path.{_≡_, refl}
+use Prim.Native.Nat.{ℕ, suc, zero, _+_, _≤_, _<_}
 use native.Mathlib.Omega.{arith}
 use lib.ListN.{length}
 use Rattle.exact.specs.declared.Season.{Season}
 use Rattle.exact.specs.Factors.{total}
 use Rattle.parking.specs.Grid.{CellsInRange}
-use Rattle.parking.proofs.Products.{products-length, products-total}
+use Rattle.parking.proofs.Products.{products-in-range}
 use Rattle.factors.proofs.FactorBound.{low-≤-factor, factor-≤-high}
 use Rattle.factors.proofs.Sizes.{highMicrograms-most}
-use Rattle.sheet.specs.Limits.{countsLimit}
-use Rattle.sheet.specs.Bytes.{seasonsOf, rowsOf, countsAt, durationCounts, hourCounts, cellsOf, seasonAt, seasonsFrom, seasonList, rowAt}
+use Rattle.sheet.specs.Versions.{hasGrid}
+use Rattle.sheet.specs.Bytes.{seasonsOf, rowsOf, durationCounts, hourCounts, gridCounts, cellsOf, seasonAt, seasonsFrom, seasonList, rowAt}
 use Rattle.sheet.specs.Sheet.{daysBefore}
+use Rattle.sheet.proofs.Versions.{grid-version, lists-version, cells-grid, cells-lists}
+use Rattle.sheet.proofs.Counts.{counts-length}
 use Rattle.sheet.proofs.Accepted.{Bytes, AcceptedRow, Accepted}
 use Rattle.sheet.proofs.InRange.{row-in-range}
 use Rattle.masses.specs.Figures.{allDays}
@@ -23,36 +25,40 @@ use Rattle.masses.proofs.MassSizes.{Sized, RowSized}
 
 -- The counts.
 
--- the cells' counts sum to P·Q
-pub cells-total : (s : List ℕ) → total (cellsOf s) ≡ total (durationCounts s) * total (hourCounts s)
-unfolding cellsOf
-cells-total s = products-total (durationCounts s) (hourCounts s)
-
--- that is 1 or more
-pub cells-least : {s : List ℕ} → Accepted s → 0 < total (cellsOf s)
-cells-least {s} a = rw (cells-total s) (mul-pos (a .durations-least) (a .hours-least))
-
--- and at most 1,000,000
-pub cells-most : {s : List ℕ} → Accepted s → total (cellsOf s) ≤ countsLimit * countsLimit
-cells-most {s} a = rw (cells-total s) (mul-le-mul (a .durations-most) (a .hours-most))
-
--- 24 counts in each list
+-- 24 counts in each list,
 pub durations-length : (s : List ℕ) → length (durationCounts s) ≡ 24
-unfolding durationCounts countsAt
-durations-length s = refl
+unfolding durationCounts
+durations-length s = counts-length s 8 24
 
 pub hours-length : (s : List ℕ) → length (hourCounts s) ≡ 24
-unfolding hourCounts countsAt
-hours-length s = refl
+unfolding hourCounts
+hours-length s = counts-length s 56 24
 
--- so there are 576 cells
+-- and 576 in a grid
+grid-length : (s : List ℕ) → length (gridCounts s) ≡ 576
+unfolding gridCounts
+grid-length s = counts-length s 8 576
+
+-- the two lists of a sheet without a grid are in range, and so are the cells, whichever they are
+pub lists-most : {s : List ℕ} → Accepted s → hasGrid s ≡ false → (total (durationCounts s) ≤ 1000) × (total (hourCounts s) ≤ 1000)
+lists-most {s} a h = let old = lists-version s h in (a .durations old .1, a .hours old .1)
+
 pub cells-in-range : {s : List ℕ} → Accepted s → CellsInRange (cellsOf s)
-unfolding cellsOf
-cells-in-range {s} a = record {
-  length-is = products-length (durationCounts s) (hourCounts s) ∙ rw (durations-length s, hours-length s);
-  total-least = cells-least a;
-  total-most = omega (arith, cells-most a);
-}
+cells-in-range {s} a = go (hasGrid s) refl
+  where
+    go : (b : Bool) → hasGrid s ≡ b → CellsInRange (cellsOf s)
+    go true h =
+        let (least, most) = a .grid (grid-version s h) in
+        rw (cells-grid s h) (record { length-is = grid-length s; total-least = least; total-most = omega arith })
+    go false h =
+        let old = lists-version s h in
+        let (p, P) = a .durations old in
+        let (q, Q) = a .hours old in
+        rw (cells-lists s h) (products-in-range (durationCounts s) (hourCounts s) (durations-length s) (hours-length s) p P q Q)
+
+-- at least one parking is counted
+pub cells-least : {s : List ℕ} → Accepted s → 0 < total (cellsOf s)
+cells-least a = cells-in-range a .total-least
 
 -- the shares of row i
 pub row-shares : {s : List ℕ} {i : ℕ} → AcceptedRow s i → Shares (rowAt s i)

@@ -1,5 +1,7 @@
 // The parking counts of an accepted sheet.
 use fields::duration_counts;
+use fields::grid_counts;
+use fields::has_grid;
 use fields::hour_counts;
 use parking::cells::products;
 use parking::grid::grid_of;
@@ -9,12 +11,16 @@ ghost use Rattle.sheet.specs.declared.Check.the-variants.{Pass};
 ghost use Rattle.sheet.specs.Bytes.{cellsOf};
 ghost use Rattle.sheet.specs.Sheet.{sheetCheck};
 
-// The products of the two lists of counts.
+// The counts of the grid, or the products of the two lists of a sheet that has none.
 fn cells_of(s: &[u8]) -> [u64; 576]
     requires { ⌜ sheetCheck (now s) ≡ Pass ⌝ }
     ensures { λ r. ⌜ (r ≡ cellsOf (now (s .entry))) × CellsInRange r ⌝ }
 {
-    products(duration_counts(s), hour_counts(s))
+    if has_grid(s) {
+        grid_counts(s)
+    } else {
+        products(duration_counts(s), hour_counts(s))
+    }
 }
 
 // Its grid.

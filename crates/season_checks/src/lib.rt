@@ -1,7 +1,5 @@
 // Each season: numbers 10 to 12.
 use exact::Season;
-use fields::SEASON_BYTES;
-use fields::SEASONS_START;
 use fields::limits::COLD_LIMIT;
 use fields::limits::DAYS_LIMIT;
 use fields::limits::VP_LEAST;
@@ -11,6 +9,7 @@ use fields::refusal::or_else;
 use fields::refusal::outside;
 use fields::refusal::when;
 use fields::season_at;
+use fields::season_place;
 use fields::seasons_of;
 use fields::warmth;
 use sheet::Check;
@@ -38,7 +37,7 @@ fn season_check(s: &[u8], i: usize, before: u64) -> Check
     ensures { λ r. ⌜ r ≡ seasonCheck (now (s .entry)) i ⌝ }
 {
     let season = season_at(s, i);
-    let place = (SEASONS_START + SEASON_BYTES * i) as u64;
+    let place = season_place(s, i) as u64;
     let days = outside(1, DAYS_LIMIT, season.days) | (DAYS_LIMIT < before + season.days);
     or_else(
         when(days, 10, place),

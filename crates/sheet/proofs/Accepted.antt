@@ -12,8 +12,10 @@ use Rattle.exact.specs.declared.Equipment.the-variants.{Absent}
 use Rattle.exact.specs.Classes.{equipment}
 use Rattle.exact.specs.Factors.{total}
 use Rattle.sheet.specs.declared.Check.the-variants.{Pass}
-use Rattle.sheet.specs.Limits.{seasonsLimit, rowsLimit, countsLimit, daysLimit, vpLeast, vpLimit, percentLimit, tankLimit, vehiclesLimit, tripsLimit, minutesLimit}
-use Rattle.sheet.specs.Bytes.{u8At, u16At, versionOf, seasonsOf, rowsOf, durationCounts, hourCounts, seasonPlace, rowPlace, seasonFrom, seasonAt, rowFrom, rowAt, equipmentAt, tankOf}
+use Rattle.sheet.specs.Limits.{versionLimit, seasonsLimit, rowsLimit, countsLimit, gridLimit, daysLimit, vpLeast, vpLimit, percentLimit, tankLimit, vehiclesLimit, tripsLimit, minutesLimit}
+use Rattle.sheet.specs.Integers.{u8At, u16At}
+use Rattle.sheet.specs.Versions.{versionOf, seasonsStart}
+use Rattle.sheet.specs.Bytes.{seasonsOf, rowsOf, durationCounts, hourCounts, gridCounts, seasonPlace, rowPlace, seasonFrom, seasonAt, rowFrom, rowAt, equipmentAt, tankOf}
 use Rattle.sheet.specs.Sheet.{daysBefore, sheetCheck}
 use Rattle.sheet.specs.Range.{SeasonInRange}
 use Rattle.sheet.specs.Demands.{Met}
@@ -56,16 +58,16 @@ pub record AcceptedRow (s : List ℕ) (i : ℕ) : Type 0 where
 
 -- the whole sheet
 pub record Accepted (s : List ℕ) : Type 0 where
-  pub length-is : length s ≡ 104 + 8 * seasonsOf s + 24 * rowsOf s
-  pub version-is : versionOf s ≡ 1
+  pub length-is : length s ≡ seasonsStart s + 8 * seasonsOf s + 24 * rowsOf s
+  pub version-least : 1 ≤ versionOf s
+  pub version-most : versionOf s ≤ versionLimit
   pub seasons-least : 1 ≤ seasonsOf s
   pub seasons-most : seasonsOf s ≤ seasonsLimit
   pub rows-least : 1 ≤ rowsOf s
   pub rows-most : rowsOf s ≤ rowsLimit
-  pub durations-least : 1 ≤ total (durationCounts s)
-  pub durations-most : total (durationCounts s) ≤ countsLimit
-  pub hours-least : 1 ≤ total (hourCounts s)
-  pub hours-most : total (hourCounts s) ≤ countsLimit
+  pub durations : versionOf s < 2 → (1 ≤ total (durationCounts s)) × (total (durationCounts s) ≤ countsLimit)
+  pub hours : versionOf s < 2 → (1 ≤ total (hourCounts s)) × (total (hourCounts s) ≤ countsLimit)
+  pub grid : 2 ≤ versionOf s → (1 ≤ total (gridCounts s)) × (total (gridCounts s) ≤ gridLimit)
   pub season : (i : ℕ) → i < seasonsOf s → AcceptedSeason s i
   pub days-most : daysBefore s (seasonsOf s) ≤ daysLimit
   pub row : (i : ℕ) → i < rowsOf s → AcceptedRow s i
@@ -125,19 +127,19 @@ days-together s (suc n) h = h n (omega arith)
 -- a sheet that no number refuses is accepted
 pub accepted : (s : List ℕ) → sheetCheck s ≡ Pass → Accepted s
 accepted s h =
-    let (head, (length-is, ((durations, hours), (seasons, rows)))) = sheet-judged s .passes h in
+    let (head, (length-is, ((durations, (hours, grid)), (seasons, rows)))) = sheet-judged s .passes h in
     let (mark, (version, (season-count, (row-count, zero-byte)))) = head in
     record {
       length-is = length-is;
-      version-is = version;
+      version-least = version .0;
+      version-most = version .1;
       seasons-least = season-count .0;
       seasons-most = season-count .1;
       rows-least = row-count .0;
       rows-most = row-count .1;
-      durations-least = durations .0;
-      durations-most = durations .1;
-      hours-least = hours .0;
-      hours-most = hours .1;
+      durations = durations;
+      hours = hours;
+      grid = grid;
       season = λ i l. season-accepted s i (seasons i l);
       days-most = days-together s (seasonsOf s) (λ i l. season-accepted s i (seasons i l) .days-together);
       row = λ i l. row-accepted s i (rows i l);

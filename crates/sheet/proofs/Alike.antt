@@ -1,7 +1,7 @@
 -- A canister or a tank that is written, and one left to the class that stands for the same, count alike: the sheet is accepted
 -- or refused alike, and gives the same values to all that follows.
 -- Assumes nothing.
-use mathlib.Core.Bool.{Bool}
+use mathlib.Core.Bool.{Bool, true, false}
 use mathlib.Core.List.{List}
 use mathlib.Core.Logic.{_⊎_, inl, inr, ⊎-elim}
 use mathlib.Core.Path.{_≡_, refl, ap, _∙_}
@@ -18,9 +18,12 @@ use Rattle.exact.specs.declared.Equipment.the-variants.{Fitted}
 use Rattle.exact.specs.declared.Season.{Season}
 use Rattle.sheet.specs.declared.Check.{Check}
 use Rattle.sheet.specs.Limits.{tankLimit}
-use Rattle.sheet.specs.Bytes.{u8At, u16At, seasonsOf, rowsOf, durationCounts, hourCounts, cellsOf, seasonPlace, rowPlace, seasonAt, seasonsFrom, seasonList, rowFrom, rowAt, equipmentAt, fittedCanister, fittedTank, writtenCanister, canisterOf, tankOf}
+use Rattle.sheet.specs.Integers.{u8At, u16At}
+use Rattle.sheet.specs.Versions.{versionOf, hasGrid, seasonsStart}
+use Rattle.sheet.specs.Bytes.{seasonsOf, rowsOf, durationCounts, hourCounts, gridCounts, cellsOf, seasonPlace, rowPlace, seasonAt, seasonsFrom, seasonList, rowFrom, rowAt, equipmentAt, fittedCanister, fittedTank, writtenCanister, canisterOf, tankOf}
 use Rattle.sheet.specs.Check.{each}
 use Rattle.sheet.specs.Sheet.{lettersMissing, markCheck, numbersCheck, headCheck, lengthCheck, parkingCheck, daysBefore, seasonCheck, codeWrong, someSeason, rowCheck, sheetCheck}
+use Rattle.sheet.proofs.Versions.{start-grid, start-between, start-same}
 use Rattle.sheet.proofs.Equipment.{equipment-tank}
 use Rattle.sheet.proofs.Local.{Same, byte-at, word-at, season-same, equipment-same, row-counts, row-same, counts-same}
 
@@ -41,7 +44,6 @@ pub record Written (s s' : List ℕ) (p : ℕ) (c : Canister) (t : ℕ) : Type 0
 
 -- accepted or refused alike, with the same values
 pub record Alike (s s' : List ℕ) : Type 0 where
-  pub length-same : length s' ≡ length s
   pub seasons-same : seasonsOf s' ≡ seasonsOf s
   pub rows-same : rowsOf s' ≡ rowsOf s
   pub check-same : sheetCheck s' ≡ sheetCheck s
@@ -130,17 +132,28 @@ module _ (s s' : List ℕ) (i : ℕ) (c : Canister) (t : ℕ) (fitted : equipmen
   before : (p n : ℕ) → p + n ≤ rowPlace s 0 → Same s' s p p n
   before p n h = record { byte = λ k l. early (p + k) (omega arith) }
 
-  -- so the counts of seasons and rows,
+  -- so the head,
+  head-byte : (k : ℕ) → k < 104 → u8At s' k ≡ u8At s k
+  head-byte k h = early k (omega (arith, start-between s))
+
+  -- the version, and with it where the seasons start,
+  version : versionOf s' ≡ versionOf s
+  version = cc (head-byte 3 (omega arith), head-byte 4 (omega arith))
+
+  start : seasonsStart s' ≡ seasonsStart s
+  start = start-same s s' version
+
+  -- the counts of seasons and rows,
   seasons : seasonsOf s' ≡ seasonsOf s
-  seasons = early 5 (omega arith)
+  seasons = head-byte 5 (omega arith)
 
   rows : rowsOf s' ≡ rowsOf s
-  rows = early 6 (omega arith)
+  rows = head-byte 6 (omega arith)
 
   -- each season,
   season : (j : ℕ) → j < seasonsOf s → seasonAt s' j ≡ seasonAt s j
   unfolding seasonAt
-  season j h = season-same (before (seasonPlace s j) 8 (omega arith)) (omega arith)
+  season j h = rw start (season-same (before (seasonPlace s j) 8 (omega arith)) (omega arith))
 
   -- all of them,
   season-list : (j n : ℕ) → j + n ≤ seasonsOf s → seasonsFrom s' j n ≡ seasonsFrom s j n
@@ -163,26 +176,42 @@ module _ (s s' : List ℕ) (i : ℕ) (c : Canister) (t : ℕ) (fitted : equipmen
   -- the head passes or is refused alike,
   head : headCheck s' ≡ headCheck s
   unfolding headCheck markCheck numbersCheck lettersMissing
-  head = cc (w .same-length, early 0 (omega arith), early 1 (omega arith), early 2 (omega arith), early 3 (omega arith), early 4 (omega arith), seasons, rows, early 7 (omega arith))
+  head = cc (w .same-length, head-byte 0 (omega arith), head-byte 1 (omega arith), head-byte 2 (omega arith), version, seasons, rows, head-byte 7 (omega arith))
 
   -- the parking counts are the same,
   durations : durationCounts s' ≡ durationCounts s
   unfolding durationCounts
-  durations = counts-same 8 8 24 (before 8 48 (omega arith))
+  durations = counts-same 8 8 24 (before 8 48 (omega (arith, start-between s)))
 
   hours : hourCounts s' ≡ hourCounts s
   unfolding hourCounts
-  hours = counts-same 56 56 24 (before 56 48 (omega arith))
+  hours = counts-same 56 56 24 (before 56 48 (omega (arith, start-between s)))
+
+  grid : hasGrid s ≡ true → gridCounts s' ≡ gridCounts s
+  unfolding gridCounts
+  grid h = counts-same 8 8 576 (before 8 1152 (omega (arith, start-grid s h)))
+
+  -- so they pass or are refused alike, whichever count,
+  parking : (b : Bool) → hasGrid s ≡ b → parkingCheck s' ≡ parkingCheck s
+  unfolding parkingCheck
+  parking true h = rw (version, h) (cc (grid h))
+  parking false h = rw (version, h) (cc (durations, hours))
+
+  -- and the cells are the same,
+  cells : (b : Bool) → hasGrid s ≡ b → cellsOf s' ≡ cellsOf s
+  unfolding cellsOf
+  cells true h = rw (cellsOf, version, h) (grid h)
+  cells false h = rw (cellsOf, version, h) (cc (durations, hours))
 
   -- and each season passes or is refused alike.
   season-check : (j : ℕ) → j < seasonsOf s → seasonCheck s' j ≡ seasonCheck s j
   unfolding seasonCheck
-  season-check j h = cc (season j h, days j (omega arith))
+  season-check j h = cc (start, season j h, days j (omega arith))
 
   -- In another row than i all bytes are the same,
   other : (j : ℕ) → ¬ (j ≡ i) → Same s' s (rowPlace s j) (rowPlace s j) 24
   other j n =
-      let off : (k m : ℕ) → k < 24 → m < 24 → rowPlace s j + k ≡ rowPlace s i + m → ⊥ = λ k m l d e. n (rows-apart (104 + 8 * seasonsOf s) j i k m l d e) in
+      let off : (k m : ℕ) → k < 24 → m < 24 → rowPlace s j + k ≡ rowPlace s i + m → ⊥ = λ k m l d e. n (rows-apart (seasonsStart s + 8 * seasonsOf s) j i k m l d e) in
       record { byte = λ k l. w .elsewhere (rowPlace s j + k) (off k 2 l (omega arith)) (off k 6 l (omega arith)) (off k 7 l (omega arith)) }
 
   -- so every row counts and passes alike:
@@ -192,25 +221,24 @@ module _ (s s' : List ℕ) (i : ℕ) (c : Canister) (t : ℕ) (fitted : equipmen
   -- its values are the same,
   row : (j : ℕ) → rowAt s' j ≡ rowAt s j
   unfolding rowAt
-  row j = rw seasons (row-alike j .row)
+  row j = rw (start, seasons) (row-alike j .row)
 
   -- and it passes or is refused alike.
   row-check : (j : ℕ) → rowCheck s' j ≡ rowCheck s j
   unfolding rowCheck
-  row-check j = let r = row-alike j in cc (seasons, row j, some _ (seasonsOf s) (omega arith))
+  row-check j = let r = row-alike j in cc (start, seasons, row j, some _ (seasonsOf s) (omega arith))
 
   -- accepted or refused alike, with the same values
   pub alike : Alike s s'
-  unfolding sheetCheck lengthCheck parkingCheck cellsOf seasonList
+  unfolding sheetCheck lengthCheck seasonList
   alike = record {
-    length-same = w .same-length;
     seasons-same = seasons;
     rows-same = rows;
     check-same =
         let checks : each (seasonCheck s') (seasonsOf s) ≡ each (seasonCheck s) (seasonsOf s) = each-cong (seasonCheck s') (seasonCheck s) (seasonsOf s) season-check in
         let rest : each (rowCheck s') (rowsOf s) ≡ each (rowCheck s) (rowsOf s) = each-cong (rowCheck s') (rowCheck s) (rowsOf s) (λ j _. row-check j) in
-        cc (w .same-length, seasons, rows, head, durations, hours, checks, rest);
-    cells-same = cc (durations, hours);
+        cc (w .same-length, start, seasons, rows, head, parking (hasGrid s) refl, checks, rest);
+    cells-same = cells (hasGrid s) refl;
     season-same = season;
     season-list-same = cc (seasons, season-list 0 (seasonsOf s) (omega arith));
     row-same = λ j _. row j;

@@ -8,8 +8,8 @@ use mathlib.Core.Path.{_≡_, refl, sym, _∙_}
 use Prim.Native.Nat.{ℕ, suc, zero, _≤_, _<_}
 use native.Mathlib.Decide.{decLe, ℕ-discrete}
 use native.Mathlib.Omega.{arith}
-use borrow.Author.Tests.{ltb-true, ltb-false, eqb-true, eqb-false, eq-eqb, ne-eqb, not-true, not-false}
-use lib.Dec.{ltb, eqb}
+use borrow.Author.Tests.{ltb-true, ltb-false, leb-true, leb-false, eqb-true, eqb-false, eq-eqb, ne-eqb, not-true, not-false}
+use lib.Dec.{leb, ltb, eqb}
 use Rattle.numbers.specs.Fraction.{Fraction, _≤ᶠ_, _≤?_}
 use Rattle.numbers.proofs.Order.{test-cases}
 use Rattle.sheet.specs.declared.Check.{Check}
@@ -288,3 +288,15 @@ pub ≤-shows : (x y : Fraction) → Shows (x ≤? y) (x ≤ᶠ y)
 pub &&-shows : {b c : Bool} {A B : Type 0} → Shows b A → Shows c B → Shows (b && c) (A × B)
 &&-shows {b = true} s t = record { shown = λ e. (s .shown refl, t .shown e); denied = λ e (x, y). t .denied e y }
 &&-shows {b = false} s t = record { shown = λ e. absurd (true-is-not-false (sym e)); denied = λ e (x, y). s .denied refl x }
+
+pub leb-shows : (x y : ℕ) → Shows (leb x y) (x ≤ y)
+leb-shows x y = record { shown = leb-true x y; denied = λ e l. omega (arith, leb-false x y e) }
+
+-- that x ≤ y does not hold shows y < x
+pub not-leb-shows : (x y : ℕ) → Shows (not (leb x y)) (y < x)
+not-leb-shows x y = record { shown = λ e. leb-false x y (not-true (leb x y) e); denied = λ e l. omega (arith, leb-true x y (not-false (leb x y) e)) }
+
+-- a test that is made of some sheets alone demands nothing of the others
+pub guarded : {g b : Bool} {A B : Type 0} → Shows g A → Tests b B → Tests (g && b) (A → B)
+guarded {g = true} s t = record { holds = λ e _. t .holds e; fails = λ e f. t .fails e (f (s .shown refl)) }
+guarded {g = false} s t = record { holds = λ _ a. absurd (s .denied refl a); fails = λ e. absurd (true-is-not-false (sym e)) }

@@ -1,4 +1,4 @@
--- "Where a sheet stops", numbers 1 to 21 of document 01 as demands in plain arithmetic, each with its place: a sheet is accepted
+-- "Where a sheet stops", numbers 1 to 21 and 24 as demands in plain arithmetic, each with its place: a sheet is accepted
 -- where all are met, and else the first that is not met gives the number and the place.
 -- Assumes nothing.
 use mathlib.Core.Bool.{Bool, true}
@@ -20,11 +20,13 @@ use Rattle.exact.specs.Canister.{a, b}
 use Rattle.exact.specs.Factors.{total}
 use Rattle.sheet.specs.declared.Check.the-variants.{Pass, Refused}
 use Rattle.sheet.specs.Limits.{seasonsLimit, rowsLimit, countsLimit, daysLimit, coldLimit, warmLimit, vpLeast, vpLimit, percentLimit, tankLimit, vehiclesLimit, tripsLimit, minutesLimit}
-use Rattle.sheet.specs.Bytes.{u8At, u16At, versionOf, seasonsOf, rowsOf, durationCounts, hourCounts, seasonPlace, rowPlace, seasonAt, rowAt, equipmentAt}
+use Rattle.sheet.specs.Integers.{u8At, u16At}
+use Rattle.sheet.specs.Versions.{versionOf, seasonsStart}
+use Rattle.sheet.specs.Bytes.{seasonsOf, rowsOf, durationCounts, hourCounts, gridCounts, seasonPlace, rowPlace, seasonAt, rowAt, equipmentAt}
 use Rattle.sheet.specs.Sheet.{outside, lettersMissing, markCheck, numbersCheck, headCheck, lengthCheck, parkingCheck, daysBefore, temperaturesWrong, seasonCheck, isAbsent, codeWrong, percentWrong, loadWrong, above3, saturationWrong, someSeason, rowCheck, sheetCheck}
 use Rattle.sheet.specs.Check.{numberOf, placeOf}
 use Rattle.sheet.specs.Demands.{Met, FirstUnmet, Says, markDemands, numbersDemands, headDemands, lengthDemand, parkingDemands, seasonDemands, Size, AtMost3, rowDemands, demands}
-use Rattle.sheet.proofs.Checks.{Tests, Judges, numbers, among, number-among, Once, Unmet, unmet, Broken, broken, met-passes, says, true-is-not-false, below-suc, judges-refuse, judges-then, judges-each, _⊳_, ltb-tests, ||-tests, &&-tests, tests-as, not-tests, eqb-shows, ≤-shows, &&-shows}
+use Rattle.sheet.proofs.Checks.{Tests, Judges, numbers, among, number-among, Once, Unmet, unmet, Broken, broken, met-passes, says, true-is-not-false, below-suc, judges-refuse, judges-then, judges-each, _⊳_, ltb-tests, ||-tests, &&-tests, tests-as, not-tests, eqb-shows, ≤-shows, &&-shows, leb-shows, not-leb-shows, guarded}
 
 -- a number outside least to most
 outside-tests : (least most x : ℕ) → Tests (outside least most x) ((least ≤ x) × (x ≤ most))
@@ -41,7 +43,7 @@ mark-judged s =
 numbers-judged : (s : List ℕ) → Judges (numbersCheck s) (numbersDemands s)
 unfolding numbersCheck
 numbers-judged s =
-    not-tests (eqb-shows _ _) ⊳
+    outside-tests _ _ _ ⊳
     outside-tests _ _ _ ⊳
     outside-tests _ _ _ ⊳
     judges-refuse (not-tests (eqb-shows _ _))
@@ -59,7 +61,10 @@ length-judged s = judges-refuse (not-tests (eqb-shows _ _))
 -- parkingCheck
 pub parking-judged : (s : List ℕ) → Judges (parkingCheck s) (parkingDemands s)
 unfolding parkingCheck
-parking-judged s = outside-tests _ _ _ ⊳ judges-refuse (outside-tests _ _ _)
+parking-judged s =
+    guarded (not-leb-shows _ _) (outside-tests _ _ _) ⊳
+    guarded (not-leb-shows _ _) (outside-tests _ _ _) ⊳
+    judges-refuse (guarded (leb-shows _ _) (outside-tests _ _ _))
 
 -- seasonCheck
 pub season-judged : (s : List ℕ) (i : ℕ) → Judges (seasonCheck s i) (seasonDemands s i)
@@ -148,7 +153,7 @@ once s = (
     tt,
     (
       refl,
-      (refl, tt, tt),
+      (refl, tt, (refl, tt, tt)),
       (refl, (λ i. (refl, (refl, tt, (refl, tt, tt)))), (λ i. (refl, (refl, tt, (refl, tt, (refl, tt, (refl, tt, (refl, tt, (refl, tt, (refl, tt, (refl, tt, tt))))))))))),
     ),
   ),
@@ -158,7 +163,7 @@ once s = (
 pub met-accepted : (s : List ℕ) → Met (demands s) → sheetCheck s ≡ Pass
 met-accepted s met = met-passes (sheetCheck s) (sheet-judged s) met
 
--- a number is returned only where its demand is not met, and all before it are: at each numeral 1 to 21 this computes to the
+-- a number is returned only where its demand is not met, and all before it are: at each of these numerals this computes to the
 -- line of that number in the tables above, with its place, and those before it
 pub refused : (s : List ℕ) (n p : ℕ) → sheetCheck s ≡ Refused n p → Unmet n p (demands s)
 refused s n p h = unmet n p (demands s) (once s) (sheet-judged s .refuses n p h)
@@ -177,23 +182,24 @@ sheet-says s = says (sheetCheck s) (sheet-judged s) (no-zero s)
 
 -- in some season, whose record starts at p, this does not hold of it and of the days before it
 abbrev pub NotInSeason : List ℕ → ℕ → (Season → ℕ → Type 0) → Type 0
-NotInSeason s p A = (i : ℕ) × (i < seasonsOf s) × ((p ≡ 104 + 8 * i) × ¬ A (seasonAt s i) (daysBefore s i))
+NotInSeason s p A = (i : ℕ) × (i < seasonsOf s) × ((p ≡ seasonsStart s + 8 * i) × ¬ A (seasonAt s i) (daysBefore s i))
 
 -- in some row, whose record starts at p, this does not hold of it and of its place
 abbrev pub NotInRow : List ℕ → ℕ → (Row → ℕ → Type 0) → Type 0
-NotInRow s p A = (i : ℕ) × (i < rowsOf s) × ((p ≡ 104 + 8 * seasonsOf s + 24 * i) × ¬ A (rowAt s i) (rowPlace s i))
+NotInRow s p A = (i : ℕ) × (i < rowsOf s) × ((p ≡ seasonsStart s + 8 * seasonsOf s + 24 * i) × ¬ A (rowAt s i) (rowPlace s i))
 
--- for each number 1 to 21, what a refusal with it says of the sheet and of its place, with the numbers of document 01
+-- for each number, what a refusal with it says of the sheet and of its place, with the numbers of documents 01 and 02
 pub record Conditions (s : List ℕ) (p : ℕ) : Type 0 where
   pub short : sheetCheck s ≡ Refused 1 p → (p ≡ 0) × ¬ (8 ≤ length s)
   pub mark : sheetCheck s ≡ Refused 2 p → (p ≡ 0) × ¬ (((u8At s 0 ≡ 0x45) × (u8At s 1 ≡ 0x56)) × (u8At s 2 ≡ 0x50))
-  pub version : sheetCheck s ≡ Refused 3 p → (p ≡ 3) × ¬ (u16At s 3 ≡ 1)
+  pub version : sheetCheck s ≡ Refused 3 p → (p ≡ 3) × ¬ ((1 ≤ u16At s 3) × (u16At s 3 ≤ 2))
   pub seasons : sheetCheck s ≡ Refused 4 p → (p ≡ 5) × ¬ ((1 ≤ u8At s 5) × (u8At s 5 ≤ 12))
   pub rows : sheetCheck s ≡ Refused 5 p → (p ≡ 6) × ¬ ((1 ≤ u8At s 6) × (u8At s 6 ≤ 32))
   pub byte-7 : sheetCheck s ≡ Refused 6 p → (p ≡ 7) × ¬ (u8At s 7 ≡ 0)
-  pub length-wrong : sheetCheck s ≡ Refused 7 p → (p ≡ 0) × ¬ (length s ≡ 104 + 8 * seasonsOf s + 24 * rowsOf s)
-  pub durations : sheetCheck s ≡ Refused 8 p → (p ≡ 8) × ¬ ((1 ≤ total (durationCounts s)) × (total (durationCounts s) ≤ 1000))
-  pub hours : sheetCheck s ≡ Refused 9 p → (p ≡ 56) × ¬ ((1 ≤ total (hourCounts s)) × (total (hourCounts s) ≤ 1000))
+  pub length-wrong : sheetCheck s ≡ Refused 7 p → (p ≡ 0) × ¬ (length s ≡ seasonsStart s + 8 * seasonsOf s + 24 * rowsOf s)
+  pub durations : sheetCheck s ≡ Refused 8 p → (p ≡ 8) × ¬ (versionOf s < 2 → (1 ≤ total (durationCounts s)) × (total (durationCounts s) ≤ 1000))
+  pub hours : sheetCheck s ≡ Refused 9 p → (p ≡ 56) × ¬ (versionOf s < 2 → (1 ≤ total (hourCounts s)) × (total (hourCounts s) ≤ 1000))
+  pub grid : sheetCheck s ≡ Refused 24 p → (p ≡ 8) × ¬ (2 ≤ versionOf s → (1 ≤ total (gridCounts s)) × (total (gridCounts s) ≤ 1000000))
   pub days : sheetCheck s ≡ Refused 10 p → NotInSeason s p (λ (season : Season) (before : ℕ). ((1 ≤ season .days) × (season .days ≤ 366)) × (before + season .days ≤ 366))
   pub temperatures : sheetCheck s ≡ Refused 11 p
       → NotInSeason s p (λ (season : Season) (before : ℕ). ((negᶠ (300 /10^ 1) ≤ᶠ signedTenths (season .lowest)) × (signedTenths (season .lowest) ≤ᶠ signedTenths (season .highest)))
@@ -224,6 +230,7 @@ conditions s p =
       length-wrong = only 7;
       durations = only 8;
       hours = only 9;
+      grid = only 24;
       days = only 10;
       temperatures = only 11;
       vapour-pressure = only 12;

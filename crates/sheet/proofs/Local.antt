@@ -4,7 +4,8 @@ use mathlib.Core.List.{List}
 use mathlib.Core.Path.{_≡_, refl}
 use Prim.Native.Nat.{ℕ, suc, zero, _+_, _*_, _≤_, _<_}
 use native.Mathlib.Omega.{arith}
-use Rattle.sheet.specs.Bytes.{u8At, u16At, u32At, countsAt, seasonFrom, equipmentAt, canisterOf, tankOf, rowFrom}
+use Rattle.sheet.specs.Integers.{u8At, u16At, u32At}
+use Rattle.sheet.specs.Bytes.{countsAt, seasonFrom, equipmentAt, canisterOf, tankOf, rowFrom}
 
 -- n bytes from p on in s are those from q on in t
 pub record Same (s t : List ℕ) (p q n : ℕ) : Type 0 where

@@ -1,6 +1,6 @@
 -- Checks one after another, as the code makes them: a stage that refuses is the answer, and one that passes hands on.
 -- Assumes nothing.
-use mathlib.Core.Bool.{Bool, false}
+use mathlib.Core.Bool.{Bool, true, false, not, _&&_}
 use mathlib.Core.Path.{_≡_, refl, sym, ap, _∙_}
 use Prim.Native.Nat.{ℕ, suc, zero, _+_, _≤_, _<_}
 use native.Mathlib.Decide.{decLe}
@@ -22,6 +22,24 @@ pub regroup : (c₁ c₂ c₃ c₄ c₅ c₆ c₇ c₈ c₉ : Check) {x : Check}
     → x ≡ ((c₁ then c₂ then c₃) then (c₄ then c₅ then c₆) then c₇ then c₈ then c₉)
     → x ≡ (c₁ then c₂ then c₃ then c₄ then c₅ then c₆ then c₇ then c₈ then c₉)
 regroup c₁ c₂ c₃ c₄ c₅ c₆ c₇ c₈ c₉ h = h ∙ simp then-assoc
+
+-- nothing after a check
+then-pass-right : (c : Check) → c ≡ (c then Pass)
+unfolding _then_
+then-pass-right Pass = refl
+then-pass-right (Refused number place) = refl
+
+-- Two numbers for sheets without a grid and one for those with it: the two alone, and the one alone.
+module _ {g : Bool} (a b e : Bool) (m n p q r : ℕ) where
+  pub lists-alone : {x : Check} → g ≡ false → x ≡ (refuse a m q then refuse b n r)
+      → x ≡ (refuse (not g && a) m q then refuse (not g && b) n r then refuse (g && e) p q)
+  unfolding refuse
+  lists-alone h t = rw h (t ∙ ap (λ (d : Check). refuse a m q then d) (then-pass-right (refuse b n r)))
+
+  pub grid-alone : {x : Check} → g ≡ true → x ≡ refuse e p q
+      → x ≡ (refuse (not g && a) m q then refuse (not g && b) n r then refuse (g && e) p q)
+  unfolding refuse _then_
+  grid-alone h t = rw h t
 
 -- a stage that refuses is the answer
 pub stop : (c d : Check) {r : Check} {n p : ℕ} → r ≡ c → r ≡ Refused n p → r ≡ (c then d)

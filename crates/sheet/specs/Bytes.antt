@@ -1,9 +1,8 @@
--- The fields of a sheet, version 1, as document 01 places them. "Integers are little-endian, offsets decimal". Definitions only.
+-- The fields of a sheet as documents 01 and 02 place them. Definitions only.
 use mathlib.Core.Bool.{true, false}
 use mathlib.Core.List.{List, [], _∷_}
 use Prim.Native.Nat.{ℕ, suc, zero, _+_, _*_}
 use lib.Dec.{eqb}
-use lib.ListN.{getD}
 use Rattle.exact.specs.declared.Canister.{Canister}
 use Rattle.exact.specs.declared.Canister.the-variants.{None, Small, Medium, Large}
 use Rattle.exact.specs.declared.Equipment.{Equipment}
@@ -12,20 +11,10 @@ use Rattle.exact.specs.declared.Season.{Season}
 use Rattle.exact.specs.declared.Row.{Row}
 use Rattle.exact.specs.Classes.{equipment}
 use Rattle.exact.specs.Factors.{products}
-
-abbrev pub u8At : List ℕ → ℕ → ℕ
-u8At s i = getD s i 0
-
-abbrev pub u16At : List ℕ → ℕ → ℕ
-u16At s i = u8At s i + 256 * u8At s (i + 1)
-
-abbrev pub u32At : List ℕ → ℕ → ℕ
-u32At s i = u16At s i + 65536 * u16At s (i + 2)
+use Rattle.sheet.specs.Integers.{u8At, u16At, u32At}
+use Rattle.sheet.specs.Versions.{hasGrid, seasonsStart}
 
 -- "Head, 8 bytes: letters EVP (hexadecimal 45 56 50); u16 version 1; u8 seasons S, 1 to 12; u8 rows R, 1 to 32; a zero byte."
-abbrev pub versionOf : List ℕ → ℕ
-versionOf s = u16At s 3
-
 abbrev pub seasonsOf : List ℕ → ℕ
 seasonsOf s = u8At s 5
 
@@ -44,16 +33,21 @@ durationCounts s = countsAt s 8 24
 unfoldable pub hourCounts : List ℕ → List ℕ
 hourCounts s = countsAt s 56 24
 
--- the 576 counts of a version 1 sheet: "the cell of counts j and q weighs j·q/(P·Q)"
+-- "576 u16 counts, end hour 1 first, its 24 durations in a row"
+unfoldable pub gridCounts : List ℕ → List ℕ
+gridCounts s = countsAt s 8 576
+
+-- the counts of the 576 cells: with a grid its own, "a cell weighs count over sum"; else the products, "the cell of counts j and q
+-- weighs j·q/(P·Q)"
 unfoldable pub cellsOf : List ℕ → List ℕ
-cellsOf s = products (durationCounts s) (hourCounts s)
+cellsOf s = elim (hasGrid s) [ true ↦ gridCounts s | false ↦ products (durationCounts s) (hourCounts s) ]
 
 -- where season i and row i start, counted from 0
 abbrev pub seasonPlace : List ℕ → ℕ → ℕ
-seasonPlace s i = 104 + 8 * i
+seasonPlace s i = seasonsStart s + 8 * i
 
 abbrev pub rowPlace : List ℕ → ℕ → ℕ
-rowPlace s i = 104 + 8 * seasonsOf s + 24 * i
+rowPlace s i = seasonsStart s + 8 * seasonsOf s + 24 * i
 
 -- "Season, 8 bytes: u16 days .. i16 lowest and i16 highest temperature .. u16 vapour pressure vp", the record that starts at p
 unfoldable pub seasonFrom : List ℕ → ℕ → Season

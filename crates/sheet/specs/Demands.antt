@@ -13,8 +13,10 @@ use Rattle.exact.specs.declared.Season.{Season}
 use Rattle.exact.specs.Day.{signedTenths}
 use Rattle.exact.specs.Canister.{a, b}
 use Rattle.exact.specs.Factors.{total}
-use Rattle.sheet.specs.Limits.{seasonsLimit, rowsLimit, countsLimit, daysLimit, coldLimit, warmLimit, vpLeast, vpLimit, percentLimit, tankLimit, vehiclesLimit, tripsLimit, minutesLimit}
-use Rattle.sheet.specs.Bytes.{u8At, u16At, versionOf, seasonsOf, rowsOf, durationCounts, hourCounts, seasonPlace, rowPlace, seasonAt, rowAt, equipmentAt}
+use Rattle.sheet.specs.Limits.{versionLimit, seasonsLimit, rowsLimit, countsLimit, gridLimit, daysLimit, coldLimit, warmLimit, vpLeast, vpLimit, percentLimit, tankLimit, vehiclesLimit, tripsLimit, minutesLimit}
+use Rattle.sheet.specs.Integers.{u8At, u16At}
+use Rattle.sheet.specs.Versions.{versionOf, seasonsStart}
+use Rattle.sheet.specs.Bytes.{seasonsOf, rowsOf, durationCounts, hourCounts, gridCounts, seasonPlace, rowPlace, seasonAt, rowAt, equipmentAt}
 use Rattle.sheet.specs.Sheet.{daysBefore}
 
 -- Demands in their order: one with its number and place, one after another, and those on records 0, 1, .. n − 1.
@@ -50,7 +52,7 @@ markDemands s =
 -- Head | 3 version; 4 S; 5 R; 6 byte 7 | 3; 5; 6; 7
 abbrev pub numbersDemands : List ℕ → Demands
 numbersDemands s =
-    demand 3 3 (versionOf s ≡ 1) next
+    demand 3 3 ((1 ≤ versionOf s) × (versionOf s ≤ versionLimit)) next
     demand 4 5 ((1 ≤ seasonsOf s) × (seasonsOf s ≤ seasonsLimit)) next
     demand 5 6 ((1 ≤ rowsOf s) × (rowsOf s ≤ rowsLimit)) next
     demand 6 7 (u8At s 7 ≡ 0)
@@ -59,15 +61,17 @@ numbersDemands s =
 abbrev pub headDemands : List ℕ → Demands
 headDemands s = markDemands s next numbersDemands s
 
--- Length | 7 not 104 + 8S + 24R | 0
+-- Length | 7 not 104 + 8S + 24R, with a grid 1,160 + 8S + 24R | 0
 abbrev pub lengthDemand : List ℕ → Demands
-lengthDemand s = demand 7 0 (length s ≡ 104 + 8 * seasonsOf s + 24 * rowsOf s)
+lengthDemand s = demand 7 0 (length s ≡ seasonsStart s + 8 * seasonsOf s + 24 * rowsOf s)
 
 -- Parking | 8 duration sum; 9 hour sum | 8; 56
+-- with a grid: "24, grid sum out of range, place 8, standing where 8 and 9 stand"
 abbrev pub parkingDemands : List ℕ → Demands
 parkingDemands s =
-    demand 8 8 ((1 ≤ total (durationCounts s)) × (total (durationCounts s) ≤ countsLimit)) next
-    demand 9 56 ((1 ≤ total (hourCounts s)) × (total (hourCounts s) ≤ countsLimit))
+    demand 8 8 (versionOf s < 2 → (1 ≤ total (durationCounts s)) × (total (durationCounts s) ≤ countsLimit)) next
+    demand 9 56 (versionOf s < 2 → (1 ≤ total (hourCounts s)) × (total (hourCounts s) ≤ countsLimit)) next
+    demand 24 8 (2 ≤ versionOf s → (1 ≤ total (gridCounts s)) × (total (gridCounts s) ≤ gridLimit))
 
 -- Each season | 10 days or their running sum; 11 temperatures; 12 vp | record start
 abbrev pub seasonDemands : List ℕ → ℕ → Demands

@@ -1,6 +1,10 @@
--- The limits of a sheet, version 1, each named once for the definitions; fields/src/limits.rt names them for the code.
+-- The limits of a sheet, each named once for the definitions; fields/src/limits.rt names them for the code.
 -- Definitions only.
 use Prim.Native.Nat.{ℕ}
+
+-- the versions that are read, from 1 on
+abbrev pub versionLimit : ℕ
+versionLimit = 2
 
 -- "u8 seasons S, 1 to 12; u8 rows R, 1 to 32"
 abbrev pub seasonsLimit : ℕ
@@ -12,6 +16,10 @@ rowsLimit = 32
 -- "Each list sums to 1 to 1,000."
 abbrev pub countsLimit : ℕ
 countsLimit = 1000
+
+-- the grid of version 2: "They sum to 1 to 1,000,000"
+abbrev pub gridLimit : ℕ
+gridLimit = 1000000
 
 -- "u16 days, 1 to 366, all seasons together at most 366"
 abbrev pub daysLimit : ℕ

@@ -1,4 +1,4 @@
--- "Where a sheet stops": the table of document 01, numbers 1 to 21. Definitions only.
+-- "Where a sheet stops": the table of document 01, numbers 1 to 21, with number 24 of document 02. Definitions only.
 use mathlib.Core.Bool.{Bool, true, false, not, _&&_, _||_}
 use mathlib.Core.List.{List}
 use Prim.Native.Nat.{ℕ, suc, zero, _+_, _*_}
@@ -15,8 +15,10 @@ use Rattle.exact.specs.Day.{signedTenths}
 use Rattle.exact.specs.Canister.{a, b}
 use Rattle.exact.specs.Factors.{total}
 use Rattle.sheet.specs.declared.Check.{Check}
-use Rattle.sheet.specs.Limits.{seasonsLimit, rowsLimit, countsLimit, daysLimit, coldLimit, warmLimit, vpLeast, vpLimit, percentLimit, tankLimit, vehiclesLimit, tripsLimit, minutesLimit}
-use Rattle.sheet.specs.Bytes.{u8At, u16At, versionOf, seasonsOf, rowsOf, durationCounts, hourCounts, seasonPlace, rowPlace, seasonAt, rowAt, equipmentAt}
+use Rattle.sheet.specs.Limits.{versionLimit, seasonsLimit, rowsLimit, countsLimit, gridLimit, daysLimit, coldLimit, warmLimit, vpLeast, vpLimit, percentLimit, tankLimit, vehiclesLimit, tripsLimit, minutesLimit}
+use Rattle.sheet.specs.Integers.{u8At, u16At}
+use Rattle.sheet.specs.Versions.{versionOf, hasGrid, seasonsStart}
+use Rattle.sheet.specs.Bytes.{seasonsOf, rowsOf, durationCounts, hourCounts, gridCounts, seasonPlace, rowPlace, seasonAt, rowAt, equipmentAt}
 use Rattle.sheet.specs.Check.{refuse, _then_, each}
 
 -- a number outside least to most
@@ -36,7 +38,7 @@ markCheck s =
 -- Head | 3 version; 4 S; 5 R; 6 byte 7 | 3; 5; 6; 7
 unfoldable pub numbersCheck : List ℕ → Check
 numbersCheck s =
-    refuse (not (eqb (versionOf s) 1)) 3 3 then
+    refuse (outside 1 versionLimit (versionOf s)) 3 3 then
     refuse (outside 1 seasonsLimit (seasonsOf s)) 4 5 then
     refuse (outside 1 rowsLimit (rowsOf s)) 5 6 then
     refuse (not (eqb (u8At s 7) 0)) 6 7
@@ -45,15 +47,17 @@ numbersCheck s =
 unfoldable pub headCheck : List ℕ → Check
 headCheck s = markCheck s then numbersCheck s
 
--- Length | 7 not 104 + 8S + 24R | 0
+-- Length | 7 not 104 + 8S + 24R, with a grid 1,160 + 8S + 24R | 0
 unfoldable pub lengthCheck : List ℕ → Check
-lengthCheck s = refuse (not (eqb (length s) (104 + 8 * seasonsOf s + 24 * rowsOf s))) 7 0
+lengthCheck s = refuse (not (eqb (length s) (seasonsStart s + 8 * seasonsOf s + 24 * rowsOf s))) 7 0
 
 -- Parking | 8 duration sum; 9 hour sum | 8; 56
+-- with a grid: "24, grid sum out of range, place 8, standing where 8 and 9 stand"
 unfoldable pub parkingCheck : List ℕ → Check
 parkingCheck s =
-    refuse (outside 1 countsLimit (total (durationCounts s))) 8 8 then
-    refuse (outside 1 countsLimit (total (hourCounts s))) 9 56
+    refuse (not (hasGrid s) && outside 1 countsLimit (total (durationCounts s))) 8 8 then
+    refuse (not (hasGrid s) && outside 1 countsLimit (total (hourCounts s))) 9 56 then
+    refuse (hasGrid s && outside 1 gridLimit (total (gridCounts s))) 24 8
 
 -- the days of the first i seasons
 unfoldable pub daysBefore : List ℕ → ℕ → ℕ

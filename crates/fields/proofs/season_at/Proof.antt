@@ -7,13 +7,12 @@ use Rattle.fields.proofs.season_at.Tie as tie
 
 returns : tie.Need-returns
 unfolding seasonAt
-returns c = search needs
+returns c = (rw (← c .before .season-place .ensures) (c .season-from .ensures .0), search needs, search needs, search needs)
 
 pub season-at-spec : {M : Type 1} → statement M
 season-at-spec =
     tie.close
     (tie.spec
-    (λ c. search needs)
-    (λ c. search needs)
+    (λ c κs. search needs)
     (λ c κs. search needs)
     returns)

@@ -7,6 +7,7 @@ use native.Mathlib.Omega.{arith}
 use Rattle.sheet.specs.declared.Check.the-variants.{Pass}
 use Rattle.sheet.specs.Check.{each}
 use Rattle.sheet.specs.Sheet.{rowCheck}
+use Rattle.sheet.proofs.Versions.{start-between}
 use Rattle.sheet.proofs.Stages.{each-none, each-more, each-stop, each-all}
 use Rattle.row_checks.proofs.rows_check.Statement.{statement}
 use Rattle.row_checks.proofs.rows_check.Tie as tie
@@ -39,7 +40,7 @@ rows-check-spec =
     (tie.spec
     Inv-loop
     μ-loop
-    (λ c κs. search needs)
+    (λ c κs. omega (arith, start-between (c .before .args .s .now)))
     (λ c. (search needs, each-none _))
     (λ c κs. search needs)
     (λ c. search needs)

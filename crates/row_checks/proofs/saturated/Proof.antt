@@ -5,7 +5,9 @@ use Prim.Native.Nat.{_-_, _≤_}
 use native.Mathlib.Nat.{le-antisymm}
 use native.Mathlib.Numerals.{add-one}
 use borrow.Author.Needs.{needs}
+use native.Mathlib.Omega.{arith}
 use Rattle.sheet.specs.Sheet.{saturationWrong, someSeason, seasonCheck}
+use Rattle.sheet.proofs.Versions.{start-between}
 use Rattle.sheet.proofs.Checks.{each-pass}
 use Rattle.sheet.proofs.InRange.{passed-in-range}
 use Rattle.row_checks.proofs.saturated.Statement.{statement}
@@ -45,7 +47,7 @@ saturated-spec =
     (tie.spec
     Inv-loop
     μ-loop
-    (λ c κs. search needs)
+    (λ c κs. omega (arith, start-between (c .before .args .s .now)))
     loop-holds
     (λ c κs. search needs)
     saturation-wrong-requires

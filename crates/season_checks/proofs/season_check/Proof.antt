@@ -20,8 +20,9 @@ returns c =
       c .before .before .before .before .before .temperatures-wrong .ensures,
       c .before .before .before .before .before .before .when .ensures,
       c .before .before .before .before .before .before .before .before .outside .ensures,
-      c .before .before .before .before .before .before .before .before .before .season-at .ensures .0,
-      c .before .before .before .before .before .before .before .before .before .before .before .pre .1,
+      c .before .before .before .before .before .before .before .before .before .season-place .ensures,
+      c .before .before .before .before .before .before .before .before .before .before .season-at .ensures .0,
+      c .before .before .before .before .before .before .before .before .before .before .before .before .pre .1,
     )
 
 pub season-check-spec : {M : Type 1} → statement M
@@ -29,8 +30,7 @@ season-check-spec =
     tie.close
     (tie.spec
     (λ c κs. search needs)
-    (λ c. search needs)
-    (λ c. search needs)
+    (λ c κs. search needs)
     (λ c κs. search needs)
     add-days
     (λ c κs. search needs)

@@ -8,6 +8,7 @@ use native.Mathlib.Omega.{arith}
 use Rattle.sheet.specs.declared.Check.the-variants.{Pass}
 use Rattle.sheet.specs.Check.{each}
 use Rattle.sheet.specs.Sheet.{daysBefore, seasonCheck}
+use Rattle.sheet.proofs.Versions.{start-between}
 use Rattle.sheet.proofs.Conditions.{season-judged}
 use Rattle.sheet.proofs.Stages.{each-none, each-more, each-stop, each-all}
 use Rattle.season_checks.proofs.seasons_check.Statement.{statement}
@@ -52,7 +53,7 @@ seasons-check-spec =
     (tie.spec
     Inv-loop
     μ-loop
-    (λ c κs. search needs)
+    (λ c κs. omega (arith, start-between (c .before .args .s .now)))
     loop-holds
     (λ c κs. search needs)
     (λ c. search needs)

@@ -12,12 +12,14 @@ returns c =
       c .when .ensures,
       c .before .rows-of .ensures .0,
       c .before .before .seasons-of .ensures .0,
+      c .before .before .before .seasons-start .ensures .0,
     )
 
 pub length-check-spec : {M : Type 1} → statement M
 length-check-spec =
     tie.close
     (tie.spec
+    (λ c κs. search needs)
     (λ c κs. search needs)
     (λ c. search needs)
     (λ c. search needs)

@@ -17,17 +17,19 @@ returns c =
       c .before .before .before .before .before .when3 .ensures,
       c .before .before .before .before .before .before .when2 .ensures,
       c .before .before .before .before .before .before .before .when .ensures,
-      c .before .before .before .before .before .before .before .before .u16-at .ensures .0,
-      c .before .before .before .before .before .before .before .before .before .outside2 .ensures,
-      c .before .before .before .before .before .before .before .before .before .before .u8-at2 .ensures .0,
-      c .before .before .before .before .before .before .before .before .before .before .before .outside .ensures,
-      c .before .before .before .before .before .before .before .before .before .before .before .before .u8-at .ensures .0,
+      c .before .before .before .before .before .before .before .before .outside3 .ensures,
+      c .before .before .before .before .before .before .before .before .before .u8-at2 .ensures .0,
+      c .before .before .before .before .before .before .before .before .before .before .outside2 .ensures,
+      c .before .before .before .before .before .before .before .before .before .before .before .u8-at .ensures .0,
+      c .before .before .before .before .before .before .before .before .before .before .before .before .outside .ensures,
+      c .before .before .before .before .before .before .before .before .before .before .before .before .before .version-of .ensures,
     )
 
 pub numbers-check-spec : {M : Type 1} → statement M
 numbers-check-spec =
     tie.close
     (tie.spec
+    (λ c κs. search needs)
     (λ c κs. search needs)
     (λ c κs. search needs)
     (λ c κs. search needs)

@@ -11,22 +11,22 @@ use Rattle.checks.proofs.parking.counts_total.Statement.{statement}
 use Rattle.checks.proofs.parking.counts_total.Tie as tie
 
 abbrev Inv-loop : tie.InvT-loop
-Inv-loop s p sum₀ i₀ sum i =
-    (i ≤ 24) × (sum ≤ 65536 * i) × (sum + total (left s p 24 i) ≡ total (countsAt s p 24))
+Inv-loop s p n sum₀ i₀ sum i =
+    (i ≤ n) × (sum ≤ 65536 * i) × (sum + total (left s p n i) ≡ total (countsAt s p n))
 
 abbrev μ-loop : tie.MeasureT-loop
-μ-loop s p sum₀ i₀ sum i = 24 - i
+μ-loop s p n sum₀ i₀ sum i = n - i
 
 loop-holds : tie.Need-loop-holds Inv-loop μ-loop
-loop-holds c = (search needs, search needs, omega (arith, ap total (left-all (c .before .args .s .now) (c .before .args .p) 24)))
+loop-holds c = (search needs, search needs, omega (arith, ap total (left-all (c .before .args .s .now) (c .before .args .p) (c .before .args .n))))
 
 loop-again : tie.Need-loop-again Inv-loop μ-loop
 loop-again c =
     let l = c .before .before .loop in
-    (search needs, search needs, added-more _ _ 24 (l .i) (l .sum) _ (omega arith) (l .inv .2) (c .u16-at .ensures .0))
+    (search needs, search needs, added-more _ _ _ (l .i) (l .sum) _ (omega arith) (l .inv .2) (c .u16-at .ensures .0))
 
 returns : tie.Need-returns Inv-loop μ-loop
-returns c = let l = c .before .loop in added-all _ _ 24 (l .i) _ (omega arith) (l .inv .2)
+returns c = let l = c .before .loop in added-all _ _ _ (l .i) _ (omega arith) (l .inv .2)
 
 pub counts-total-spec : {M : Type 1} → statement M
 counts-total-spec =

@@ -1,35 +1,48 @@
--- `report_words::parkings::cells_of` meets its contract: an accepted sheet has both lists of counts, and their sums are within limits.
-use mathlib.Core.Path.{_≡_}
+-- `report_words::parkings::cells_of` meets its contract: an accepted sheet has a grid or both lists of counts, and their sums are within
+-- limits.
+use mathlib.Core.Path.{_≡_, sym, _∙_}
+use native.Mathlib.Omega.{arith}
 use Rattle.sheet.specs.Bytes.{cellsOf}
+use Rattle.sheet.proofs.Versions.{cells-grid, cells-lists}
 use Rattle.sheet.proofs.Accepted.{accepted}
-use Rattle.report_words.proofs.AcceptedRange.{cells-in-range, durations-length, hours-length}
-use Rattle.report_words.proofs.Places.{parking-there}
-use borrow.Author.Needs.{needs}
+use Rattle.report_words.proofs.AcceptedRange.{cells-in-range, lists-most, durations-length, hours-length}
+use Rattle.report_words.proofs.Places.{parking-there, grid-there}
 use Rattle.report_words.proofs.parkings.cells_of.Statement.{statement}
 use Rattle.report_words.proofs.parkings.cells_of.Tie as tie
 
--- the cells
-cells-are : (c : tie.After-products) → c .products .result ≡ cellsOf (c .before .before .before .before .args .s .now)
-unfolding cellsOf
-cells-are c = cc
-
 products-requires : tie.Need-products-requires
 products-requires c κs =
-    let start = c .before .before .before in
+    let start = c .before .before .before .before .before in
     let s = start .args .s .now in
-    let a = accepted s (start .pre) in
-    rw (c .hour-counts .ensures, c .before .duration-counts .ensures) (durations-length s, hours-length s, a .durations-most, a .hours-most)
+    let h = sym (c .before .before .before .has-grid .ensures) ∙ c .before .before .if1 .left in
+    let (durations, hours) = lists-most (accepted s (start .pre)) h in
+    rw (c .hour-counts .ensures, c .before .duration-counts .ensures) (durations-length s, hours-length s, durations, hours)
 
 returns : tie.Need-returns
 returns c =
     let start = c .before .before .before .before in
-    (cells-are c, rw (cells-are c) (cells-in-range (accepted (start .args .s .now) (start .pre))))
+    let s = start .args .s .now in
+    let h = sym (c .before .before .has-grid .ensures) ∙ c .before .if1 .taken in
+    let are : c .grid-counts .result ≡ cellsOf s = c .grid-counts .ensures ∙ sym (cells-grid s h) in
+    (are, rw are (cells-in-range (accepted s (start .pre))))
+
+returns-2 : tie.Need-returns-2
+returns-2 c =
+    let start = c .before .before .before .before .before .before in
+    let s = start .args .s .now in
+    let h = sym (c .before .before .before .before .has-grid .ensures) ∙ c .before .before .before .if1 .left in
+    let are : c .products .result ≡ cellsOf s
+    = c .products .ensures ∙ rw (c .before .hour-counts .ensures, c .before .before .duration-counts .ensures) (sym (cells-lists s h)) in
+    (are, rw are (cells-in-range (accepted s (start .pre))))
 
 pub cells-of-spec : {M : Type 1} → statement M
 cells-of-spec =
     tie.close
     (tie.spec
-    (λ c κs. parking-there _ (c .before .pre))
-    (λ c κs. parking-there _ (c .before .before .pre))
+    (λ c κs. omega (arith, parking-there _ (c .before .pre)))
+    (λ c κs. grid-there _ (c .before .before .before .pre) (sym (c .before .has-grid .ensures) ∙ c .if1 .taken))
+    (λ c κs. parking-there _ (c .before .before .before .pre))
+    (λ c κs. parking-there _ (c .before .before .before .before .pre))
     products-requires
-    returns)
+    returns
+    returns-2)

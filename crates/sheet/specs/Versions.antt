@@ -1,0 +1,18 @@
+-- What each version changes in document 01's sheet. Nothing after the reading asks for the version. Definitions only.
+use mathlib.Core.Bool.{Bool, true, false}
+use mathlib.Core.List.{List}
+use Prim.Native.Nat.{ℕ}
+use lib.Dec.{leb}
+use Rattle.sheet.specs.Integers.{u16At}
+
+-- "Head, 8 bytes: letters EVP (hexadecimal 45 56 50); u16 version 1; .."
+abbrev pub versionOf : List ℕ → ℕ
+versionOf s = u16At s 3
+
+-- from version 2 on: "Version 2 replaces the two lists by 576 u16 counts, end hour 1 first, its 24 durations in a row."
+abbrev pub hasGrid : List ℕ → Bool
+hasGrid s = leb 2 (versionOf s)
+
+-- where the seasons start, after the parking: 96 bytes of two lists, or with a grid "the length is 1,160 + 8S + 24R"
+unfoldable pub seasonsStart : List ℕ → ℕ
+seasonsStart s = elim (hasGrid s) [ true ↦ 1160 | false ↦ 104 ]
