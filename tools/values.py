@@ -95,8 +95,8 @@ use Rattle.numbers.specs.Fraction.{Fraction, whole, _over_}
 use Rattle.exact.specs.declared.Canister.the-variants.{None, Small, Medium, Large}
 use Rattle.exact.specs.declared.Season.{Season}
 use Rattle.exact.specs.declared.Row.{Row}
-use Rattle.exact.specs.Factors.{Factor, F1, F2, F3, F4, F5, F6, F7, factor, products}
-use Rattle.exact.specs.Masses.{Mechanism, diurnal, soak, running, mass}
+use Rattle.exact.specs.Factors.{F1, F2, F3, F4, F5, F6, F7, factor, products}
+use Rattle.exact.specs.Masses.{diurnal, soak, running, mass}
 use Rattle.exact.proofs.Open.{definitions}
 
 -- the same values one by one, compared crosswise
