@@ -142,11 +142,3 @@ weighted-suc v cell (count ∷ counts) zero h = rw (add-zero cell) (omega arith)
 weighted-suc v cell (count ∷ counts) (suc i) h =
     let e : cell + suc i ≡ suc cell + i = omega arith in
     rw e (omega (arith, weighted-suc v (suc cell) counts i (omega arith)))
-
--- the first cells have no more than all
-pub weighted-first : (v : ℕ → ℕ) (cell : ℕ) (counts : List ℕ) (i : ℕ) → weighted v cell (take i counts) ≤ weighted v cell counts
-unfolding weighted
-weighted-first v cell [] zero = omega arith
-weighted-first v cell [] (suc i) = omega arith
-weighted-first v cell (count ∷ counts) zero = omega arith
-weighted-first v cell (count ∷ counts) (suc i) = omega (arith, weighted-first v (suc cell) counts i)

@@ -7,7 +7,7 @@ use native.Mathlib.Numerals.{add-one}
 use native.Mathlib.Omega.{arith}
 use native.Mathlib.Nat.{le-antisymm, suc-mul, eq-or-lt-of-le}
 use lib.ListN.{length, getD, set, take, length-append, length-set, List·getD-append}
-use lib.Seq.{take-suc-set, take-all, getD-at, getD-take, ext-getD}
+use lib.Seq.{take-suc-set, take-all, getD-at, ext-getD}
 use Rattle.numbers.specs.Lists.{tab, sum, at, AllAtMost}
 
 -- A list of n places that is filled from the front: the first i hold the values of f.
@@ -81,10 +81,6 @@ getD-tab f (suc n) k h =
     let l : k ≤ n = omega arith in
     ⊎-elim (λ e. rw e (getD-at (tab f n) (f n) [] 0 n (tab-length f n)))
     (λ g. List·getD-append (tab f n) (f n ∷ []) 0 k (rw (tab-length f n) g) ∙ getD-tab f n k g) (eq-or-lt-of-le l)
-
--- what is stored so far stands at its place
-pub filled-at : {f : ℕ → ℕ} {n i : ℕ} {xs : List ℕ} → Filled f n i xs → (k : ℕ) → k < i → at xs k ≡ f k
-filled-at {f} {n} {i} {xs} h k l = sym (getD-take i xs k 0 l) ∙ ap (λ (ys : List ℕ). at ys k) (h .stored) ∙ getD-tab f i k l
 
 -- a list is made up of what stands in it
 pub tab-at : (xs : List ℕ) {n : ℕ} → length xs ≡ n → tab (at xs) n ≡ xs

@@ -6,7 +6,7 @@ use Prim.Native.Nat.{ℕ, suc, _+_, _≤_, _<_}
 use native.Mathlib.Nat.{le-antisymm, le-dest}
 use native.Mathlib.Numerals.{add-one}
 use native.Mathlib.Omega.{arith}
-use lib.ListN.{length, getD, set, take, drop, length-append, length-drop, take-append-drop, List·getD-append}
+use lib.ListN.{length, getD, set, take, drop, length-append, take-append-drop, List·getD-append}
 use lib.Seq.{length-take-le, sets, set-at, drop-at, drop-cons, drop-drop, getD-append-add, getD-drop, getD-take, ext-getD, getD-set-other}
 use Rattle.numbers.specs.Lists.{tab}
 use Rattle.numbers.proofs.Lists.{tab-length, getD-tab}

@@ -5,10 +5,10 @@ use mathlib.Core.List.{List, [], _∷_, _++_, append-assoc}
 use mathlib.Core.Logic.{⊎-elim}
 use mathlib.Core.Path.{_≡_, refl, _∙_}
 use Prim.Native.Nat.{ℕ, suc, zero, _+_, _*_, _≤_, _<_}
-use native.Mathlib.Nat.{eq-or-lt-of-le, le-dest}
+use native.Mathlib.Nat.{eq-or-lt-of-le}
 use native.Mathlib.Omega.{arith}
-use lib.ListN.{length, getD, drop, length-append, length-drop, List·getD-append}
-use lib.Seq.{getD-append-add, getD-drop}
+use lib.ListN.{length, getD, length-append, List·getD-append}
+use lib.Seq.{getD-append-add}
 use Rattle.numbers.proofs.Lists.{tab-length, getD-tab}
 use Rattle.sheet.specs.Bytes.{rowsOf}
 use Rattle.masses.specs.Figures.{rowFigures}

@@ -1,17 +1,15 @@
 -- Every word of an accepted report fits 64 bits, and so does every sum on the way to it.
 -- Assumes nothing.
 use mathlib.Core.Bool.{Bool}
-use mathlib.Core.List.{List, [], _∷_, _++_}
-use Prim.Native.Nat.{ℕ, suc, zero, _+_, _*_, _^_, _≤_, _<_}
+use mathlib.Core.List.{List}
+use Prim.Native.Nat.{ℕ, _*_, _^_, _≤_, _<_}
 use native.Mathlib.Nat.{mul-le-mul-right}
 use native.Mathlib.Omega.{arith}
-use lib.ListN.{getD}
-use Rattle.numbers.proofs.Lists.{sum-le, tab-all}
+use Rattle.numbers.proofs.Lists.{sum-le}
 use Rattle.sheet.specs.Limits.{rowsLimit, vehiclesLimit}
 use Rattle.sheet.specs.Bytes.{rowsOf, rowAt}
 use Rattle.sheet.proofs.Accepted.{Bytes, Accepted}
-use Rattle.report_words.specs.Report.{wordsOf, rowWords, car, lightDuty, twoWheeler, anyClass, subtotal, subtotals, grandTotal, report}
-use Rattle.masses.proofs.MassSizes.{word-most}
+use Rattle.report_words.specs.Report.{subtotal, grandTotal}
 use Rattle.report_words.proofs.SumSizes.{vehiclesBefore, subtotal-most, grand-total-most, sums-fit}
 use Rattle.report_words.proofs.AcceptedRange.{row-sized}
 

@@ -1,12 +1,11 @@
 -- What a season and a row of an accepted sheet give to the calculation of their factors.
 use mathlib.Core.List.{List}
 use mathlib.Core.Path.{_≡_, _∙_}
-use Prim.Native.Nat.{ℕ, _*_, _^_, _≤_, _<_}
+use Prim.Native.Nat.{ℕ, _^_, _<_}
 use native.Mathlib.Omega.{arith}
 use Rattle.numbers.specs.Lists.{tab, AllAtMost}
 use Rattle.numbers.proofs.Lists.{tab-ext, tab-at-most}
 use Rattle.exact.specs.declared.Season.{Season}
-use Rattle.exact.specs.declared.Row.{Row}
 use Rattle.marks.specs.declared.Marks.{Marks}
 use Rattle.sheet.specs.Range.{SeasonInRange}
 use Rattle.sheet.specs.Range.{markWarmth}
@@ -14,12 +13,11 @@ use Rattle.marks.specs.Marks.{stepAt}
 use Rattle.marks.specs.AtMarks.{AtMarks}
 use Rattle.marks.proofs.Rise.{step-most}
 use Rattle.sheet.proofs.Temperature.{warmth-most}
-use Rattle.sheet.specs.Range.{RowInRange}
 use Rattle.factors.specs.Units.{parkingRise}
 use Rattle.parking.specs.Grid.{cellsIn, passedIn}
 use Rattle.parking.proofs.Passed.{passedIn-tab}
 use Rattle.row_factors.specs.declared.season.AtSeason.{AtSeason}
-use Rattle.row_factors.specs.Season.{MarksReady, AtSeasonOf, Lent}
+use Rattle.row_factors.specs.Season.{MarksReady, AtSeasonOf}
 use Rattle.masses.specs.Day.{UseInRange}
 use Rattle.sheet.specs.Bytes.{seasonsOf, rowsOf, seasonAt, rowAt}
 use Rattle.sheet.proofs.Accepted.{Bytes, Accepted, accepted}

@@ -15,7 +15,8 @@ use Rattle.exact.specs.Day.{signedTenths}
 use Rattle.exact.specs.Canister.{a, b}
 use Rattle.exact.specs.Factors.{total}
 use Rattle.sheet.specs.declared.Check.{Check}
-use Rattle.sheet.specs.Limits.{versionLimit, seasonsLimit, rowsLimit, countsLimit, gridLimit, daysLimit, coldLimit, warmLimit, vpLeast, vpLimit, percentLimit, tankLimit, vehiclesLimit, tripsLimit, minutesLimit}
+use Rattle.sheet.specs.Limits.{versionLimit, seasonsLimit, rowsLimit, countsLimit, gridLimit, daysLimit, coldLimit, warmLimit}
+use Rattle.sheet.specs.Limits.{vpLeast, vpLimit, percentLimit, tankLimit, vehiclesLimit, tripsLimit, minutesLimit}
 use Rattle.sheet.specs.Integers.{u8At, u16At}
 use Rattle.sheet.specs.Versions.{versionOf, hasGrid, seasonsStart}
 use Rattle.sheet.specs.Bytes.{seasonsOf, rowsOf, durationCounts, hourCounts, gridCounts, seasonPlace, rowPlace, seasonAt, rowAt, equipmentAt}

@@ -1,6 +1,6 @@
 -- `inventory::report` meets its contract: a refusal leaves the buffer, and an accepted report is what document 01 promises.
 -- Assumes nothing.
-use mathlib.Core.Path.{_≡_, refl, sym, _∙_}
+use mathlib.Core.Path.{refl, sym, _∙_}
 use borrow.Author.Needs.{needs}
 use Rattle.sheet.proofs.Accepted.{Bytes}
 use Rattle.report_words.specs.Report.{reportLength}

@@ -3,7 +3,6 @@
 use mathlib.Core.List.{List}
 use mathlib.Core.Path.{_≡_, refl, _∙_, ap}
 use Prim.Native.Nat.{ℕ, suc, zero, _-_, _≤_}
-use borrow.Author.Needs.{needs}
 use native.Mathlib.Omega.{arith}
 use lib.ListN.{getD}
 use Rattle.row_factors.specs.Seven.{sevenUnits}

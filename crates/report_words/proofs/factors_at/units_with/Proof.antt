@@ -1,14 +1,10 @@
 -- `report_words::factors_at::units_with` meets its contract: the season and the row of an accepted sheet are in range.
-use mathlib.Core.Path.{_≡_, _∙_}
 use Rattle.sheet.specs.Range.{SeasonInRange}
-use Rattle.row_factors.specs.Seven.{sevenUnits}
 use Rattle.row_factors.specs.Season.{MarksReady}
-use Rattle.sheet.specs.Bytes.{cellsOf, seasonAt, rowAt}
 use Rattle.sheet.proofs.Accepted.{Bytes, accepted}
 use Rattle.report_words.proofs.Places.{season-there, row-there}
 use Rattle.report_words.proofs.SeasonWork.{steps-most, marks-ready, season-lent}
 use Rattle.masses.proofs.FigureSizes.{units-in-range}
-use borrow.Author.Needs.{needs}
 use Rattle.report_words.proofs.factors_at.units_with.Statement.{statement}
 use Rattle.report_words.proofs.factors_at.units_with.Tie as tie
 

@@ -1,5 +1,5 @@
 -- `report_words::year::add_season` meets its contract: the words then hold one season more.
-use mathlib.Core.Path.{_≡_, _∙_}
+use mathlib.Core.Path.{_∙_}
 use Rattle.sheet.specs.Range.{SeasonInRange}
 use Rattle.row_factors.specs.Season.{MarksReady}
 use Rattle.sheet.proofs.Accepted.{Bytes, accepted}
