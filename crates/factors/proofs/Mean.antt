@@ -1,11 +1,9 @@
 -- The weighted mean over the cells: it is linear in the cells' values, and the computed mean encloses it, for any counts.
 -- Assumes nothing.
-use mathlib.Core.Path.{_≡_}
 use mathlib.Core.List.{List, [], _∷_}
-use lib.ListN.{length, take, getD}
 use Prim.Native.Nat.{ℕ, suc, zero, _+_, _*_, _^_, _/_, _≤_, _<_}
 use native.Mathlib.Omega.{arith}
-use native.Mathlib.Nat.{mul-le-mul-right, mul-le-mul-left, div-mul-le-self, lt-div-mul-add, le-of-mul-le-mul-right, div-le-of-le-mul, add-zero}
+use native.Mathlib.Nat.{mul-le-mul-right, mul-le-mul-left, div-mul-le-self, lt-div-mul-add, le-of-mul-le-mul-right, div-le-of-le-mul}
 use Rattle.numbers.specs.Fraction.{Fraction, _≈ᶠ_, _+ᶠ_, _*ᶠ_, whole, _over_, _times_}
 use Rattle.bounds.specs.Enclosure.{Within, WithinAll}
 use Rattle.numbers.proofs.Order.{ring, ≈-refl, ≈-sym, ≈-trans, ≈-by, +-cong, *-cong, *-comm, *-assoc, *-distrib, *-zero, +-zero, over-cong, times-cong, times-is}
@@ -132,13 +130,3 @@ meanUnits-most counts v M h =
     div-le-of-le-mul (total counts) (weighted-most (λ (cell : ℕ). v cell / 2 ^ 12) M (λ cell. omega (arith, h cell)) 0 counts)
 
 -- The sum over the first cells, as a loop adds it up.
-
--- one cell more
-weighted-suc : (v : ℕ → ℕ) (cell : ℕ) (counts : List ℕ) (i : ℕ) → i < length counts
-    → weighted v cell (take (suc i) counts) ≡ weighted v cell (take i counts) + getD counts i 0 * v (cell + i)
-unfolding weighted
-weighted-suc v cell [] i h = absurd (omega arith)
-weighted-suc v cell (count ∷ counts) zero h = rw (add-zero cell) (omega arith)
-weighted-suc v cell (count ∷ counts) (suc i) h =
-    let e : cell + suc i ≡ suc cell + i = omega arith in
-    rw e (omega (arith, weighted-suc v (suc cell) counts i (omega arith)))
