@@ -19,7 +19,7 @@ use Rattle.report_words.specs.Years.{category}
 pub rowWords-length : (s : List ℕ) (n : ℕ) → length (rowWords s n) ≡ 6 * n
 unfolding rowWords wordsOf rowFigures
 rowWords-length s zero = refl
-rowWords-length s (suc n) = length-append (rowWords s n) (wordsOf s n) ∙ omega (arith, rowWords-length s n)
+rowWords-length s (suc n) = length-append (rowWords s n) _ ∙ omega (arith, rowWords-length s n)
 
 -- and for each category
 pub subtotals-length : (s : List ℕ) (category : ℕ → Bool) → length (subtotals s category) ≡ 6
