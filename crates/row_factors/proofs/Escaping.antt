@@ -16,28 +16,32 @@ use Rattle.exact.specs.declared.Row.{Row}
 use Rattle.sheet.specs.Range.{markWarmth}
 use Rattle.marks.specs.Marks.{raise, rate, tenths}
 use Rattle.exact.specs.Factors.{endHour, duration}
-use Rattle.marks.specs.AtMarks.{raisesBy, ratesAt}
+use Rattle.marks.specs.AtMarks.{AtMarks, raisesBy, ratesAt}
 use Rattle.marks.proofs.Heat.{raise-most}
 use Rattle.marks.proofs.Permeation.{rate-most}
 use Rattle.marks.proofs.Rise.{rise-most}
 use Rattle.sheet.proofs.Temperature.{warmth-most}
 use Rattle.factors.proofs.Losses.{duration-most}
-use Rattle.sheet.specs.Range.{RowInRange}
 use Rattle.sheet.specs.Range.{SeasonInRange}
 use Rattle.sheet.specs.Range.{halves}
 use Rattle.factors.specs.Means.{meanUnits}
 use Rattle.factors.specs.Units.{gain, parkingRise, parkingRates, vapourUnits, throughUnits, escapeUnits, escapeOverUnits, openUnits, startOf, endOf}
+use Rattle.factors.proofs.Gain.{gain-most}
 use Rattle.factors.proofs.Mean.{meanUnits-most}
 use Rattle.factors.proofs.Sizes.{parking-rise-most, raise-rise-most}
-use Rattle.parking.specs.Grid.{markOf, passedIn}
+use Rattle.bounds.specs.Exponential.{entries}
+use Rattle.parking.specs.Grid.{markOf, passedIn, cellsIn, GridReady}
 use Rattle.parking.proofs.Passed.{passedIn-tab}
 use Rattle.parking.proofs.Tally.{markOf-below}
 use Rattle.parking.proofs.Weighted.{mean-ext, mean-below}
 use Rattle.breakthrough.specs.declared.curves.Curves.{Curves}
 use Rattle.breakthrough.specs.Curves.{CurvesOf}
-use Rattle.breakthrough.proofs.Fitted.{through-is}
-use Rattle.row_factors.specs.Season.{meanAt}
-use Rattle.row_factors.specs.Seven.{parkingThrough, raiseThrough, parkingEscape}
+use Rattle.breakthrough.specs.Through.{CurvesReady}
+use Rattle.breakthrough.proofs.Fitted.{curves-ready, through-is}
+use Rattle.row_factors.specs.declared.season.AtSeason.{AtSeason}
+use Rattle.row_factors.specs.declared.escapes.Escapes.{Escapes}
+use Rattle.row_factors.specs.Season.{meanAt, MarksReady, RowLent}
+use Rattle.row_factors.specs.Seven.{parkingThrough, raiseThrough, parkingEscape, VapourOf, CarEscapes, TwoWheelerEscapes}
 
 module _ (season : Season) (row : Row) (counts : List ℕ) where
   -- with a canister the escape of each cell is averaged
@@ -77,7 +81,7 @@ module _ (season : Season) (row : Row) (counts : List ℕ) where
 
 -- How large the values at the marks are.
 module _ {season : Season} (s : SeasonInRange season) where
-  pub raise-list-most : (k : ℕ) {xs : List ℕ} → k ≤ 60 → xs ≡ tab (raisesBy season k) 48 → AllAtMost (56 * 2 ^ 40) xs
+  raise-list-most : (k : ℕ) {xs : List ℕ} → k ≤ 60 → xs ≡ tab (raisesBy season k) 48 → AllAtMost (56 * 2 ^ 40) xs
   raise-list-most k h e = tab-at-most _ 48 e (λ mark _. raise-most (tenths k) (markWarmth season mark) (omega arith) (warmth-most mark s))
 
   pub raise-list-fits : (k : ℕ) {xs : List ℕ} → k ≤ 60 → xs ≡ tab (raisesBy season k) 48 → AllAtMost (2 ^ 54) xs
@@ -107,13 +111,13 @@ module _ {season : Season} (s : SeasonInRange season) where
 -- A row with a canister, whose values at the marks these are.
 module _ {season : Season} {row : Row} {c : Curves} (f : CurvesOf season row c) (p : 0 < halves (row .canister)) (cells : List ℕ) where
   -- in a parking
-  pub parking-escape : {rises : List ℕ} → length cells ≡ 576 → rises ≡ tab (parkingRise season) 576 → parkingThrough cells rises c ≡ parkingEscape season row cells
+  parking-escape : {rises : List ℕ} → length cells ≡ 576 → rises ≡ tab (parkingRise season) 576 → parkingThrough cells rises c ≡ parkingEscape season row cells
   parking-escape l e =
       mean-below cells l (λ cell h. rw (e, getD-tab (parkingRise season) 576 cell h) (through-is f (startOf cell) _ (markOf-below false cell))) ∙
       escape-through season row cells (row .canister) p startOf (parkingRise season)
 
   -- over a raise by so many tenths of °C
-  pub raise-escape : (ends : Bool) (k : ℕ) {raises : List ℕ} → raises ≡ tab (raisesBy season k) 48
+  raise-escape : (ends : Bool) (k : ℕ) {raises : List ℕ} → raises ≡ tab (raisesBy season k) 48
       → raiseThrough cells ends raises c ≡ escapeOverUnits season row cells (markOf ends) (tenths k)
   unfolding escapeOverUnits
   raise-escape ends k e =
@@ -121,29 +125,8 @@ module _ {season : Season} {row : Row} {c : Curves} (f : CurvesOf season row c) 
       (λ cell. rw (e, getD-tab (raisesBy season k) 48 (markOf ends cell) (markOf-below ends cell)) (through-is f (markOf ends cell) _ (markOf-below ends cell))) ∙
       escape-through season row cells (row .canister) p (markOf ends) (λ (cell : ℕ). raisesBy season k (markOf ends cell))
 
--- A row without canister: the vapour of the mean rise.
-module _ (season : Season) (row : Row) (cells : List ℕ) (none : halves (row .canister) ≡ 0) {v : ℕ} (g : v ≡ gain season row) where
-  pub open-parking : {x : ℕ} → x ≡ meanUnits cells (parkingRise season) → v * x / 2 ^ 40 ≡ parkingEscape season row cells
-  open-parking e = ap₂ (λ (g x : ℕ). g * x / 2 ^ 40) g e ∙ escape-open season row cells (row .canister) none _ _
-
-  pub open-raise : (mark : ℕ → ℕ) (k : ℕ) {x : ℕ} → x ≡ meanAt cells mark (raisesBy season k) → v * x / 2 ^ 40 ≡ escapeOverUnits season row cells mark (tenths k)
-  unfolding escapeOverUnits
-  open-raise mark k e = ap₂ (λ (g x : ℕ). g * x / 2 ^ 40) g e ∙ escape-open season row cells (row .canister) none _ _
-
-  pub open-trip : (k : ℕ) {x : ℕ} → x ≡ meanAt cells endOf (raisesBy season k) → v * x / 2 ^ 40 ≡ openUnits season row cells (row .canister) (tenths k)
-  open-trip k e = ap₂ (λ (g x : ℕ). g * x / 2 ^ 40) g e ∙ open-open season row cells (row .canister) none _
-
--- How large the mean rises are.
-module _ {season : Season} {row : Row} (s : SeasonInRange season) (r : RowInRange season row) (cells : List ℕ) where
-  pub rise-mean-most : {x : ℕ} → x ≡ meanUnits cells (parkingRise season) → x ≤ 450 * 2 ^ 40
-  rise-mean-most e = omega (arith, e, meanUnits-most cells (parkingRise season) (450 * 2 ^ 28) (λ cell. omega (arith, parking-rise-most s r cell)))
-
-  pub raise-mean-most : (mark : ℕ → ℕ) (k : ℕ) {x : ℕ} → k ≤ 60 → x ≡ meanAt cells mark (raisesBy season k) → x ≤ 450 * 2 ^ 40
-  raise-mean-most mark k h e =
-      omega (arith, e, meanUnits-most cells (λ (cell : ℕ). raisesBy season k (mark cell)) (56 * 2 ^ 28) (λ cell. omega (arith, raise-rise-most s r k (mark cell) h)))
-
--- five of them
-pub five-most : {a b c d e bound : ℕ} → a ≤ bound → b ≤ bound → c ≤ bound → d ≤ bound → e ≤ bound → AllAtMost bound (a ∷ b ∷ c ∷ d ∷ e ∷ [])
+-- five rises
+five-most : {a b c d e bound : ℕ} → a ≤ bound → b ≤ bound → c ≤ bound → d ≤ bound → e ≤ bound → AllAtMost bound (a ∷ b ∷ c ∷ d ∷ e ∷ [])
 five-most {a} {b} {c} {d} {e} {bound} p q r s t = record { at-most = each }
   where
     each : (k : ℕ) → at (a ∷ b ∷ c ∷ d ∷ e ∷ []) k ≤ bound
@@ -153,3 +136,87 @@ five-most {a} {b} {c} {d} {e} {bound} p q r s t = record { at-most = each }
     each (suc (suc (suc zero))) = s
     each (suc (suc (suc (suc zero)))) = t
     each (suc (suc (suc (suc (suc k))))) = omega arith
+
+-- A row with a canister, and what is lent to its functions: what they need, and that each mean is its escape.
+module _ {tables grid rises : List ℕ} {given : AtSeason} {row : Row} {vapour : ℕ}
+    (q : RowLent tables grid rises given row vapour × (0 < halves (row .canister))) {c : Curves} (f : CurvesOf (given .season) row c) where
+  marks-of : MarksReady (given .season) (given .marks) rises
+  marks-of = q .0 .lent .marks-ready
+
+  fitted : CurvesReady c
+  fitted = curves-ready (marks-of .season-in) (q .0 .row-in) (q .1) f
+
+  pub parking-needs : (tables ≡ entries) × GridReady grid × CurvesReady c × AllAtMost (450 * 2 ^ 40) rises
+  parking-needs = (q .0 .lent .tables-are, q .0 .lent .grid-ready, fitted, rises-most (marks-of .season-in) (marks-of .rises-are))
+
+  pub parking-right : {x : ℕ} → x ≡ parkingThrough (cellsIn grid) rises c → x ≡ parkingEscape (given .season) row (cellsIn grid)
+  parking-right e = e ∙ parking-escape f (q .1) _ (q .0 .lent .grid-ready .cells-in .length-is) (marks-of .rises-are)
+
+  -- over a raise, whose list at the marks is one of the season's
+  module _ (k : ℕ) {raises : List ℕ} (pick : AtMarks (given .season) (given .marks) → raises ≡ tab (raisesBy (given .season) k) 48) where
+    pub raise-needs : k ≤ 60 → (tables ≡ entries) × GridReady grid × CurvesReady c × AllAtMost (56 * 2 ^ 40) raises
+    raise-needs h = (q .0 .lent .tables-are, q .0 .lent .grid-ready, fitted, raise-list-most (marks-of .season-in) k h (pick (marks-of .marks-are)))
+
+    pub raise-right : (ends : Bool) {x : ℕ} → x ≡ raiseThrough (cellsIn grid) ends raises c
+        → x ≡ escapeOverUnits (given .season) row (cellsIn grid) (markOf ends) (tenths k)
+    raise-right ends e = e ∙ raise-escape f (q .1) _ ends k (pick (marks-of .marks-are))
+
+-- A row without canister, and what is lent to its functions: how large the mean rises are, and that the vapour of each is its escape.
+module _ {tables grid rises : List ℕ} {given : AtSeason} {row : Row} {vapour : ℕ} (r : RowLent tables grid rises given row vapour) where
+  season-ok : SeasonInRange (given .season)
+  season-ok = r .lent .marks-ready .season-in
+
+  rise-mean-most : given .means .rise ≤ 450 * 2 ^ 40
+  rise-mean-most =
+      omega (arith, r .lent .means-are .rise-is, meanUnits-most (cellsIn grid) (parkingRise (given .season)) (450 * 2 ^ 28) (λ cell. omega (arith, parking-rise-most season-ok (r .row-in) cell)))
+
+  raise-mean-most : (mark : ℕ → ℕ) (k : ℕ) {x : ℕ} → k ≤ 60 → x ≡ meanAt (cellsIn grid) mark (raisesBy (given .season) k) → x ≤ 450 * 2 ^ 40
+  raise-mean-most mark k h e =
+      omega (arith, e, meanUnits-most (cellsIn grid) (λ (cell : ℕ). raisesBy (given .season) k (mark cell)) (56 * 2 ^ 28) (λ cell. omega (arith, raise-rise-most season-ok (r .row-in) k (mark cell) h)))
+
+  -- two raises from the start of a parking, and two from its end
+  pub open-needs : (i j k l : ℕ) {a b c d : ℕ} → i ≤ 60 → j ≤ 60 → k ≤ 60 → l ≤ 60
+      → a ≡ meanAt (cellsIn grid) startOf (raisesBy (given .season) i) → b ≡ meanAt (cellsIn grid) startOf (raisesBy (given .season) j)
+      → c ≡ meanAt (cellsIn grid) endOf (raisesBy (given .season) k) → d ≡ meanAt (cellsIn grid) endOf (raisesBy (given .season) l)
+      → (vapour < 2 ^ 50) × AllAtMost (450 * 2 ^ 40) (given .means .rise ∷ a ∷ b ∷ c ∷ d ∷ [])
+  open-needs i j k l hi hj hk hl ei ej ek el =
+      (omega (arith, r .vapour-is, gain-most season-ok (r .row-in)), five-most rise-mean-most (raise-mean-most startOf i hi ei) (raise-mean-most startOf j hj ej) (raise-mean-most endOf k hk ek) (raise-mean-most endOf l hl el))
+
+  -- the vapour of a mean rise
+  vapour-of : {x y : ℕ} → x ≡ y → vapour * x / 2 ^ 40 ≡ gain (given .season) row * y / 2 ^ 40
+  vapour-of e = ap₂ (λ (g x : ℕ). g * x / 2 ^ 40) (r .vapour-is) e
+
+  module _ (none : halves (row .canister) ≡ 0) where
+    open-parking : vapour * given .means .rise / 2 ^ 40 ≡ parkingEscape (given .season) row (cellsIn grid)
+    open-parking = vapour-of (r .lent .means-are .rise-is) ∙ escape-open (given .season) row (cellsIn grid) (row .canister) none _ _
+
+    open-raise : (mark : ℕ → ℕ) (k : ℕ) {x : ℕ} → x ≡ meanAt (cellsIn grid) mark (raisesBy (given .season) k)
+        → vapour * x / 2 ^ 40 ≡ escapeOverUnits (given .season) row (cellsIn grid) mark (tenths k)
+    unfolding escapeOverUnits
+    open-raise mark k e = vapour-of e ∙ escape-open (given .season) row (cellsIn grid) (row .canister) none _ _
+
+    open-trip : (k : ℕ) {x : ℕ} → x ≡ meanAt (cellsIn grid) endOf (raisesBy (given .season) k)
+        → vapour * x / 2 ^ 40 ≡ openUnits (given .season) row (cellsIn grid) (row .canister) (tenths k)
+    open-trip k e = vapour-of e ∙ open-open (given .season) row (cellsIn grid) (row .canister) none _
+
+    pub open-car : {e : Escapes}
+        → VapourOf vapour (given .means .rise ∷ given .means .start45 ∷ given .means .start60 ∷ given .means .end10 ∷ given .means .end50 ∷ []) e
+        → CarEscapes (given .season) row (cellsIn grid) e
+    open-car v = record {
+      parking-is = v .parking-is ∙ open-parking;
+      soak-is = v .soak-is ∙ open-raise startOf 45 (r .lent .means-are .start45-is);
+      hotsoak-is = v .hotsoak-is ∙ open-raise startOf 60 (r .lent .means-are .start60-is);
+      trip-is = v .trip-is ∙ open-trip 10 (r .lent .means-are .end10-is);
+      hottrip-is = v .hottrip-is ∙ open-trip 50 (r .lent .means-are .end50-is);
+    }
+
+    pub open-two-wheeler : {e : Escapes}
+        → VapourOf vapour (given .means .rise ∷ given .means .start15 ∷ given .means .start35 ∷ given .means .end10 ∷ given .means .end25 ∷ []) e
+        → TwoWheelerEscapes (given .season) row (cellsIn grid) e
+    open-two-wheeler v = record {
+      parking-is = v .parking-is ∙ open-parking;
+      soak-is = v .soak-is ∙ open-raise startOf 15 (r .lent .means-are .start15-is);
+      hotsoak-is = v .hotsoak-is ∙ open-raise startOf 35 (r .lent .means-are .start35-is);
+      trip-is = v .trip-is ∙ open-raise endOf 10 (r .lent .means-are .end10-is);
+      hottrip-is = v .hottrip-is ∙ open-raise endOf 25 (r .lent .means-are .end25-is);
+    }

@@ -36,18 +36,9 @@ through-marks-spec =
     Inv-loop
     μ-loop
     (λ c. filled-none _ (replicate 48 0) refl)
-    (λ c. search needs)
-    (λ c. search needs)
-    (λ c. search needs)
-    (λ c. search needs)
-    (λ c. search needs)
-    (λ c. search needs)
-    (λ c. search needs)
-    (λ c. search needs)
+    (λ c. search needs) (λ c. search needs) (λ c. search needs) (λ c. search needs)
+    (λ c. search needs) (λ c. search needs) (λ c. search needs) (λ c. search needs)
     through-requires
-    (λ c. search needs)
-    (λ c. search needs)
-    (λ c. search needs)
-    (λ c. search needs)
+    (λ c. search needs) (λ c. search needs) (λ c. search needs) (λ c. search needs)
     (λ c. filled-more (c .before .before .before .before .before .before .loop .inv) (omega arith) (c .through .ensures))
     returns)

@@ -1,10 +1,6 @@
 -- `row_factors::escapes::car` meets its contract: without canister, each escape is the vapour of a mean rise.
-use mathlib.Core.Path.{_≡_, _∙_}
 use native.Mathlib.Omega.{arith}
-use Rattle.sheet.specs.Range.{halves}
-use Rattle.factors.specs.Units.{startOf, endOf}
-use Rattle.factors.proofs.Gain.{gain-most}
-use Rattle.row_factors.proofs.Escaping.{five-most, rise-mean-most, raise-mean-most, open-parking, open-raise, open-trip}
+use Rattle.row_factors.proofs.Escaping.{open-needs, open-car}
 use borrow.Author.Needs.{needs}
 use Rattle.row_factors.proofs.escapes.car.Statement.{statement}
 use Rattle.row_factors.proofs.escapes.car.Tie as tie
@@ -12,27 +8,13 @@ use Rattle.row_factors.proofs.escapes.car.Tie as tie
 open-escapes-requires : tie.Need-open-escapes-requires
 open-escapes-requires c κs =
     let r = c .before .before .before .pre in
-    let i = r .lent .marks-ready .season-in in
     let m = r .lent .means-are in
-    (omega (arith, r .vapour-is, gain-most i (r .row-in)), five-most (rise-mean-most i (r .row-in) _ (m .rise-is)) (raise-mean-most i (r .row-in) _ startOf 45 (omega arith) (m .start45-is)) (raise-mean-most i (r .row-in) _ startOf 60 (omega arith) (m .start60-is)) (raise-mean-most i (r .row-in) _ endOf 10 (omega arith) (m .end10-is)) (raise-mean-most i (r .row-in) _ endOf 50 (omega arith) (m .end50-is)))
+    open-needs r 45 60 10 50 (omega arith) (omega arith) (omega arith) (omega arith) (m .start45-is) (m .start60-is) (m .end10-is) (m .end50-is)
 
 returns : tie.Need-returns
 returns c =
-    let s = c .before .before .before .before in
-    let none : halves (s .args .row .canister) ≡ 0
-    = omega (arith, c .before .before .if1 .taken, c .before .before .before .halves .ensures .0) in
-    let v = s .pre .vapour-is in
-    let m = s .pre .lent .means-are in
-    let e = c .open-escapes .ensures in
-    let season = s .args .at .season in
-    let row = s .args .row in
-    record {
-      parking-is = e .parking-is ∙ open-parking season row _ none v (m .rise-is);
-      soak-is = e .soak-is ∙ open-raise season row _ none v startOf 45 (m .start45-is);
-      hotsoak-is = e .hotsoak-is ∙ open-raise season row _ none v startOf 60 (m .start60-is);
-      trip-is = e .trip-is ∙ open-trip season row _ none v 10 (m .end10-is);
-      hottrip-is = e .hottrip-is ∙ open-trip season row _ none v 50 (m .end50-is);
-    }
+    open-car (c .before .before .before .before .pre)
+    (omega (arith, c .before .before .if1 .taken, c .before .before .before .halves .ensures .0)) (c .open-escapes .ensures)
 
 pub car-spec : {M : Type 1} → statement M
 car-spec =

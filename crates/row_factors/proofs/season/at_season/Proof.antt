@@ -8,40 +8,19 @@ use Rattle.row_factors.proofs.Escaping.{raise-list-fits, rate-list-most
 use Rattle.row_factors.proofs.season.at_season.Statement.{statement}
 use Rattle.row_factors.proofs.season.at_season.Tie as tie
 
--- what is known at the start, from after each mean
+-- what is known at the start, from after every third mean
 abbrev s0 : tie.After-permeation-mean → tie.Start
 s0 c = c .before .before .before .before
 
-abbrev s1 : tie.After-mean-by-mark → tie.Start
-s1 c = s0 (c .before .before .before)
-
-abbrev s2 : tie.After-mean-by-mark2 → tie.Start
-s2 c = s1 (c .before .before .before)
-
 abbrev s3 : tie.After-mean-by-mark3 → tie.Start
-s3 c = s2 (c .before .before .before)
-
-abbrev s4 : tie.After-mean-by-mark4 → tie.Start
-s4 c = s3 (c .before .before .before)
-
-abbrev s5 : tie.After-mean-by-mark5 → tie.Start
-s5 c = s4 (c .before .before .before)
+s3 c = s0 (c .before .before .before .before .before .before .before .before .before)
 
 abbrev s6 : tie.After-mean-by-mark6 → tie.Start
-s6 c = s5 (c .before .before .before)
-
-abbrev s7 : tie.After-mean-by-mark7 → tie.Start
-s7 c = s6 (c .before .before .before)
-
-abbrev s8 : tie.After-mean-by-mark8 → tie.Start
-s8 c = s7 (c .before .before .before)
-
-abbrev s9 : tie.After-mean-by-mark9 → tie.Start
-s9 c = s8 (c .before .before .before)
+s6 c = s3 (c .before .before .before .before .before .before .before .before .before)
 
 returns : tie.Need-returns
 returns c =
-    let s = s9 c in
+    let s = s6 (c .before .before .before .before .before .before .before .before .before) in
     let p = s .pre .1 in
     let a = p .marks-are in
     let l = s .pre .0 .cells-in .length-is in
@@ -79,12 +58,12 @@ at-season-spec =
     (λ c κs. (c .pre .0, record { at-most = λ k. omega (arith, rises-most (c .pre .1 .season-in) (c .pre .1 .rises-are) .at-most k) }))
     (λ c κs. let p = c .before .before .before .pre in (p .0, rate-list-most (p .1 .season-in) 0 (omega arith) (rates-plain (p .1 .season-in) (p .1 .marks-are .rate-is))))
     (λ c κs. let p = s0 (c .before .before) .pre in (p .0, rate-list-fits (p .1 .season-in) 110 (omega arith) (p .1 .marks-are .soak-is)))
-    (λ c κs. let p = s1 (c .before .before) .pre in (p .0, rate-list-fits (p .1 .season-in) 150 (omega arith) (p .1 .marks-are .run-is)))
-    (λ c κs. let p = s2 (c .before .before) .pre in (p .0, raise-list-fits (p .1 .season-in) 10 (omega arith) (p .1 .marks-are .raise10-is)))
+    (λ c κs. let p = s0 (c .before .before .before .before .before) .pre in (p .0, rate-list-fits (p .1 .season-in) 150 (omega arith) (p .1 .marks-are .run-is)))
+    (λ c κs. let p = s0 (c .before .before .before .before .before .before .before .before) .pre in (p .0, raise-list-fits (p .1 .season-in) 10 (omega arith) (p .1 .marks-are .raise10-is)))
     (λ c κs. let p = s3 (c .before .before) .pre in (p .0, raise-list-fits (p .1 .season-in) 15 (omega arith) (p .1 .marks-are .raise15-is)))
-    (λ c κs. let p = s4 (c .before .before) .pre in (p .0, raise-list-fits (p .1 .season-in) 25 (omega arith) (p .1 .marks-are .raise25-is)))
-    (λ c κs. let p = s5 (c .before .before) .pre in (p .0, raise-list-fits (p .1 .season-in) 35 (omega arith) (p .1 .marks-are .raise35-is)))
+    (λ c κs. let p = s3 (c .before .before .before .before .before) .pre in (p .0, raise-list-fits (p .1 .season-in) 25 (omega arith) (p .1 .marks-are .raise25-is)))
+    (λ c κs. let p = s3 (c .before .before .before .before .before .before .before .before) .pre in (p .0, raise-list-fits (p .1 .season-in) 35 (omega arith) (p .1 .marks-are .raise35-is)))
     (λ c κs. let p = s6 (c .before .before) .pre in (p .0, raise-list-fits (p .1 .season-in) 45 (omega arith) (p .1 .marks-are .raise45-is)))
-    (λ c κs. let p = s7 (c .before .before) .pre in (p .0, raise-list-fits (p .1 .season-in) 50 (omega arith) (p .1 .marks-are .raise50-is)))
-    (λ c κs. let p = s8 (c .before .before) .pre in (p .0, raise-list-fits (p .1 .season-in) 60 (omega arith) (p .1 .marks-are .raise60-is)))
+    (λ c κs. let p = s6 (c .before .before .before .before .before) .pre in (p .0, raise-list-fits (p .1 .season-in) 50 (omega arith) (p .1 .marks-are .raise50-is)))
+    (λ c κs. let p = s6 (c .before .before .before .before .before .before .before .before) .pre in (p .0, raise-list-fits (p .1 .season-in) 60 (omega arith) (p .1 .marks-are .raise60-is)))
     returns)
