@@ -16,7 +16,7 @@ use Rattle.exact.specs.Day.{temperature}
 use Rattle.exact.specs.Factors.{escapeOver, openVapour, Factor, F1, F2, F3, F4, F5, F6, F7, T1, T2, diurnalFactor, soakPermeation, runningPermeation, carFactor, twoWheelerFactor, parkingFactor, endHour, duration, total, mean, factor}
 use Rattle.sheet.specs.Range.{SeasonInRange}
 use Rattle.marks.specs.Marks.{tenths}
-use Rattle.marks.proofs.Season.{temperature-tenths, temperature-whole}
+use Rattle.marks.proofs.MarkTemperatures.{temperature-tenths, temperature-whole}
 use Rattle.sheet.specs.Range.{RowInRange}
 use Rattle.factors.specs.Units.{startOf, endOf, escapeOverUnits, openUnits, diurnalUnits, soakUnits, runningUnits, carUnits, twoWheelerUnits, factorUnits, factorError, lowMicrograms, highMicrograms}
 use Rattle.factors.proofs.Mean.{mean-+}

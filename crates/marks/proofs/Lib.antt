@@ -1,6 +1,6 @@
 pub mod Most
 pub mod Heat
-pub mod Season
+pub mod MarkTemperatures
 pub mod Rise
 pub mod Permeation
 pub mod Columns

@@ -1,2 +1,2 @@
 pub mod Escaping
-pub mod Factors
+pub mod SevenFactors

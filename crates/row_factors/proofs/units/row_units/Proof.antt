@@ -1,7 +1,7 @@
 -- `row_factors::units::row_units` meets its contract: the class that the test found decides which factors they are.
 use mathlib.Core.Path.{_∙_}
 use borrow.Author.Tests.{le-leb, lt-leb}
-use Rattle.row_factors.proofs.Factors.{car-seven, car-ready, two-wheeler-seven, two-wheeler-ready}
+use Rattle.row_factors.proofs.SevenFactors.{car-seven, car-ready, two-wheeler-seven, two-wheeler-ready}
 use borrow.Author.Needs.{needs}
 use Rattle.row_factors.proofs.units.row_units.Statement.{statement}
 use Rattle.row_factors.proofs.units.row_units.Tie as tie
