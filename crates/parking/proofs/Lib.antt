@@ -4,3 +4,4 @@ pub mod Tally
 pub mod Weighted
 pub mod Passed
 pub mod Parts
+pub mod Walked

@@ -4,7 +4,8 @@ use crate::cells::mark_of;
 ghost use mathlib.Core.Path.{_≡_};
 ghost use Prim.Native.Nat.{ℕ, _/_, _^_, _<_};
 ghost use Rattle.numbers.specs.Lists.{tab, at, AllAtMost};
-ghost use Rattle.parking.specs.Grid.{carried, passedIn};
+ghost use Rattle.parking.specs.Grid.{carried};
+ghost use Rattle.parking.specs.Walk.{walked};
 
 // How many durations an end hour has.
 const DURATIONS: usize = 24;
@@ -16,10 +17,10 @@ fn carried(passed: u64, cell: usize) -> u64
     if cell % DURATIONS == 0 { 0 } else { passed }
 }
 
-// What passed in every cell's parking, of values by mark.
+// What passed in every cell's parking, of values by mark: the end hours in turn, 24 steps each.
 pub fn walk(values: &[u64; 48]) -> [u64; 576]
     requires { ⌜ AllAtMost (2 ^ 50) (now values) ⌝ }
-    ensures { λ r. ⌜ r ≡ tab (passedIn (now (values .entry))) 576 ⌝ }
+    ensures { λ r. ⌜ r ≡ walked (now (values .entry)) 24 ⌝ }
 {
     let mut out = [0u64; 576];
     let mut passed: u64 = 0;

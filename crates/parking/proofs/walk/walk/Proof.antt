@@ -1,6 +1,6 @@
 -- `parking::walk::walk` meets its contract: the first cells hold what passed in their parkings, and what is carried to the next is what
 -- passed before its own half-hour.
-use mathlib.Core.Path.{_≡_, refl, _∙_}
+use mathlib.Core.Path.{_≡_, refl, sym, _∙_}
 use Prim.Native.Nat.{_+_, _-_, _^_}
 use native.Mathlib.Omega.{arith}
 use lib.ListN.{replicate}
@@ -8,6 +8,7 @@ use Rattle.numbers.specs.Lists.{at}
 use Rattle.numbers.proofs.Lists.{Filled, filled-none, filled-more, filled-all}
 use Rattle.parking.specs.Grid.{passedIn, carried}
 use Rattle.parking.proofs.Passed.{passedBefore, carried-first, carried-next, walk-more, passedIn-most}
+use Rattle.parking.proofs.Walked.{walked-is}
 use borrow.Author.Needs.{needs}
 use Rattle.parking.proofs.walk.walk.Statement.{statement}
 use Rattle.parking.proofs.walk.walk.Tie as tie
@@ -41,4 +42,4 @@ walk-spec =
     (λ c. search needs)
     (λ c. search needs)
     (λ c. (filled-more (c .before .before .before .before .loop .inv .0) (omega arith) (next c), carried-next _ (c .before .before .before .before .loop .cell) (next c)))
-    (λ c. filled-all (c .before .loop .inv .0) (omega arith)))
+    (λ c. filled-all (c .before .loop .inv .0) (omega arith) ∙ sym (walked-is _)))

@@ -7,6 +7,7 @@ use Rattle.numbers.proofs.Lists.{getD-tab, tab-ext, tab-at-most}
 use Rattle.parking.specs.Grid.{passedIn}
 use Rattle.parking.proofs.Passed.{passedIn-most}
 use Rattle.parking.proofs.Weighted.{mean-tab}
+use Rattle.parking.proofs.Walked.{walked-is}
 use borrow.Author.Needs.{needs}
 use Rattle.row_factors.proofs.season.permeation_mean.Statement.{statement}
 use Rattle.row_factors.proofs.season.permeation_mean.Tie as tie
@@ -16,7 +17,7 @@ halved-known : (c : tie.After-halved)
     → c .halved .result ≡ tab (λ (cell : ℕ). passedIn (c .before .before .before .args .rates .now) cell / 2) 576
 halved-known c =
     c .halved .ensures ∙
-    tab-ext 576 (λ cell h. ap (λ (x : ℕ). x / 2) (rw (c .before .before .walk .ensures) (getD-tab (passedIn (c .before .before .before .args .rates .now)) 576 cell h)))
+    tab-ext 576 (λ cell h. ap (λ (x : ℕ). x / 2) (rw (c .before .before .walk .ensures ∙ walked-is _) (getD-tab (passedIn (c .before .before .before .args .rates .now)) 576 cell h)))
 
 walk-requires : tie.Need-walk-requires
 walk-requires c κs = record { at-most = λ k. omega (arith, c .pre .1 .at-most k) }
