@@ -15,13 +15,10 @@ use Rattle.exact.specs.declared.Canister.the-variants.{None, Small, Medium, Lar
 use Rattle.exact.specs.declared.Season.{Season}
 use Rattle.exact.specs.declared.Row.{Row}
 use Rattle.exact.specs.Canister.{a, b, breakthrough}
-use Rattle.sheet.proofs.Temperature.{warmth-below-highest}
-use Rattle.sheet.specs.Range.{warmth, SeasonInRange}
-use Rattle.sheet.specs.Range.{markWarmth}
-use Rattle.sheet.proofs.Temperature.{warmth-most}
-use Rattle.sheet.specs.Range.{halves}
+use Rattle.sheet.specs.Limits.{vpLimit}
+use Rattle.sheet.specs.Range.{warmth, markWarmth, halves, SeasonInRange, RowInRange}
+use Rattle.sheet.proofs.Temperature.{warmth-below-highest, warmth-most}
 use Rattle.factors.specs.Escape.{tenthGrams, base, growth, breakUnits}
-use Rattle.sheet.specs.Range.{RowInRange}
 use Rattle.factors.proofs.Breakthrough.{double-unit-pos, loaded, break-within}
 
 -- "s = 2, 1, 0.5 for small, medium, large"
@@ -51,12 +48,12 @@ halves-most Medium = omega arith
 halves-most Large = omega arith
 
 -- a at a held temperature
-base-at : (vp θ : ℕ) → vp ≤ 1100 → a (vp /10^ 1) (degrees θ) ≈ᶠ exponent (base vp θ)
+base-at : (vp θ : ℕ) → vp ≤ vpLimit → a (vp /10^ 1) (degrees θ) ≈ᶠ exponent (base vp θ)
 unfolding a base whole _/10^_ negᶠ _-ᶠ_ _+ᶠ_ _*ᶠ_
 base-at vp θ v = omega arith
 
 -- b at a held temperature
-slope-at : (vp θ : ℕ) → vp ≤ 1100 → b (vp /10^ 1) (degrees θ) ≈ᶠ ratio (112 * 10 ^ 11 + θ - 15 * 10 ^ 8 * vp) (10 ^ 14) (ten-pos 14)
+slope-at : (vp θ : ℕ) → vp ≤ vpLimit → b (vp /10^ 1) (degrees θ) ≈ᶠ ratio (112 * 10 ^ 11 + θ - 15 * 10 ^ 8 * vp) (10 ^ 14) (ten-pos 14)
 unfolding b ratio _/10^_ negᶠ _-ᶠ_ _+ᶠ_ _*ᶠ_
 slope-at vp θ v = omega arith
 
@@ -65,7 +62,7 @@ halved : (k h : ℕ) → ratio k (10 ^ 14) (ten-pos 14) *ᶠ ratio h 2 halves-po
 unfolding ratio _*ᶠ_
 halved k h = omega arith
 
-module _ (vp θ : ℕ) (v : vp ≤ 1100) {T : Fraction} (t : T ≈ᶠ degrees θ) where
+module _ (vp θ : ℕ) (v : vp ≤ vpLimit) {T : Fraction} (t : T ≈ᶠ degrees θ) where
   -- a = −11 − 0.015·vp + 0.065·T as it is held
   pub base-is : a (vp /10^ 1) T ≈ᶠ exponent (base vp θ)
   unfolding a
@@ -96,7 +93,7 @@ unfolding loaded ratio _/10^_ _+ᶠ_ _*ᶠ_
 loaded-≤ A K m h = omega arith
 
 -- check 20 at the highest temperature, carried to a lower one
-lower-exponent : (c : Canister) (vp θ h m : ℕ) → vp ≤ 1100 → θ ≤ h * 10 ^ 9
+lower-exponent : (c : Canister) (vp θ h m : ℕ) → vp ≤ vpLimit → θ ≤ h * 10 ^ 9
     → (112000 + 10 * h - 15 * vp) * halves c * m + 130000 * h ≤ 319000000 + 30000 * vp
     → 20 * base vp θ + growth c vp θ * m ≤ 380 * 10 ^ 14
 unfolding base growth
@@ -105,7 +102,7 @@ lower-exponent c vp θ h m v t e =
     omega (arith, mul-le-mul-right (halves c * m) g)
 
 -- b·s·m_sat ≤ 14 as it bounds m_sat where there is a canister: 368.5 g
-saturation-≤ : (k vp h m : ℕ) → vp ≤ 1100 → 0 < k → (112000 + 10 * h - 15 * vp) * k * m + 130000 * h ≤ 319000000 + 30000 * vp → m ≤ 3685
+saturation-≤ : (k vp h m : ℕ) → vp ≤ vpLimit → 0 < k → (112000 + 10 * h - 15 * vp) * k * m + 130000 * h ≤ 319000000 + 30000 * vp → m ≤ 3685
 saturation-≤ k vp h m v p e =
     elim (decLe m 3685) [
       | yes l ↦ l

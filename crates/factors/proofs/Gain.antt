@@ -15,11 +15,11 @@ use Rattle.bounds.proofs.ExponentialBound.{exponential-within, exponentialError
 use Rattle.bounds.proofs.Within.{widen, within-≈, scaled-within, all-map, div-mono}
 use Rattle.exact.specs.declared.Season.{Season}
 use Rattle.exact.specs.declared.Row.{Row}
-use Rattle.sheet.specs.Range.{SeasonInRange}
+use Rattle.sheet.specs.Limits.{vpLimit, tankLimit}
+use Rattle.sheet.specs.Range.{SeasonInRange, RowInRange}
 use Rattle.marks.proofs.Most.{exponential-most}
 use Rattle.marks.proofs.Rise as vapour
 use Rattle.factors.specs.Units.{gain}
-use Rattle.sheet.specs.Range.{RowInRange}
 
 -- (1 − h/100)·tank·0.025·E(0.0205·vp) of a row in a season
 abbrev pub exactGain : Season → Row → ℕ → Fraction
@@ -31,12 +31,12 @@ unfolding _/10^_ _*ᶠ_
 pressure-is vp = omega arith
 
 -- 0.0205·vp ≤ 2.255
-pressure-most : (vp : ℕ) → vp ≤ 1100 → 205 /10^ 4 *ᶠ vp /10^ 1 ≤ᶠ 2255 /10^ 3
+pressure-most : (vp : ℕ) → vp ≤ vpLimit → 205 /10^ 4 *ᶠ vp /10^ 1 ≤ᶠ 2255 /10^ 3
 unfolding _/10^_ _*ᶠ_
 pressure-most vp h = omega arith
 
 -- E(0.0205·vp) within 83
-pressure-within : (vp : ℕ) → vp ≤ 1100
+pressure-within : (vp : ℕ) → vp ≤ vpLimit
     → WithinAll (2 ^ 40) (exponential (205 * vp * 10 ^ 9 + 16 * 10 ^ 14)) 83 (λ n. E n (205 /10^ 4 *ᶠ vp /10^ 1))
 pressure-within vp h =
     all-map
@@ -44,7 +44,7 @@ pressure-within vp h =
     (exponential-within (205 * vp * 10 ^ 9 + 16 * 10 ^ 14) (omega arith))
 
 -- E(2.255) ≤ 9.54
-pressure-size : (vp : ℕ) → vp ≤ 1100 → exponential (205 * vp * 10 ^ 9 + 16 * 10 ^ 14) ≤ 954 * 2 ^ 40 / 100
+pressure-size : (vp : ℕ) → vp ≤ vpLimit → exponential (205 * vp * 10 ^ 9 + 16 * 10 ^ 14) ≤ 954 * 2 ^ 40 / 100
 pressure-size vp h =
     omega (arith, exponential-most 2255 3 954 2 (pressure-within vp h) (pressure-most vp h) (omega arith) end-2·255)
 
@@ -63,11 +63,11 @@ share-is : (fill tank : ℕ) → fill ≤ 100
 share-is fill tank h = share-of (100 - fill) fill tank (omega arith)
 
 -- 150,000·83/40,000
-share-width : (k tank : ℕ) → k ≤ 100 → tank ≤ 1500 → k * tank * 83 / 40000 ≤ 311
+share-width : (k tank : ℕ) → k ≤ 100 → tank ≤ tankLimit → k * tank * 83 / 40000 ≤ 311
 share-width k tank h l = omega (arith, mul-le-mul h l)
 
 -- 150,000·9.54/40,000
-share-size : (k tank e : ℕ) → k ≤ 100 → tank ≤ 1500 → e ≤ 954 * 2 ^ 40 / 100 → k * tank * e / 40000 ≤ 36 * 2 ^ 40
+share-size : (k tank e : ℕ) → k ≤ 100 → tank ≤ tankLimit → e ≤ 954 * 2 ^ 40 / 100 → k * tank * e / 40000 ≤ 36 * 2 ^ 40
 share-size k tank e h l m = omega (arith, div-mono 40000 forty-thousand-pos (mul-le-mul (mul-le-mul h l) m))
 
 module _ {season : Season} {row : Row} (s : SeasonInRange season) (r : RowInRange season row) where

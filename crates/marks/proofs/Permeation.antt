@@ -4,6 +4,7 @@ use mathlib.Core.Path.{_≡_, ap, sym, _∙_}
 use Prim.Native.Nat.{ℕ, suc, zero, _+_, _*_, _^_, _/_, _≤_, _<_}
 use native.Mathlib.Omega.{arith}
 use native.Mathlib.Nat.{le-antisymm, le-of-lt, mul-comm, mul-le-mul}
+use Rattle.sheet.specs.Limits.{vpLimit}
 use Rattle.numbers.specs.Fraction.{Fraction, _≤ᶠ_, _≈ᶠ_, _*ᶠ_, whole, _/10^_}
 use Rattle.bounds.proofs.Ends.{end-0·44}
 use Rattle.bounds.specs.Series.{E, cutRoot, power2·5, two-pos}
@@ -63,7 +64,7 @@ module _ (n : ℕ) (vp : Fraction) where
 
 -- Per hour.
 
-module _ (vp : ℕ) (h : vp ≤ 1100) where
+module _ (vp : ℕ) (h : vp ≤ vpLimit) where
   -- 0.004·vp is the exponent that is computed with
   pressure-exponent : 4 /10^ 3 *ᶠ vp /10^ 1 ≈ᶠ exponent (4 * vp * 10 ^ 10 + 16 * 10 ^ 14)
   unfolding _/10^_ _*ᶠ_
@@ -107,7 +108,7 @@ module _ (θ : ℕ) (h : θ ≤ 95 * 10 ^ 10) where
   unfolding bracketUnits
   bracket-most = omega (arith, power-size θ h)
 
-module _ (vp θ : ℕ) (h : vp ≤ 1100) (warm : θ ≤ 95 * 10 ^ 10) where
+module _ (vp θ : ℕ) (h : vp ≤ vpLimit) (warm : θ ≤ 95 * 10 ^ 10) where
   -- permeation per hour, up to 65 °C
   pub rate-within : WithinAll (2 ^ 40) (rate vp θ) rateError (λ n. permeation n (vp /10^ 1) (degrees θ))
   unfolding rate permeation
@@ -137,7 +138,7 @@ half-is : 5 /10^ 1 ≈ᶠ ratio 1 2 (two-pos 1)
 unfolding ratio _/10^_
 half-is = omega arith
 
-module _ (vp : ℕ) (θ : ℕ → ℕ) (h : vp ≤ 1100) (warm : (i : ℕ) → θ i ≤ 95 * 10 ^ 10) where
+module _ (vp : ℕ) (θ : ℕ → ℕ) (h : vp ≤ vpLimit) (warm : (i : ℕ) → θ i ≤ 95 * 10 ^ 10) where
   -- the hourly rates summed over its marks
   rates-within : (hour d : ℕ) → WithinAll (2 ^ 40) (passed (λ i. rate vp (θ i)) hour d) (d * rateError) (λ n. markRates n (vp /10^ 1) (λ i. degrees (θ i)) hour d)
   unfolding passed markRates

@@ -3,6 +3,7 @@ use mathlib.Core.Path.{_≡_, _∙_, ap}
 use Prim.Native.Nat.{ℕ, _+_, _*_, _-_, _/_, _^_, _≤_}
 use native.Mathlib.Omega.{arith}
 use native.Mathlib.Nat.{mul-le-mul, le-of-lt}
+use Rattle.sheet.specs.Limits.{percentLimit, tankLimit}
 use Rattle.bounds.specs.Exponential.{exponential}
 use Rattle.factors.specs.Units.{gain}
 use Rattle.factors.proofs.Gain.{gain-most}
@@ -11,8 +12,8 @@ use Rattle.row_factors.proofs.units.gain.Statement.{statement}
 use Rattle.row_factors.proofs.units.gain.Tie as tie
 
 -- at most 100 % of 150 litres
-share : (s : tie.Start) → (100 - s .args .row .fill) * s .args .row .tank ≤ 100 * 1500
-share s = mul-le-mul {n₂ = 100} {m₂ = 1500} (omega arith) (s .pre .2 .tank-most)
+share : (s : tie.Start) → (100 - s .args .row .fill) * s .args .row .tank ≤ percentLimit * tankLimit
+share s = mul-le-mul {n₂ = percentLimit} {m₂ = tankLimit} (omega arith) (s .pre .2 .tank-most)
 
 -- times E(0.0205·vp)
 product : (c : tie.After-exponential)
