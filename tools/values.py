@@ -148,7 +148,7 @@ def row_text(row):
     canister = CANISTERS[evaporation.canister_of(row)]
     tank = evaporation.tank_of(row) * 10
     return ("record { class = %d; canister = %s; carburettor = %d; hot = %d; fill = %d; tank = %d; vehicles = %d; "
-            "trips = %d; minutes = %d; load = %d; saturation = %d; reserved = 0 }") % (
+            "trips = %d; minutes = %d; load = %d; saturation = %d; mileage = 0 }") % (
         row.vehicle_class, canister, row.carburettor, row.hot, row.fill, tank, row.vehicles,
         row.trips, row.minutes, row.load, row.saturation)
 

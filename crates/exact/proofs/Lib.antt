@@ -2,4 +2,5 @@ pub mod Open
 pub mod Marked
 pub mod Values
 pub mod Loss
+pub mod Smallest
 pub mod Products

@@ -39,7 +39,7 @@ abbrev no-canister-season : Season
 no-canister-season = record { days = 1; lowest = 200; highest = 350; vp = 600 }
 
 abbrev no-canister-row : Row
-no-canister-row = record { class = 1; canister = None; carburettor = 0; hot = 0; fill = 35; tank = 500; vehicles = 0; trips = 0; minutes = 60; load = 0; saturation = 0; reserved = 0 }
+no-canister-row = record { class = 1; canister = None; carburettor = 0; hot = 0; fill = 35; tank = 500; vehicles = 0; trips = 0; minutes = 60; load = 0; saturation = 0; mileage = 0 }
 
 no-canister : T (same (factors 3 no-canister-cells no-canister-season no-canister-row) (
     (whole 158791660712882678290796448073776429077521 over 1000000000000000000000000000000000000000000) ∷
@@ -63,7 +63,7 @@ abbrev breakthrough-below-season : Season
 breakthrough-below-season = record { days = 1; lowest = 100; highest = 300; vp = 600 }
 
 abbrev breakthrough-below-row : Row
-breakthrough-below-row = record { class = 1; canister = Small; carburettor = 0; hot = 0; fill = 35; tank = 500; vehicles = 0; trips = 0; minutes = 60; load = 300; saturation = 550; reserved = 0 }
+breakthrough-below-row = record { class = 1; canister = Small; carburettor = 0; hot = 0; fill = 35; tank = 500; vehicles = 0; trips = 0; minutes = 60; load = 300; saturation = 550; mileage = 0 }
 
 breakthrough-below : T (same (factors 3 breakthrough-below-cells breakthrough-below-season breakthrough-below-row) (
     (whole 41452837517408361175100987601408231559105291360130054971864856577287280949788546419310996184469464395175662138481499074859977271347752048241501125318285421547262770895329225885010642166218674009641602983483 over 306395456382822377770180120394241866853143082961041854349354005054209570777350229409645182375685532169565329498880535022911601805716503331233305871185864835717516986903683048739813325124094690562500000000000) ∷
@@ -87,7 +87,7 @@ abbrev overflow-season : Season
 overflow-season = record { days = 1; lowest = 200; highest = 350; vp = 900 }
 
 abbrev overflow-row : Row
-overflow-row = record { class = 3; canister = Large; carburettor = 0; hot = 0; fill = 0; tank = 750; vehicles = 0; trips = 0; minutes = 30; load = 600; saturation = 605; reserved = 0 }
+overflow-row = record { class = 3; canister = Large; carburettor = 0; hot = 0; fill = 0; tank = 750; vehicles = 0; trips = 0; minutes = 30; load = 600; saturation = 605; mileage = 0 }
 
 overflow : T (same (factors 2 overflow-cells overflow-season overflow-row) (
     (whole 4266555846548507636577332550839168856211326557704179745134958445334684763436533 over 715170725368056085943531975827573157663744482595344000000000000000000000000000) ∷
@@ -111,7 +111,7 @@ abbrev saturated-season : Season
 saturated-season = record { days = 1; lowest = 50; highest = 250; vp = 700 }
 
 abbrev saturated-row : Row
-saturated-row = record { class = 2; canister = Medium; carburettor = 0; hot = 0; fill = 40; tank = 600; vehicles = 0; trips = 0; minutes = 15; load = 500; saturation = 500; reserved = 0 }
+saturated-row = record { class = 2; canister = Medium; carburettor = 0; hot = 0; fill = 40; tank = 600; vehicles = 0; trips = 0; minutes = 15; load = 500; saturation = 500; mileage = 0 }
 
 saturated : T (same (factors 2 saturated-cells saturated-season saturated-row) (
     (whole 66933425967357614901050059 over 48828125000000000000000000) ∷
@@ -135,7 +135,7 @@ abbrev frost-season : Season
 frost-season = record { days = 1; lowest = 65236; highest = 65416; vp = 450 }
 
 abbrev frost-row : Row
-frost-row = record { class = 2; canister = None; carburettor = 0; hot = 0; fill = 0; tank = 600; vehicles = 0; trips = 0; minutes = 30; load = 0; saturation = 0; reserved = 0 }
+frost-row = record { class = 2; canister = None; carburettor = 0; hot = 0; fill = 0; tank = 600; vehicles = 0; trips = 0; minutes = 30; load = 0; saturation = 0; mileage = 0 }
 
 frost : T (same (factors 3 frost-cells frost-season frost-row) (
     (whole 74441053299013279658114686391620516758352842960483489486562224637447505433483 over 291317596028411687923566362435964304744725424293904995506352382461147500000000) ∷
@@ -159,7 +159,7 @@ abbrev thaw-season : Season
 thaw-season = record { days = 1; lowest = 65486; highest = 60; vp = 450 }
 
 abbrev thaw-row : Row
-thaw-row = record { class = 4; canister = None; carburettor = 0; hot = 0; fill = 20; tank = 455; vehicles = 0; trips = 0; minutes = 30; load = 0; saturation = 0; reserved = 0 }
+thaw-row = record { class = 4; canister = None; carburettor = 0; hot = 0; fill = 20; tank = 455; vehicles = 0; trips = 0; minutes = 30; load = 0; saturation = 0; mileage = 0 }
 
 thaw : T (same (factors 3 thaw-cells thaw-season thaw-row) (
     (whole 2341907222333696112043925962880390558819271089483381209062559838919961899435868287 over 3711993268380699564731587614049821200000000000000000000000000000000000000000000000) ∷
@@ -183,7 +183,7 @@ abbrev round-midnight-season : Season
 round-midnight-season = record { days = 1; lowest = 50; highest = 250; vp = 700 }
 
 abbrev round-midnight-row : Row
-round-midnight-row = record { class = 4; canister = Medium; carburettor = 0; hot = 0; fill = 50; tank = 600; vehicles = 0; trips = 0; minutes = 45; load = 100; saturation = 500; reserved = 0 }
+round-midnight-row = record { class = 4; canister = Medium; carburettor = 0; hot = 0; fill = 50; tank = 600; vehicles = 0; trips = 0; minutes = 45; load = 100; saturation = 500; mileage = 0 }
 
 round-midnight : T (same (factors 2 round-midnight-cells round-midnight-season round-midnight-row) (
     (whole 267066429591928369052040507586040370436355540540385256261049716574964187218345690810698979466555415884142680517699991 over 575578491452770734767200308096968910855841496417516805222305906078690598203130000745589361508741115554512500000000000) ∷
@@ -207,7 +207,7 @@ abbrev end-at-24-season : Season
 end-at-24-season = record { days = 1; lowest = 50; highest = 250; vp = 700 }
 
 abbrev end-at-24-row : Row
-end-at-24-row = record { class = 2; canister = None; carburettor = 0; hot = 0; fill = 50; tank = 600; vehicles = 0; trips = 0; minutes = 45; load = 0; saturation = 0; reserved = 0 }
+end-at-24-row = record { class = 2; canister = None; carburettor = 0; hot = 0; fill = 50; tank = 600; vehicles = 0; trips = 0; minutes = 45; load = 0; saturation = 0; mileage = 0 }
 
 end-at-24 : T (same (factors 4 end-at-24-cells end-at-24-season end-at-24-row) (
     (whole 1329925452877529 over 93750000000000000) ∷
@@ -231,7 +231,7 @@ abbrev over-noon-season : Season
 over-noon-season = record { days = 1; lowest = 50; highest = 250; vp = 700 }
 
 abbrev over-noon-row : Row
-over-noon-row = record { class = 2; canister = None; carburettor = 0; hot = 0; fill = 50; tank = 600; vehicles = 0; trips = 0; minutes = 45; load = 0; saturation = 0; reserved = 0 }
+over-noon-row = record { class = 2; canister = None; carburettor = 0; hot = 0; fill = 50; tank = 600; vehicles = 0; trips = 0; minutes = 45; load = 0; saturation = 0; mileage = 0 }
 
 over-noon : T (same (factors 3 over-noon-cells over-noon-season over-noon-row) (
     (whole 454284772173379724002505139823185721824167 over 750000000000000000000000000000000000000000) ∷
@@ -255,7 +255,7 @@ abbrev motorcycle-season : Season
 motorcycle-season = record { days = 1; lowest = 50; highest = 250; vp = 700 }
 
 abbrev motorcycle-row : Row
-motorcycle-row = record { class = 9; canister = Small; carburettor = 0; hot = 0; fill = 50; tank = 200; vehicles = 0; trips = 0; minutes = 45; load = 300; saturation = 560; reserved = 0 }
+motorcycle-row = record { class = 9; canister = Small; carburettor = 0; hot = 0; fill = 50; tank = 200; vehicles = 0; trips = 0; minutes = 45; load = 300; saturation = 560; mileage = 0 }
 
 motorcycle : T (same (factors 2 motorcycle-cells motorcycle-season motorcycle-row) (
     (whole 61151475566761915321789204426964180395804839202000613765525757468505279288590682729598960378459560870316168959109 over 689908890657205796838383152818736564080123762453942643348520383075615108743985008615154875610356843012500000000000) ∷
@@ -279,7 +279,7 @@ abbrev moped-season : Season
 moped-season = record { days = 1; lowest = 50; highest = 250; vp = 700 }
 
 abbrev moped-row : Row
-moped-row = record { class = 5; canister = None; carburettor = 0; hot = 0; fill = 50; tank = 50; vehicles = 0; trips = 0; minutes = 45; load = 0; saturation = 0; reserved = 0 }
+moped-row = record { class = 5; canister = None; carburettor = 0; hot = 0; fill = 50; tank = 50; vehicles = 0; trips = 0; minutes = 45; load = 0; saturation = 0; mileage = 0 }
 
 moped : T (same (factors 4 moped-cells moped-season moped-row) (
     (whole 49816075527420728022171666226006122292616418560300318927 over 112500000000000000000000000000000000000000000000000000000) ∷
@@ -303,7 +303,7 @@ abbrev three-cells-season : Season
 three-cells-season = record { days = 1; lowest = 65496; highest = 185; vp = 800 }
 
 abbrev three-cells-row : Row
-three-cells-row = record { class = 1; canister = None; carburettor = 0; hot = 0; fill = 25; tank = 500; vehicles = 0; trips = 0; minutes = 10; load = 0; saturation = 0; reserved = 0 }
+three-cells-row = record { class = 1; canister = None; carburettor = 0; hot = 0; fill = 25; tank = 500; vehicles = 0; trips = 0; minutes = 10; load = 0; saturation = 0; mileage = 0 }
 
 three-cells : T (same (factors 2 three-cells-cells three-cells-season three-cells-row) (
     (whole 23929987559819545216122523237 over 20000000000000000000000000000) ∷
@@ -327,7 +327,7 @@ abbrev year-season : List Season
 year-season = (record { days = 200; lowest = 100; highest = 300; vp = 600 }) ∷ (record { days = 165; lowest = 65486; highest = 80; vp = 900 }) ∷ []
 
 abbrev year-row : Row
-year-row = record { class = 1; canister = Small; carburettor = 40; hot = 30; fill = 35; tank = 500; vehicles = 1000; trips = 250; minutes = 20; load = 300; saturation = 550; reserved = 0 }
+year-row = record { class = 1; canister = Small; carburettor = 40; hot = 30; fill = 35; tank = 500; vehicles = 1000; trips = 250; minutes = 20; load = 300; saturation = 550; mileage = 0 }
 
 year : T (same (masses 2 year-cells year-season year-row) (
     (whole 178321782617273521868425577140692296628904845356532393030203348723419832179141612759915377407321577994418811649053667118441044615747403824840017492310800968574354488829086685375881139234490329814574246758052399595043654941917347573013399375417524981632123413297337550066243769000767186728992587330849958408038169781170324234454010656393789496632358971350813360075834253128190052701467069009953816194097811179780149897366100147 over 8842269373460827931882881500630705741457496255529407208975784599586309284195134100370964328927470365296986212291382264894677369207155838533542794028774839172897215895551660072402283242792709380403757051852118890963375075586284112270738876990975026512928500543460073744127004903641977684241029080149397391353487236029552304201606511818732264922707712908515092269698896130903174555115281392783340912290879841787462500000000) ∷
@@ -347,7 +347,7 @@ abbrev two-wheelers-season : List Season
 two-wheelers-season = (record { days = 200; lowest = 100; highest = 300; vp = 600 }) ∷ (record { days = 165; lowest = 65486; highest = 80; vp = 900 }) ∷ []
 
 abbrev two-wheelers-row : Row
-two-wheelers-row = record { class = 7; canister = None; carburettor = 40; hot = 30; fill = 35; tank = 100; vehicles = 1000; trips = 250; minutes = 20; load = 0; saturation = 0; reserved = 0 }
+two-wheelers-row = record { class = 7; canister = None; carburettor = 40; hot = 30; fill = 35; tank = 100; vehicles = 1000; trips = 250; minutes = 20; load = 0; saturation = 0; mileage = 0 }
 
 two-wheelers : T (same (masses 2 two-wheelers-cells two-wheelers-season two-wheelers-row) (
     (whole 7052856992758348202680641468138352014666429663458867675741 over 54188153110059839326238096000000000000000000000000000) ∷

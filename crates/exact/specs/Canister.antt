@@ -14,6 +14,13 @@ a vp T = negᶠ (whole 11) -ᶠ 15 /10^ 3 *ᶠ vp +ᶠ 65 /10^ 3 *ᶠ T
 unfoldable pub b : Fraction → Fraction → Fraction
 b vp T = 115 /10^ 3 -ᶠ 15 /10^ 5 *ᶠ vp +ᶠ 1 /10^ 4 *ᶠ T
 
+-- "s = 2, 1, 0.5 for small, medium, large"; without canister there is none, and nothing asks for it
+abbrev pub size : Canister → Fraction
+size None = whole 0
+size Small = whole 2
+size Medium = whole 1
+size Large = 5 /10^ 1
+
 -- vp in kPa, the size s, m_sat in grams, "T the temperature from which the escape starts"; loads and vapour in grams
 module _ (n : ℕ) (vp s saturation T : Fraction) where
   -- "E(a + b·s·m)"
@@ -29,9 +36,9 @@ module _ (n : ℕ) (vp s saturation T : Fraction) where
   breakthrough m1 v = B (m1 +ᶠ v) -ᶠ B m1
 
 module _ (n : ℕ) (vp saturation m1 T : Fraction) where
-  -- "s = 2, 1, 0.5 for small, medium, large"; " "Escape" is this with a canister, v without."
+  -- " "Escape" is this with a canister, v without."
   unfoldable pub escape : Canister → Fraction → Fraction
   escape None v = v
-  escape Small v = breakthrough n vp (whole 2) saturation T m1 v
-  escape Medium v = breakthrough n vp (whole 1) saturation T m1 v
-  escape Large v = breakthrough n vp (5 /10^ 1) saturation T m1 v
+  escape Small v = breakthrough n vp (size Small) saturation T m1 v
+  escape Medium v = breakthrough n vp (size Medium) saturation T m1 v
+  escape Large v = breakthrough n vp (size Large) saturation T m1 v

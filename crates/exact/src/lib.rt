@@ -42,6 +42,6 @@ pub struct Row {
     // Canister load at parking start and saturating load, in tenths of a gram.
     pub load: u64,
     pub saturation: u64,
-    // Bytes 20 to 23, which are zero.
-    pub reserved: u64,
+    // The odometer in km, 0 where the load is written.
+    pub mileage: u64,
 }

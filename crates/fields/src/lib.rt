@@ -245,7 +245,7 @@ fn row_from(s: &[u8], p: usize) -> Row
         minutes: u16_at(s, p + 14),
         load: u16_at(s, p + 16),
         saturation: u16_at(s, p + 18),
-        reserved: u32_at(s, p + 20),
+        mileage: u32_at(s, p + 20),
     }
 }
 

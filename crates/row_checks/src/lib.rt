@@ -146,7 +146,7 @@ fn load_check(s: &[u8], row: Row, p: usize) -> Check
     ensures { λ r. ⌜ r ≡ (
         refuse (loadWrong (row .canister) (row .load) (row .saturation)) 19 p then
         refuse (someSeason (saturationWrong (row .canister) (row .saturation)) (now (s .entry)) (seasonsOf (now (s .entry)))) 20 p then
-        refuse (not (eqb (row .reserved) 0)) 21 p) ⌝ }
+        refuse (not (eqb (row .mileage) 0)) 21 p) ⌝ }
 {
     let place = p as u64;
     let canister = row.canister;
@@ -155,7 +155,7 @@ fn load_check(s: &[u8], row: Row, p: usize) -> Check
         when(load, 19, place),
         or_else(
             when(saturated(s, canister, row.saturation), 20, place),
-            when(row.reserved != 0, 21, place),
+            when(row.mileage != 0, 21, place),
         ),
     )
 }

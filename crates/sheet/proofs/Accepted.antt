@@ -54,7 +54,7 @@ pub record AcceptedRow (s : List ℕ) (i : ℕ) : Type 0 where
   pub load-most : (rowAt s i) .load ≤ (rowAt s i) .saturation
   pub no-load : (rowAt s i) .canister ≡ None → ((rowAt s i) .load ≡ 0) × ((rowAt s i) .saturation ≡ 0)
   pub exponent : (j : ℕ) → j < seasonsOf s → (size : Fraction) → Size ((rowAt s i) .canister) size → AtMost3 (seasonAt s j) size ((rowAt s i) .saturation)
-  pub reserved-zero : (rowAt s i) .reserved ≡ 0
+  pub reserved-zero : (rowAt s i) .mileage ≡ 0
 
 -- the whole sheet
 pub record Accepted (s : List ℕ) : Type 0 where

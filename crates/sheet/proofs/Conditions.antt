@@ -212,7 +212,7 @@ pub record Conditions (s : List ℕ) (p : ℕ) : Type 0 where
   pub loads : sheetCheck s ≡ Refused 19 p → NotInRow s p (λ (row : Row) (place : ℕ). (row .load ≤ row .saturation) × (row .canister ≡ None → row .saturation ≡ 0))
   pub saturation : sheetCheck s ≡ Refused 20 p
       → NotInRow s p (λ (row : Row) (place : ℕ). (j : ℕ) → j < seasonsOf s → (size : Fraction) → Size (row .canister) size → AtMost3 (seasonAt s j) size (row .saturation))
-  pub bytes-20-to-23 : sheetCheck s ≡ Refused 21 p → NotInRow s p (λ (row : Row) (place : ℕ). row .reserved ≡ 0)
+  pub bytes-20-to-23 : sheetCheck s ≡ Refused 21 p → NotInRow s p (λ (row : Row) (place : ℕ). row .mileage ≡ 0)
 
 -- "a number is returned only where its condition holds"
 pub conditions : (s : List ℕ) (p : ℕ) → Conditions s p

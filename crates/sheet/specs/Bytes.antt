@@ -94,7 +94,8 @@ tankOf (suc tenths) e = suc tenths
 
 -- "Row, 24 bytes: 0 class; 1 technology; 2 canister .. 3 share c of carburettor or fuel-return vehicles; 4 hot-trip share p;
 -- 5 fill level h .. 6 u16 tank .. 8 u32 vehicles .. 12 u16 trips a day in hundredths .. 14 u16 minutes per trip ..
--- 16 u16 canister load at parking start, 18 u16 saturating load m_sat .. 20 four zero bytes." The record that starts at p.
+-- 16 u16 canister load at parking start, 18 u16 saturating load m_sat .. 20 four zero bytes", which version 3 reads as "a u32 mileage M in
+-- km; 0 keeps the written load". The record that starts at p.
 unfoldable pub rowFrom : List ℕ → ℕ → Row
 rowFrom s p = record {
   class = u8At s p;
@@ -108,7 +109,7 @@ rowFrom s p = record {
   minutes = u16At s (p + 14);
   load = u16At s (p + 16);
   saturation = u16At s (p + 18);
-  reserved = u32At s (p + 20);
+  mileage = u32At s (p + 20);
 }
 
 unfoldable pub rowAt : List ℕ → ℕ → Row

@@ -118,7 +118,7 @@ rowDemands s i =
     demand 18 place ((row .trips ≤ tripsLimit) × (row .minutes ≤ minutesLimit)) next
     demand 19 place ((row .load ≤ row .saturation) × (row .canister ≡ None → row .saturation ≡ 0)) next
     demand 20 place ((j : ℕ) → j < seasonsOf s → (size : Fraction) → Size (row .canister) size → AtMost3 (seasonAt s j) size (row .saturation)) next
-    demand 21 place (row .reserved ≡ 0)
+    demand 21 place (row .mileage ≡ 0)
 
 -- the whole table, "in table and file order"
 abbrev pub demands : List ℕ → Demands

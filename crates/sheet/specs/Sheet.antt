@@ -134,7 +134,7 @@ rowCheck s i =
     refuse (ltb tripsLimit (row .trips) || ltb minutesLimit (row .minutes)) 18 place then
     refuse (loadWrong (row .canister) (row .load) (row .saturation)) 19 place then
     refuse (someSeason (saturationWrong (row .canister) (row .saturation)) s (seasonsOf s)) 20 place then
-    refuse (not (eqb (row .reserved) 0)) 21 place
+    refuse (not (eqb (row .mileage) 0)) 21 place
 
 -- the whole table, "in table and file order"
 unfoldable pub sheetCheck : List ℕ → Check
