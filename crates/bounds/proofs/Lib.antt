@@ -7,6 +7,7 @@ pub mod Product
 pub mod Tail
 pub mod Sizes
 pub mod Exponential
+pub mod Sums
 pub mod Entries
 pub mod PowerBound
 pub mod Composition

@@ -208,6 +208,11 @@ pub +-assoc : (x y z : Fraction) → x +ᶠ y +ᶠ z ≈ᶠ x +ᶠ (y +ᶠ z)
 unfolding _+ᶠ_
 +-assoc x y z = record { cross = simp ring }
 
+-- (x + y) + (z + w) = (x + z) + (y + w)
+pub +-exchange : (x y z w : Fraction) → x +ᶠ y +ᶠ (z +ᶠ w) ≈ᶠ x +ᶠ z +ᶠ (y +ᶠ w)
+unfolding _+ᶠ_
++-exchange x y z w = record { cross = simp ring }
+
 -- x + 0 = x
 pub +-zero : (x : Fraction) → x +ᶠ whole 0 ≈ᶠ x
 unfolding _+ᶠ_ whole
@@ -240,6 +245,11 @@ neg-cong h = omega arith
 pub sub-mono : {x x' y y' : Fraction} → x ≤ᶠ x' → y' ≤ᶠ y → x -ᶠ y ≤ᶠ x' -ᶠ y'
 unfolding _-ᶠ_
 sub-mono h k = +-mono h (neg-antitone k)
+
+-- x ≤ 0 gives 0 ≤ −x
+pub neg-nonNegative : {x : Fraction} → x ≤ᶠ whole 0 → NonNegative (negᶠ x)
+unfolding negᶠ whole
+neg-nonNegative h = record { nonneg = omega (arith, h .cross) }
 
 -- equal parts have equal differences
 pub sub-cong : {x x' y y' : Fraction} → x ≈ᶠ x' → y ≈ᶠ y' → x -ᶠ y ≈ᶠ x' -ᶠ y'
@@ -275,6 +285,25 @@ pub ≤-sub : {x : Fraction} (y z : Fraction) → x ≤ᶠ y +ᶠ z → x -ᶠ y
 pub sub-≤ : (x y : Fraction) {z : Fraction} → x -ᶠ y ≤ᶠ z → x ≤ᶠ y +ᶠ z
 sub-≤ x y {z} h =
     ≤-by (≈-sym (sub-add x y)) (+-comm y z) (+-mono h (≤-refl y))
+
+-- x + y ≤ z gives x ≤ z − y
+pub ≤-minus : (x y : Fraction) {z : Fraction} → x +ᶠ y ≤ᶠ z → x ≤ᶠ z -ᶠ y
+≤-minus x y h = ≤-trans (≈→≥ (add-sub x y)) (sub-mono h (≤-refl y))
+
+-- y + (x − y) = x
+pub regain : (x y : Fraction) → y +ᶠ (x -ᶠ y) ≈ᶠ x
+regain x y = ≈-trans (+-comm y (x -ᶠ y)) (sub-add x y)
+
+-- (x − y) + (z − w) = (x + z) − (y + w)
+pub differences : (x y z w : Fraction) → x -ᶠ y +ᶠ (z -ᶠ w) ≈ᶠ x +ᶠ z -ᶠ (y +ᶠ w)
+unfolding _-ᶠ_ _+ᶠ_ negᶠ
+differences x y z w = +-exchange x (negᶠ y) z (negᶠ w)
+
+-- (x + y) − (x + z) = y − z
+pub cancel-left : (x y z : Fraction) → x +ᶠ y -ᶠ (x +ᶠ z) ≈ᶠ y -ᶠ z
+cancel-left x y z =
+    ≈-by (≈-sym (differences x x y z)) (≈-sym (+-zero (y -ᶠ z)))
+    (≈-trans (+-cong (sub-self x) (≈-refl (y -ᶠ z))) (+-comm (whole 0) (y -ᶠ z)))
 
 -- The product.
 
@@ -337,6 +366,20 @@ unfolding _*ᶠ_
 pub *-cong : {x x' y y' : Fraction} → x ≈ᶠ x' → y ≈ᶠ y' → x *ᶠ y ≈ᶠ x' *ᶠ y'
 *-cong {x} {x'} {y} {y'} h k =
     ≈-trans (*-cong-left y h) (≈-by (*-comm x' y) (*-comm x' y') (*-cong-left x' k))
+
+-- x·y·z = x·z·y
+pub *-swap : (x y z : Fraction) → x *ᶠ y *ᶠ z ≈ᶠ x *ᶠ z *ᶠ y
+*-swap x y z = ≈-by (*-assoc x y z) (*-assoc x z y) (*-cong (≈-refl x) (*-comm y z))
+
+-- (x + y)·z = x·z + y·z
+pub +-times : (x y z : Fraction) → (x +ᶠ y) *ᶠ z ≈ᶠ x *ᶠ z +ᶠ y *ᶠ z
++-times x y z =
+    ≈-by (*-comm (x +ᶠ y) z) (+-cong (*-comm x z) (*-comm y z)) (*-distrib z x y)
+
+-- x·y − x·z = x·(y − z)
+pub *-sub : (x y z : Fraction) → x *ᶠ y -ᶠ x *ᶠ z ≈ᶠ x *ᶠ (y -ᶠ z)
+unfolding _-ᶠ_ negᶠ _*ᶠ_
+*-sub x y z = ≈-sym (*-distrib x y (negᶠ z))
 
 -- 0 ≤ x, y gives 0 ≤ x·y
 pub *-nonNegative : {x y : Fraction} → NonNegative x → NonNegative y → NonNegative (x *ᶠ y)
@@ -418,6 +461,14 @@ unfolding inverse _*ᶠ_ whole
 inverse-mul x p =
     let u : 0 < x .up - x .down = omega arith in
     record { cross = rw (idle u) (simp mul-sub (omega (arith, mul-le-mul-left (x .den) (le-of-lt (p .gt))))) }
+
+-- x·z ≤ y·z gives x ≤ y, for 0 < z
+pub *-cancel : {x y z : Fraction} → Positive z → x *ᶠ z ≤ᶠ y *ᶠ z → x ≤ᶠ y
+*-cancel {x} {y} {z} p h =
+    ≤-by (≈-sym (undo x)) (≈-sym (undo y)) (*-mono-left (positive→nonNegative (inverse-positive z)) h)
+  where
+    undo : (x : Fraction) → x *ᶠ z *ᶠ inverse z ≈ᶠ x
+    undo x = ≈-by (*-assoc x z (inverse z)) (≈-sym (*-one x)) (*-cong (≈-refl x) (inverse-mul z p))
 
 -- Fractions given by two natural numbers.
 

@@ -1,0 +1,67 @@
+-- E of a sum of exponents: between products of E, the inverse at the opposite exponent, and the chord: up to an exponent of 0, over a
+-- step e, E grows by at least e·E at its start, E there taken one term further.
+use mathlib.Core.Bool.{Bool, true, false}
+use mathlib.Core.Path.{_≡_, ap}
+use Prim.Native.Nat.{ℕ, _+_, _<_}
+use native.Mathlib.Omega.{arith}
+use Rattle.numbers.specs.Fraction.{Fraction, _≤ᶠ_, _≈ᶠ_, _+ᶠ_, negᶠ, _*ᶠ_, whole, _^ᶠ_, _over_, inverse}
+use Rattle.bounds.specs.Series.{factorial, term, S, E}
+use Rattle.numbers.proofs.Order.{NonNegative, positive→nonNegative, nonNegative→≤, test-true, ≤-trans, ≤-by, ≈-refl, ≈-sym, ≈-trans, ≈→≤, +-nonNegative, neg-nonNegative, *-mono-right, *-cong, *-comm, *-assoc, *-swap, *-cancel, ratio}
+use Rattle.bounds.proofs.Exponential.{S-product-above, S-product-below, E-is, E-mono, E-positive, E-zero}
+
+-- Eₙ(y) = Sₙ(y) for 0 ≤ y
+pub E-plus : (n : ℕ) {y : Fraction} → NonNegative y → E n y ≡ S n y
+unfolding E
+E-plus n {y} h = ap (λ (c : Bool). elim c [ true ↦ S n y | false ↦ inverse (S n (negᶠ y)) ]) (test-true (nonNegative→≤ h))
+
+-- Eₙ(x + y) ≤ Eₙ(x)·Eₙ(y) for 0 ≤ x, y
+pub E-product-above : (n : ℕ) {x y : Fraction} → NonNegative x → NonNegative y → E n (x +ᶠ y) ≤ᶠ E n x *ᶠ E n y
+E-product-above n {x} {y} h k = rw (E-plus n h, E-plus n k, E-plus n (+-nonNegative h k)) (S-product-above x y n h k)
+
+-- Eₙ(x)·Eₘ(y) ≤ Eₙ₊ₘ(x + y) for 0 ≤ x, y
+pub E-product-below : (n m : ℕ) {x y : Fraction} → NonNegative x → NonNegative y → E n x *ᶠ E m y ≤ᶠ E (n + m) (x +ᶠ y)
+E-product-below n m {x} {y} h k =
+    rw (E-plus n h, E-plus m k, E-plus (n + m) (+-nonNegative h k)) (S-product-below x y n m h k)
+
+-- (a/b)·(b/a) = 1
+ratio-swap : (a b : ℕ) (p : 0 < a) (q : 0 < b) → ratio a b q *ᶠ ratio b a p ≈ᶠ whole 1
+unfolding ratio _*ᶠ_ whole
+ratio-swap a b p q = omega arith
+
+-- Eₙ(y)·Eₙ(−y) = 1
+pub E-neg : (n : ℕ) (y : Fraction) → E n y *ᶠ E n (negᶠ y) ≈ᶠ whole 1
+unfolding negᶠ
+E-neg n y = ≈-trans (*-cong (E-is n y) (E-is n (negᶠ y))) (ratio-swap _ _ _ _)
+
+-- Eₙ(z) ≤ 1 for z ≤ 0
+pub E-most-1 : {z : Fraction} (n : ℕ) → z ≤ᶠ whole 0 → E n z ≤ᶠ whole 1
+E-most-1 n h = ≤-trans (E-mono n h) (≈→≤ (E-zero n))
+
+-- 1 + e ≤ S₁(e)
+two-terms : (e : Fraction) → whole 1 +ᶠ e ≤ᶠ S 1 e
+unfolding S term factorial _^ᶠ_ _over_ _+ᶠ_ _*ᶠ_ whole
+two-terms e = record { cross = omega arith }
+
+-- 1 + e ≤ E₁(e) for 0 ≤ e
+pub one-plus : (e : Fraction) → NonNegative e → whole 1 +ᶠ e ≤ᶠ E 1 e
+one-plus e h = rw (E-plus 1 h) (two-terms e)
+
+-- −(z + e) + e = −z
+back : (z e : Fraction) → negᶠ (z +ᶠ e) +ᶠ e ≈ᶠ negᶠ z
+unfolding negᶠ _+ᶠ_
+back z e = omega arith
+
+-- (1 + e)·Eₙ₊₁(z) ≤ Eₙ(z + e) for 0 ≤ e and z + e ≤ 0: both sides times Eₙ(−(z + e)), where the product from below is at hand
+pub chord : (n : ℕ) (z e : Fraction) → NonNegative e → z +ᶠ e ≤ᶠ whole 0 → (whole 1 +ᶠ e) *ᶠ E (n + 1) z ≤ᶠ E n (z +ᶠ e)
+chord n z e e0 top =
+    let start : Fraction = E (n + 1) z in
+    let opposite : Fraction = E n (negᶠ (z +ᶠ e)) in
+    let sum : opposite *ᶠ (whole 1 +ᶠ e) ≤ᶠ E (n + 1) (negᶠ z) =
+    ≤-trans (*-mono-right (positive→nonNegative (E-positive n _)) (one-plus e e0))
+    (≤-trans (E-product-below n 1 (neg-nonNegative top) e0) (E-mono (n + 1) (≈→≤ (back z e)))) in
+    *-cancel (E-positive n (negᶠ (z +ᶠ e)))
+    (≤-by (turn (whole 1 +ᶠ e) start opposite) (≈-trans (E-neg n (z +ᶠ e)) (≈-sym (E-neg (n + 1) z)))
+    (*-mono-right (positive→nonNegative (E-positive (n + 1) z)) sum))
+  where
+    turn : (c f y : Fraction) → c *ᶠ f *ᶠ y ≈ᶠ f *ᶠ (y *ᶠ c)
+    turn c f y = ≈-trans (*-cong (*-comm c f) (≈-refl y)) (≈-trans (*-swap f c y) (*-assoc f y c))
