@@ -14,3 +14,4 @@ pub mod Composition
 pub mod ExponentialBound
 pub mod Ends
 pub mod Weights
+pub mod Line
