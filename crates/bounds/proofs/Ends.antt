@@ -14,6 +14,11 @@ pub end-2·255 : T (belowTest (10 ^ 3) 40 (10 ^ 2) 2255 954 0)
 unfolding belowTest top num acc
 end-2·255 = tt
 
+-- E(2.8201) ≤ 16.9, of a mileage of 17 km
+pub end-2·8201 : T (belowTest (10 ^ 4) 40 (10 ^ 1) 28201 169 0)
+unfolding belowTest top num acc
+end-2·8201 = tt
+
 -- E(3) ≤ 20.1, of a canister
 pub end-3 : T (belowTest (10 ^ 0) 40 (10 ^ 1) 3 201 0)
 unfolding belowTest top num acc
