@@ -4,13 +4,12 @@
 use mathlib.Core.Bool.{Bool}
 use Prim.Native.Nat.{ℕ, suc, _+_, _*_, _-_, _^_, _≤_, _<_}
 use native.Mathlib.Omega.{arith}
-use lib.Dec.{T, leb, leb→le}
-use lib.ListN.{length, getD}
+use lib.Dec.{leb, leb→le}
+use lib.ListN.{getD}
 use Rattle.numbers.specs.Fraction.{Fraction, _≤ᶠ_, whole, one-pos}
 use Rattle.bounds.specs.Series.{E, two-pos}
 use Rattle.numbers.proofs.Order.{≤-trans, ≈→≤, ≈→≥, ratio, whole-is}
-use Rattle.bounds.proofs.Product.{num, acc}
-use Rattle.bounds.proofs.Tail.{belowTest, top}
+use Rattle.bounds.proofs.Tail.{belowTest}
 use Rattle.bounds.proofs.Table.{every, at}
 use Rattle.bounds.proofs.Exponential.{E-mono, E-≤-ratio, ratio-≤-E}
 use Rattle.thresholds.specs.Thresholds.{far, farAbove, nearError, margin}
@@ -25,7 +24,7 @@ farTest c t = belowTest 1 40 t 0 (2 ^ 30) c
 
 -- far(c) ≤ 2³⁰·E(c)
 pub far-below : (c : ℕ) → c < 15 → (n : ℕ) → 40 ≤ n → farUnits (getD far c 0) ≤ᶠ E n (whole c)
-unfolding far belowTest top num acc
+unfolding far belowTest
 far-below c h n n40 =
     ≤-trans (ratio-≤-E 40 c 1 (getD far c 0) (2 ^ 30) one-pos (two-pos 30) (at farTest far tt c h) n n40)
     (E-mono n (≈→≥ (whole-is c one-pos)))
@@ -36,7 +35,7 @@ farAboveTest c t = belowTest 1 40 (2 ^ 30) c t 0
 
 -- 2³⁰·E(c) ≤ farAbove(c)
 pub far-above : (c : ℕ) → c < 15 → (n : ℕ) → 40 ≤ n → E n (whole c) ≤ᶠ farUnits (getD farAbove c 0)
-unfolding farAbove belowTest top num acc
+unfolding farAbove belowTest
 far-above c h n n40 =
     ≤-trans (E-mono n (≈→≤ (whole-is c one-pos)))
     (E-≤-ratio 40 c 1 (getD farAbove c 0) (2 ^ 30) one-pos (two-pos 30) (omega arith) (at farAboveTest farAbove tt c h) n n40)

@@ -1,8 +1,8 @@
 -- `thresholds::digit` meets its contract, in both branches.
-use mathlib.Core.Path.{_≡_, refl, _∙_, sym}
+use mathlib.Core.Path.{refl, _∙_, sym}
 use native.Mathlib.Omega.{arith}
 use borrow.Author.Needs.{needs}
-use Rattle.thresholds.specs.Thresholds.{within, digit}
+use Rattle.thresholds.specs.Thresholds.{digit}
 use Rattle.thresholds.proofs.digit.Statement.{statement}
 use Rattle.thresholds.proofs.digit.Tie as tie
 

@@ -1,6 +1,6 @@
 -- `thresholds::short` meets its contract: the exponent is that of its definition, and above 2.82.
 use mathlib.Core.Path.{_≡_, refl}
-use Prim.Native.Nat.{ℕ, _*_, _-_, _^_, _≤_}
+use Prim.Native.Nat.{ℕ, _*_, _-_, _^_}
 use native.Mathlib.Omega.{arith}
 use borrow.Author.Needs.{needs}
 use Rattle.thresholds.specs.Thresholds.{digits, wholeAbove, enough, margin, short}

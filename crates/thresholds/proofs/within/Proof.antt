@@ -1,13 +1,10 @@
 -- `thresholds::within` meets its contract: both products fit 64 bits.
-use mathlib.Core.Path.{_≡_}
 use Prim.Native.Nat.{ℕ, _+_, _*_, _^_, _≤_, _<_}
 use native.Mathlib.Omega.{arith}
-use native.Mathlib.Nat.{mul-le-mul-right, mul-le-mul}
+use native.Mathlib.Nat.{mul-le-mul}
 use borrow.Author.Needs.{needs}
-use lib.ListN.{getD}
-use Rattle.bounds.specs.Exponential.{exponential}
 use Rattle.bounds.proofs.ExponentialBound.{exponential-size-1·41}
-use Rattle.thresholds.specs.Thresholds.{far, nearError, within}
+use Rattle.thresholds.specs.Thresholds.{nearError, within}
 use Rattle.thresholds.proofs.Far.{far-size}
 use Rattle.thresholds.proofs.within.Statement.{statement}
 use Rattle.thresholds.proofs.within.Tie as tie
