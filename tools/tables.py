@@ -1,11 +1,13 @@
 #!/usr/bin/env python3
-"""The two tables of the exponential, one computation for both places where they stand.
+"""The tables of E, one computation for all places where they stand.
 
-    tools/tables.py           write them into crates/bounds/src/exp.rt and crates/bounds/specs/Exponential.antt
+    tools/tables.py           write them into src/ and specs/ of crates/bounds and crates/thresholds
     tools/tables.py --check   write nothing; exit with 1 if a file has other tables
 
-An entry is 2^40 E(c) cut to a whole number, for the exact c = k/step. It is cut from a number that is below E(c) for every
-truncation of the series from its N on, so that it is a lower bound for all of them; and it is at most one unit too low.
+The two tables of the exponential: an entry is 2^40 E(c) cut to a whole number, for the exact c = k/step. It is cut from a number that is below
+E(c) for every truncation of the series from its N on, so that it is a lower bound for all of them; and it is at most one unit too low.
+
+The two tables of E at whole c, up to 14: 2^30 E(c) from below and from above, for every truncation from 40 on.
 """
 
 import re
@@ -14,7 +16,8 @@ from fractions import Fraction
 from pathlib import Path
 
 UNIT = 2**40
-CRATE = Path(__file__).resolve().parent.parent / "crates" / "bounds"
+FAR_UNIT = 2**30
+CRATES = Path(__file__).resolve().parent.parent / "crates"
 
 
 def series(y, n):
@@ -47,6 +50,9 @@ def entry(c, n):
 COARSE = [entry(Fraction(h - 256, 16), 40 if h < 256 else 30) for h in range(322)]
 MIDDLE = [entry(Fraction(m, 4096), 8) for m in range(256)]
 
+FAR = [int(FAR_UNIT * bounds(Fraction(c), 40)[0] // 1) for c in range(15)]
+FAR_ABOVE = [int(-(-FAR_UNIT * bounds(Fraction(c), 40)[1] // 1)) for c in range(15)]
+
 
 def source(entries):
     """As rt fmt lays an array out."""
@@ -61,9 +67,12 @@ def listed(entries):
 
 # the file, what stands before the entries, the entries, and what stands after them
 PLACES = [
-    ("src/exp.rt", r"const TABLES: \[u64; 578\] = \[\n", source(COARSE + MIDDLE), r"\];"),
-    ("specs/Exponential.antt", r"\ncoarse =\n", listed(COARSE), r"\[\]\n"),
-    ("specs/Exponential.antt", r"\nmiddle =\n", listed(MIDDLE), r"\[\]\n"),
+    ("bounds/src/exp.rt", r"const TABLES: \[u64; 578\] = \[\n", source(COARSE + MIDDLE), r"\];"),
+    ("bounds/specs/Exponential.antt", r"\ncoarse =\n", listed(COARSE), r"\[\]\n"),
+    ("bounds/specs/Exponential.antt", r"\nmiddle =\n", listed(MIDDLE), r"\[\]\n"),
+    ("thresholds/src/lib.rt", r"const FAR: \[u64; 15\] = \[\n", source(FAR), r"\];"),
+    ("thresholds/specs/Thresholds.antt", r"\nfar =\n", listed(FAR), r"\[\]\n"),
+    ("thresholds/specs/Thresholds.antt", r"\nfarAbove =\n", listed(FAR_ABOVE), r"\[\]\n"),
 ]
 
 
@@ -73,7 +82,7 @@ def main():
         sys.exit(__doc__)
     differs = False
     for name, before, entries, after in PLACES:
-        path = CRATE / name
+        path = CRATES / name
         text = path.read_text()
         new, found = re.subn(f"({before}).*?(?={after})", lambda m: m.group(1) + entries, text, flags=re.S)
         if found != 1:

@@ -1,30 +1,34 @@
 -- E at the ends of the ranges that an accepted sheet brings, each by one computed comparison: what `E-below` asks for.
 use Prim.Native.Nat.{_^_}
 use lib.Dec.{T}
-use Rattle.bounds.proofs.Product.{acc, num}
-use Rattle.bounds.proofs.Tail.{top, belowTest}
+use Rattle.bounds.proofs.Tail.{belowTest}
 
 -- E(0.44) ≤ 1.56, of 0.004·vp
 pub end-0·44 : T (belowTest (10 ^ 2) 40 (10 ^ 2) 44 156 0)
-unfolding belowTest top num acc
+unfolding belowTest
 end-0·44 = tt
 
 -- E(2.255) ≤ 9.54, of 0.0205·vp
 pub end-2·255 : T (belowTest (10 ^ 3) 40 (10 ^ 2) 2255 954 0)
-unfolding belowTest top num acc
+unfolding belowTest
 end-2·255 = tt
+
+-- E(2.8201) ≤ 16.9, of a mileage of 17 km
+pub end-2·8201 : T (belowTest (10 ^ 4) 40 (10 ^ 1) 28201 169 0)
+unfolding belowTest
+end-2·8201 = tt
 
 -- E(3) ≤ 20.1, of a canister
 pub end-3 : T (belowTest (10 ^ 0) 40 (10 ^ 1) 3 201 0)
-unfolding belowTest top num acc
+unfolding belowTest
 end-3 = tt
 
 -- E(3.58) ≤ 36, of 0.0716·T up to 50 °C
 pub end-3·58 : T (belowTest (10 ^ 4) 40 (10 ^ 0) 35800 36 0)
-unfolding belowTest top num acc
+unfolding belowTest
 end-3·58 = tt
 
 -- E(4.0096) ≤ 56, of 0.0716·T up to 56 °C
 pub end-4·0096 : T (belowTest (10 ^ 4) 40 (10 ^ 0) 40096 56 0)
-unfolding belowTest top num acc
+unfolding belowTest
 end-4·0096 = tt

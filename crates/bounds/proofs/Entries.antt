@@ -6,8 +6,7 @@ use native.Mathlib.Omega.{arith}
 use lib.Dec.{T}
 use lib.ListN.{length, getD}
 use Rattle.bounds.specs.Exponential.{coarse, middle}
-use Rattle.bounds.proofs.Product.{acc, num}
-use Rattle.bounds.proofs.Tail.{Near, near, nearTest, belowTest, top}
+use Rattle.bounds.proofs.Tail.{Near, near, nearTest}
 use Rattle.bounds.proofs.Table.{at, every, ascending-at}
 
 -- the entry at place h is just below w·E((h − o)/q) for every n from N(h) on
@@ -26,12 +25,12 @@ from o h = 30 + 10 * min 1 (o - h)
 
 -- coarse(h) ≤ 2⁴⁰·E((h − 256)/16) ≤ coarse(h) + 1
 pub coarse-near : (h : ℕ) → h < 322 → Near 16 (from 256 h) (2 ^ 40) (h - 256) (256 - h) (getD coarse h 0)
-unfolding coarse from nearTest belowTest top num acc
+unfolding coarse from nearTest
 coarse-near h l = entry-near 16 256 (2 ^ 40) (from 256) coarse tt h l (omega arith) (omega arith) (omega arith)
 
 -- middle(m) ≤ 2⁴⁰·E(m/4096) ≤ middle(m) + 1
 pub middle-near : (m : ℕ) → m < 256 → Near 4096 8 (2 ^ 40) (m - 0) (0 - m) (getD middle m 0)
-unfolding middle nearTest belowTest top num acc
+unfolding middle nearTest
 middle-near m l = entry-near 4096 0 (2 ^ 40) (λ _. 8) middle tt m l (omega arith) (omega arith) (omega arith)
 
 -- coarse grows with its place

@@ -150,22 +150,32 @@ E-mono {x} {y} n h =
     ≤-by (E-at n i j q p (omega arith)) (E-at n i' j' q p (omega arith))
     (ratio-≤ _ _ _ _ (mul-le-mul (num-mono q {p = i - j} {r = i' - j'} n (omega arith)) (num-mono q {p = j' - i'} {r = j - i} n (omega arith))))
 
--- Eₙ(i/q) ≤ a/b from a comparison of natural numbers
-quotient-≤ : (n i q a b : ℕ) (h : 0 < q) (p : 0 < b) → b * num q i n ≤ a * num q 0 n → quotient n i 0 q h ≤ᶠ ratio a b p
-quotient-≤ n i q a b h p l =
-    let e : i - 0 ≡ i = omega arith in
-    let f : 0 - i ≡ 0 = omega arith in
-    ratio-≤ _ _ _ _ (rw (e, f) (omega arith))
+-- at r/q
+E-ratio : (n r q : ℕ) (h : 0 < q) → E n (ratio r q h) ≈ᶠ ratio (num q r n) (num q 0 n) (num-pos q 0 n h)
+unfolding ratio
+E-ratio n r q h =
+    let e : r - 0 ≡ r = omega arith in
+    let f : 0 - r ≡ 0 = omega arith in
+    ≈-trans (E-at n r 0 q h (≈-refl (ratio r q h))) (ratio-≈ _ _ _ _ (rw (e, f)))
+
+-- Eₙ(r/q) ≤ a/b for every n ≥ N, from one computed comparison at N
+pub E-≤-ratio : (N r q a b : ℕ) (h : 0 < q) (p : 0 < b) → r < q * suc N → T (belowTest q N b r a 0) → (n : ℕ) → N ≤ n
+    → E n (ratio r q h) ≤ᶠ ratio a b p
+E-≤-ratio N r q a b h p l t n le =
+    ≤-by (E-ratio n r q h) (≈-refl _) (ratio-≤ _ _ _ _ (omega (arith, below q N b r a 0 h l t n le)))
+
+-- a/b ≤ Eₙ(r/q)
+pub ratio-≤-E : (N r q a b : ℕ) (h : 0 < q) (p : 0 < b) → T (belowTest q N a 0 b r) → (n : ℕ) → N ≤ n → ratio a b p ≤ᶠ E n (ratio r q h)
+ratio-≤-E N r q a b h p t n le =
+    ≤-by (≈-refl _) (E-ratio n r q h)
+    (ratio-≤ _ _ _ _ (omega (arith, below q N a 0 b r h (mul-pos h (omega arith)) t n le)))
 
 -- Eₙ(z) ≤ bound·10⁻ᵈⁱᵍⁱᵗˢ for every n ≥ N and every z ≤ last·10⁻ᵖˡᵃᶜᵉˢ, from one computed comparison at N
 pub E-below : (N last places bound digits : ℕ) → last < 10 ^ places * suc N → T (belowTest (10 ^ places) N (10 ^ digits) last bound 0)
     → {z : Fraction} (n : ℕ) → N ≤ n → z ≤ᶠ last /10^ places → E n z ≤ᶠ bound /10^ digits
-unfolding _/10^_
 E-below N last places bound digits h t n le l =
     ≤-by (≈-refl _) (decimal-is bound digits)
-    (≤-trans (E-mono n l)
-    (≤-trans (≈→≤ (E-is n (last /10^ places)))
-    (quotient-≤ n last _ bound _ _ _ (below (10 ^ places) N (10 ^ digits) last bound 0 (ten-pos places) h t n le))))
+    (≤-trans (E-mono n (≤-trans l (≈→≤ (decimal-is last places)))) (E-≤-ratio N last _ bound _ (ten-pos places) (ten-pos digits) h t n le))
 
 -- The tangent: over a step e, E grows by no more than e·E at its end.
 

@@ -4,7 +4,7 @@ use mathlib.Core.Path.{_≡_, refl}
 use Prim.Native.Nat.{ℕ, _+_, _*_, _-_, _^_, _/_, _%_, _≤_, _<_}
 use native.Mathlib.Omega.{arith}
 use native.Mathlib.Nat.{mul-le-mul, le-of-lt, div-add-mod, mod-lt}
-use lib.Dec.{lit<}
+use lib.Dec.{lit<, lit≤}
 use lib.ListN.{getD}
 use Rattle.numbers.specs.Fraction.{ten-pos}
 use Rattle.bounds.specs.Series.{E}
@@ -48,6 +48,23 @@ unfolding exponential
 exponential-size x h =
     cut-below (2 ^ 40) (omega arith) (le-of-lt (coarse-below (x / 6250000000000) (omega arith)))
     (le-of-lt (fine-size (x % 6250000000000) (omega arith))) (lit< tt)
+
+-- E(z) < 8 for z ≤ 2⁴⁷·10⁻¹⁴
+pub exponential-size-1·41 : (x : ℕ) → x ≤ 16 * 10 ^ 14 + 2 ^ 47 → exponential x < 2 ^ 43
+unfolding exponential coarse
+exponential-size-1·41 x h =
+    cut-below (2 ^ 40) (omega arith) (coarse-mono {h = x / 6250000000000} {k = 278} (omega arith) (omega arith))
+    (le-of-lt (fine-size (x % 6250000000000) (omega arith))) (lit< tt)
+
+-- E(0) is 1
+pub exponential-at-0 : exponential (16 * 10 ^ 14) ≡ 2 ^ 40
+unfolding exponential fine quadratic rest coarse middle
+exponential-at-0 = refl
+
+-- E(2⁴⁷·10⁻¹⁴) is 4 or more
+pub exponential-at-1·41 : 4 * 2 ^ 40 ≤ exponential (16 * 10 ^ 14 + 2 ^ 47)
+unfolding exponential fine quadratic rest coarse middle
+exponential-at-1·41 = lit≤ tt
 
 -- The three factors.
 

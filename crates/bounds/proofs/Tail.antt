@@ -32,8 +32,10 @@ tail q p a b N n h le =
     let w = rw (d .1) at (top-falls q p a b N h (d .0)) in
     omega arith
 
--- x·Sₙ(r/q) ≤ y·Sₙ(p/q) for every n ≥ N, as a comparison at N: the tail on the left is at most t_N·r/(q·(N + 1) − r)
+-- x·Sₙ(r/q) ≤ y·Sₙ(p/q) for every n ≥ N, as a comparison at N: the tail on the left is at most t_N·r/(q·(N + 1) − r).
+-- Who opens it has opened all that it computes with.
 unfoldable pub belowTest : ℕ → ℕ → ℕ → ℕ → ℕ → ℕ → Bool
+unfolding top num acc
 belowTest q N x r y p = leb (x * top q r r (q * suc N - r) N) (y * ((q * suc N - r) * num q p N))
 
 -- the comparison at N, carried to n and freed of its common factor
@@ -58,6 +60,7 @@ pub record Near (q N w i j t : ℕ) : Type 0 where
 
 -- both bounds, each as one comparison at N
 unfoldable pub nearTest : ℕ → ℕ → ℕ → ℕ → ℕ → ℕ → Bool
+unfolding belowTest
 nearTest q N w i j t = both (belowTest q N t j w i) (belowTest q N w i (t + 1) j)
 
 -- where the test passes the bounds hold for every n ≥ N

@@ -11,9 +11,8 @@ use lib.ListN.{getD, List·getD-eq-default}
 use Rattle.numbers.specs.Fraction.{Fraction, _<ᶠ_, _≈ᶠ_, _+ᶠ_, negᶠ, _-ᶠ_, _*ᶠ_, _^ᶠ_, whole, _/10^_, _over_}
 use Rattle.bounds.specs.Series.{E}
 use Rattle.numbers.proofs.Order.{ratio, sub-mul}
-use Rattle.bounds.proofs.Product.{acc, num}
 use Rattle.bounds.proofs.Exponential.{quotient, E-at}
-use Rattle.bounds.proofs.Tail.{top, belowTest, below}
+use Rattle.bounds.proofs.Tail.{belowTest, below}
 use Rattle.bounds.proofs.Table.{both, both-left, both-right, every, at}
 use Rattle.bounds.specs.Weights.{weights, w, weightExponent}
 
@@ -70,7 +69,7 @@ nearestTest i weight =
 
 -- antt computes it at all 48
 all-pass : T (every nearestTest 0 weights)
-unfolding nearestTest belowTest top num acc exponent apart weights
+unfolding nearestTest belowTest exponent apart weights
 all-pass = tt
 
 -- w − 1/2 < 10⁹·x for x = a/b with (w − 0.49)·b ≤ 10⁹·a

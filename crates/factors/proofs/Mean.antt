@@ -6,7 +6,7 @@ use native.Mathlib.Omega.{arith}
 use native.Mathlib.Nat.{mul-le-mul-right, mul-le-mul-left, div-mul-le-self, lt-div-mul-add, le-of-mul-le-mul-right, div-le-of-le-mul}
 use Rattle.numbers.specs.Fraction.{Fraction, _≈ᶠ_, _+ᶠ_, _*ᶠ_, whole, _over_, _times_}
 use Rattle.bounds.specs.Enclosure.{Within, WithinAll}
-use Rattle.numbers.proofs.Order.{ring, ≈-refl, ≈-sym, ≈-trans, ≈-by, +-cong, *-cong, *-comm, *-assoc, *-distrib, *-zero, +-zero, over-cong, times-cong, times-is}
+use Rattle.numbers.proofs.Order.{≈-refl, ≈-sym, ≈-trans, ≈-by, +-cong, +-exchange, *-cong, *-comm, *-assoc, *-distrib, *-zero, +-zero, over-cong, times-cong, times-is}
 use Rattle.bounds.proofs.Within.{widen, weaken, whole-within, +-within, times-within, round-within, over-within-scaled}
 use Rattle.exact.specs.Factors.{total, weightedSum, mean}
 use Rattle.factors.specs.Means.{weighted, meanUnits}
@@ -22,11 +22,6 @@ over-+ x y k = omega arith
 over-* : (c x : Fraction) (k : ℕ) → (c *ᶠ x) over k ≈ᶠ c *ᶠ (x over k)
 unfolding _over_ _*ᶠ_
 over-* c x k = omega arith
-
--- (x + y) + (z + t) = (x + z) + (y + t)
-exchange : (x y z t : Fraction) → x +ᶠ y +ᶠ (z +ᶠ t) ≈ᶠ x +ᶠ z +ᶠ (y +ᶠ t)
-unfolding _+ᶠ_
-exchange x y z t = record { cross = simp ring }
 
 -- k·(x + y) = k·x + k·y
 times-+ : (k : ℕ) (x y : Fraction) → k times (x +ᶠ y) ≈ᶠ k times x +ᶠ k times y
@@ -52,7 +47,7 @@ module _ (f g : ℕ → Fraction) where
   unfolding weightedSum
   sum-+ cell [] = ≈-sym (+-zero _)
   sum-+ cell (count ∷ counts) =
-      ≈-trans (+-cong (times-+ count (f cell) (g cell)) (sum-+ (suc cell) counts)) (exchange _ _ _ _)
+      ≈-trans (+-cong (times-+ count (f cell) (g cell)) (sum-+ (suc cell) counts)) (+-exchange _ _ _ _)
 
   -- cells of equal values have equal means
   pub mean-cong : (counts : List ℕ) → ((cell : ℕ) → f cell ≈ᶠ g cell) → mean f counts ≈ᶠ mean g counts

@@ -3,4 +3,4 @@ pub mod Heat
 pub mod MarkTemperatures
 pub mod Rise
 pub mod Permeation
-pub mod Columns
+pub mod SameColumns

@@ -91,8 +91,8 @@ module _ (θ : ℕ → ℕ) (warm : (i : ℕ) → θ i ≤ 80 * 10 ^ 10) where
   step-within i =
       all-map₂
       (λ n a b.
-      step-cases n (Within (2 ^ 40) (heat (θ ((i + 1) % 48)) - (heat (θ i) + heatError)) (2 * heatError)) (degrees (θ i)) (degrees (θ ((i + 1) % 48)))
-      (λ h. difference-within (heat-mono n h) b a)
+      step-cases n (Within (2 ^ 40) (stepAt θ i) (2 * heatError)) (degrees (θ i)) (degrees (θ ((i + 1) % 48)))
+      (λ h. weaken (difference-within (heat-mono n h) b a) (omega arith) (omega arith))
       (λ h.
       let l : heat (θ ((i + 1) % 48)) ≤ heat (θ i) + heatError = within-cross b a (heat-mono n h) in
       weaken (whole-within (2 ^ 40) 0) (omega arith) (omega arith)))

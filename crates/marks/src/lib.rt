@@ -12,8 +12,8 @@ ghost use lib.ListN.{getD};
 ghost use Rattle.bounds.specs.Exponential.{entries};
 ghost use Rattle.numbers.specs.Lists.{tab, AllAtMost};
 ghost use Rattle.bounds.specs.Weights.{weights};
-ghost use Rattle.sheet.specs.Limits.{coldLimit, warmLimit, vpLimit};
-ghost use Rattle.sheet.specs.Range.{warmth, markWarmth, SeasonInRange};
+ghost use Rattle.sheet.specs.Limits.{vpLimit};
+ghost use Rattle.sheet.specs.Range.{warmth, warmthLimit, markWarmth, SeasonInRange};
 ghost use Rattle.marks.specs.AtMarks.{AtMarks};
 ghost use Rattle.marks.specs.Marks.{heat, heatError, raisedError, pressureFactor, bracketUnits};
 
@@ -58,7 +58,7 @@ const RAISED_ERROR: u64 = 475;
 
 // The temperature at a mark, from the lowest of the day, the span up to the highest, and the mark's weight.
 fn between(lowest: u64, span: u64, weight: u64) -> u64
-    requires { ⌜ (lowest ≤ coldLimit + warmLimit) × (span ≤ coldLimit + warmLimit) × (weight ≤ 10 ^ 9) ⌝ }
+    requires { ⌜ (lowest ≤ warmthLimit) × (span ≤ warmthLimit) × (weight ≤ 10 ^ 9) ⌝ }
     ensures { λ r. ⌜ r ≡ lowest * 10 ^ 9 + span * weight ⌝ }
 {
     lowest * TENTH + span * weight
@@ -66,7 +66,7 @@ fn between(lowest: u64, span: u64, weight: u64) -> u64
 
 // The temperatures at the marks, from the lowest of the day and the span up to the highest.
 fn temperatures(lowest: u64, span: u64, weights: [u64; 48]) -> [u64; 48]
-    requires { ⌜ (lowest ≤ coldLimit + warmLimit) × (span ≤ coldLimit + warmLimit) × AllAtMost (10 ^ 9) weights ⌝ }
+    requires { ⌜ (lowest ≤ warmthLimit) × (span ≤ warmthLimit) × AllAtMost (10 ^ 9) weights ⌝ }
     ensures { λ r. ⌜ r ≡ tab (λ (i : ℕ). lowest * 10 ^ 9 + span * getD weights i 0) 48 ⌝ }
 {
     let mut out = [0u64; 48];

@@ -6,7 +6,7 @@ use Prim.Native.Nat.{ℕ, _+_, _*_, _-_, _/_, _^_, _≤_}
 use native.Mathlib.Nat.{mul-comm, zero-mul}
 use native.Mathlib.Omega.{arith}
 use Rattle.numbers.specs.Fraction.{Fraction, _≤ᶠ_, _≈ᶠ_, _+ᶠ_, _-ᶠ_, _*ᶠ_, whole, _/10^_, _times_}
-use Rattle.numbers.proofs.Order.{≤-trans, ≈→≤, ≈→≥, ≈-refl, ≈-trans, nonNegative-up, decimal-nonNegative, whole-nonNegative, +-mono, +-cong, *-mono-left, *-mono-right, *-cong, times-mono}
+use Rattle.numbers.proofs.Order.{≤-trans, ≈→≤, ≈→≥, ≈-refl, ≈-trans, nonNegative-up, decimal-nonNegative, whole-nonNegative, +-mono, +-cong, *-mono-left, *-mono-right, *-cong, times-mono, whole-mono}
 use Rattle.exact.specs.declared.Season.{Season}
 use Rattle.exact.specs.declared.Row.{Row}
 use Rattle.exact.specs.Factors.{Factor, F1, F2, F3, F4, F5, F6, F7, factor}
@@ -153,7 +153,7 @@ module _ {row : Row} (shares : Shares row) (counts : List ℕ) (mechanism : Mech
   pub low-above : (seasons : List Season) → Every (λ (season : Season). Enclosed counts season row) seasons
       → whole (lowFigure counts seasons row mechanism) ≤ᶠ mass n counts seasons row mechanism *ᶠ whole 1000
   unfolding lowFigure
-  low-above seasons e = cut-down _ (year-above seasons e)
+  low-above seasons e = ≤-trans (whole-mono (omega arith)) (cut-down _ (year-above seasons e))
 
   -- ".. and at most its high."
   pub high-below : (seasons : List Season) → Every (λ (season : Season). Enclosed counts season row) seasons

@@ -8,7 +8,7 @@ use denote.Ref.{now}
 use Rattle.numbers.specs.Lists.{AllAtMost}
 use Rattle.bounds.specs.Exponential.{entries}
 use Rattle.marks.specs.Marks.{tenths}
-use Rattle.marks.proofs.Columns.{steps-are, rates-are, raises-are}
+use Rattle.marks.proofs.SameColumns.{steps-are, rates-are, raises-are}
 use Rattle.marks.proofs.at_marks.Statement.{statement}
 use Rattle.marks.proofs.at_marks.Tie as tie
 

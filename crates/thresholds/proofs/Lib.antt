@@ -1,0 +1,3 @@
+pub mod Far
+pub mod Threshold
+pub mod Found
