@@ -8,7 +8,7 @@ use native.Mathlib.Nat.{pow-zero, mul-comm, mul-pos, mul-le-mul-right, mul-le-mu
 use lib.Dec.{T}
 use Rattle.numbers.specs.Fraction.{Fraction, _≤ᶠ_, _≈ᶠ_, _+ᶠ_, negᶠ, _*ᶠ_, whole, _/10^_, ten-pos, _over_, inverse}
 use Rattle.bounds.specs.Series.{S, E, term, factorial}
-use Rattle.numbers.proofs.Order.{NonNegative, Positive, sub-mul, ratio, ratio-≤, ratio-≈, ratio-positive, nonNegative-is, decimal-is, ≤-trans, ≤-by, ≈→≤, ≈-refl, ≈-sym, ≈-trans, +-cong, *-cong, ^-cong, over-cong, neg-cong, inverse-cong, test-cases, test-cong, nonNegative, neg-positive, positive→nonNegative, positive-cong}
+use Rattle.numbers.proofs.Order.{NonNegative, Positive, sub-mul, ratio, ratio-≤, ratio-≈, ratio-positive, ratio-sum, ratio-one, nonNegative-is, decimal-is, ≤-trans, ≤-by, ≈→≤, ≈-refl, ≈-sym, ≈-trans, +-cong, *-cong, ^-cong, over-cong, neg-cong, inverse-cong, test-cases, test-cong, nonNegative, neg-positive, positive→nonNegative, positive-cong}
 use Rattle.bounds.proofs.Product.{den, acc, num, num-mono, num-zero, num-pos, den-pos, product-above, product-below, series-is}
 use Rattle.bounds.proofs.Tail.{top, tail, belowTest, below}
 
@@ -49,11 +49,6 @@ left-is x y h = multiple-is x (y .den) _ _ refl h
 -- y over the denominators of x and y
 right-is : (x y : Fraction) → NonNegative y → y ≈ᶠ ratio ((y .up - y .down) * x .den) (x .den * y .den) (mul-pos (x .pos) (y .pos))
 right-is x y h = multiple-is y (x .den) _ _ (mul-comm (x .den) (y .den)) h
-
--- p/q + r/q = (p + r)/q
-ratio-sum : (p r q : ℕ) (h : 0 < q) → ratio p q h +ᶠ ratio r q h ≈ᶠ ratio (p + r) q h
-unfolding ratio _+ᶠ_
-ratio-sum p r q h = omega arith
 
 module _ (x y : Fraction) (hx : NonNegative x) (hy : NonNegative y) where
   -- x + y
@@ -136,11 +131,6 @@ E-at n i j q h e = ≈-trans (E-cong n e) (E-is n (record { up = i; down = j; de
 -- 0 < Eₙ(y)
 pub E-positive : (n : ℕ) (y : Fraction) → Positive (E n y)
 E-positive n y = positive-cong (≈-sym (E-is n y)) (ratio-positive _ (num-pos (y .den) (y .up - y .down) n (y .pos)))
-
--- a/a = 1
-ratio-one : (a : ℕ) (h : 0 < a) → ratio a a h ≈ᶠ whole 1
-unfolding ratio whole
-ratio-one a h = omega arith
 
 -- Eₙ(0) = 1
 pub E-zero : (n : ℕ) → E n (whole 0) ≈ᶠ whole 1

@@ -15,3 +15,5 @@ pub mod ExponentialBound
 pub mod Ends
 pub mod Weights
 pub mod Line
+pub mod Units
+pub mod Tangent

@@ -5,7 +5,7 @@ use Prim.Native.Nat.{ℕ, _+_, _*_, _-_, _^_, _/_, _≤_, _<_, min}
 use native.Mathlib.Omega.{arith}
 use native.Mathlib.Nat.{mul-le-mul-right, mul-le-mul-left, le-of-mul-le-mul-right}
 use Rattle.numbers.specs.Fraction.{Fraction, _≤ᶠ_, _≈ᶠ_, _+ᶠ_, _-ᶠ_, _*ᶠ_, whole, _/10^_, ten-pos}
-use Rattle.numbers.proofs.Order.{NonNegative, positive→nonNegative, nonNegative-up, ≤-refl, ≤-trans, ≈-trans, ≈→≤, ≈→≥, +-mono, +-comm, sub-add, sub-nonNegative, ≤-sub, *-mono, *-mono-right, *-one, ratio, ratio-≤, ratio-nonNegative}
+use Rattle.numbers.proofs.Order.{NonNegative, positive→nonNegative, nonNegative-up, ≤-refl, ≤-trans, ≈-refl, ≈-sym, ≈-trans, ≈→≤, ≈→≥, ≈-by, +-mono, +-cong, +-comm, +-assoc, sub-add, sub-nonNegative, ≤-sub, regain, *-mono, *-mono-right, *-cong, *-distrib, ratio, ratio-mono, ratio-nonNegative}
 use Rattle.bounds.specs.Series.{E}
 use Rattle.bounds.specs.Enclosure.{Within}
 use Rattle.bounds.specs.Exponential.{exponential, exponent, exponentLimit, exponentialError}
@@ -13,7 +13,7 @@ use Rattle.bounds.proofs.Exponential.{E-mono, E-positive, E-below, E-ta
 use Rattle.bounds.proofs.Sums.{E-most-1}
 use Rattle.bounds.proofs.ExponentialBound.{exponential-within, exponentialError-0, exponentialError-3}
 use Rattle.bounds.proofs.Ends.{end-3}
-use Rattle.bounds.proofs.Within.{widen, within-above, within-below, within-from, +-within, div-mono}
+use Rattle.bounds.proofs.Within.{widen, within-above, within-below, within-from, within-cross, whole-within, +-within, div-mono}
 
 -- How steep E is up to an exponent.
 pub record Slope : Type 0 where
@@ -85,11 +85,21 @@ slopeTo0 = record {
   moves = moves-0;
 }
 
+-- an exponent of at most 0
+at-most-0 : (x : ℕ) → x ≤ 16 * 10 ^ 14 → exponent x ≤ᶠ whole 0
+unfolding whole
+at-most-0 x h = omega arith
+
+-- the computed E is at most 1 there
+pub exponential-most-1 : (x : ℕ) → x ≤ 16 * 10 ^ 14 → exponential x ≤ 2 ^ 40
+exponential-most-1 x h =
+    within-cross (exponential-within x (omega arith) .at 40 (omega arith)) (whole-within (2 ^ 40) 1) (E-most-1 40 (at-most-0 x h))
+
 -- a value between two enclosed ones
 within-between : {s l w m v u : ℕ} {x y z : Fraction} (p : 0 < s) → Within s l w x → Within s m v z → x ≤ᶠ y → y ≤ᶠ z → m + v ≤ l + u
     → Within s l u y
 within-between {s} p a b h k g =
-    within-from p (≤-trans (within-above p a) h) (≤-trans k (≤-trans (within-below p b) (ratio-≤ _ _ p p (mul-le-mul-right s g))))
+    within-from p (≤-trans (within-above p a) h) (≤-trans k (≤-trans (within-below p b) (ratio-mono p g)))
 
 -- E(y) ≤ E(x) + d·steepest where x ≤ y ≤ x + d and y is at most the top
 climb : (sl : Slope) {x y : Fraction} (n : ℕ) (d : Fraction) → 40 ≤ n → x ≤ᶠ y → y ≤ᶠ x +ᶠ d → y ≤ᶠ sl .top → E n y ≤ᶠ E n x +ᶠ d *ᶠ sl .steepest
@@ -143,6 +153,14 @@ along A K m = exponent A +ᶠ rising K *ᶠ m
 pub along-mono : (A K : ℕ) {m m' : Fraction} → m ≤ᶠ m' → along A K m ≤ᶠ along A K m'
 unfolding along
 along-mono A K h = +-mono (≤-refl (exponent A)) (*-mono-right (ratio-nonNegative K double-unit-pos) h)
+
+-- by b for each unit of m
+pub along-split : (A K : ℕ) (m m' : Fraction) → along A K m' ≈ᶠ along A K m +ᶠ rising K *ᶠ (m' -ᶠ m)
+unfolding along
+along-split A K m m' =
+    ≈-by (+-cong (≈-refl (exponent A)) (*-cong (≈-refl (rising K)) (≈-sym (regain m' m))))
+    (+-assoc (exponent A) (rising K *ᶠ m) (rising K *ᶠ (m' -ᶠ m)))
+    (+-cong (≈-refl (exponent A)) (*-distrib (rising K) m (m' -ᶠ m)))
 
 module _ (A K : ℕ) {l w : ℕ} (m : Fraction) (a : Within (2 ^ 40) l w m) where
   -- the held exponent, from below

@@ -2,4 +2,5 @@
 pub mod exp;
 pub mod fixed;
 pub mod hours;
+pub mod order;
 pub mod power;

@@ -4,7 +4,7 @@ use mathlib.Core.Path.{_≡_, refl, ap, sym, subst}
 use Prim.Native.Nat.{ℕ, suc, zero, _+_, _*_, _-_, _^_, _≤_, _<_, max}
 use native.Mathlib.Decide.{decLe}
 use native.Mathlib.Omega.{arith}
-use native.Mathlib.Nat.{mul-comm, mul-assoc, mul-left-comm, mul-add, add-mul, add-comm, add-assoc, add-left-comm, mul-le-mul-right, mul-le-mul-left, le-of-mul-le-mul-right, le-dest, add-le-add, mul-sub, le-of-lt}
+use native.Mathlib.Nat.{mul-comm, mul-assoc, mul-left-comm, mul-add, add-mul, add-comm, add-assoc, add-left-comm, mul-le-mul-right, mul-le-mul-left, le-of-mul-le-mul-right, le-dest, add-le-add, mul-sub, mul-pos, le-of-lt}
 use lib.Dec.{T, leb→le, nleb→lt}
 use Rattle.numbers.specs.Fraction.{Fraction, _≤ᶠ_, _<ᶠ_, _≈ᶠ_, _≤?_, _+ᶠ_, negᶠ, _-ᶠ_, _*ᶠ_, whole, _^ᶠ_, _/10^_, ten-pos, _over_, inverse, _times_}
 
@@ -290,6 +290,11 @@ sub-≤ x y {z} h =
 pub ≤-minus : (x y : Fraction) {z : Fraction} → x +ᶠ y ≤ᶠ z → x ≤ᶠ z -ᶠ y
 ≤-minus x y h = ≤-trans (≈→≥ (add-sub x y)) (sub-mono h (≤-refl y))
 
+-- x + y ≤ x + z gives y ≤ z
+pub +-cancel : (x y z : Fraction) → x +ᶠ y ≤ᶠ x +ᶠ z → y ≤ᶠ z
++-cancel x y z h =
+    ≤-trans (≤-minus y x (≤-by (+-comm y x) (≈-refl _) h)) (≤-sub x z (≤-refl (x +ᶠ z)))
+
 -- y + (x − y) = x
 pub regain : (x y : Fraction) → y +ᶠ (x -ᶠ y) ≈ᶠ x
 regain x y = ≈-trans (+-comm y (x -ᶠ y)) (sub-add x y)
@@ -470,6 +475,21 @@ pub *-cancel : {x y z : Fraction} → Positive z → x *ᶠ z ≤ᶠ y *ᶠ z �
     undo : (x : Fraction) → x *ᶠ z *ᶠ inverse z ≈ᶠ x
     undo x = ≈-by (*-assoc x z (inverse z)) (≈-sym (*-one x)) (*-cong (≈-refl x) (inverse-mul z p))
 
+-- A value y that is known by a part of itself, c·y; with c + d = 1, d·y is what remains.
+module _ (c y : Fraction) {d : Fraction} (p : Positive d) (e : c +ᶠ d ≈ᶠ whole 1) where
+  -- the two parts
+  in-parts : y ≈ᶠ c *ᶠ y +ᶠ y *ᶠ d
+  in-parts =
+      ≈-by (≈-sym (*-one y)) (+-cong (*-comm c y) (≈-refl (y *ᶠ d))) (≈-trans (*-cong (≈-refl y) (≈-sym e)) (*-distrib y c d))
+
+  -- c·y + x ≤ y gives z ≤ y, for z·d ≤ x
+  pub solve-least : {x z : Fraction} → z *ᶠ d ≤ᶠ x → c *ᶠ y +ᶠ x ≤ᶠ y → z ≤ᶠ y
+  solve-least {x} h k = *-cancel p (≤-trans h (+-cancel (c *ᶠ y) x (y *ᶠ d) (≤-trans k (≈→≤ in-parts))))
+
+  -- y ≤ c·y + x gives y ≤ z, for x ≤ z·d
+  pub solve-most : {x z : Fraction} → x ≤ᶠ z *ᶠ d → y ≤ᶠ c *ᶠ y +ᶠ x → y ≤ᶠ z
+  solve-most {x} h k = *-cancel p (≤-trans (+-cancel (c *ᶠ y) (y *ᶠ d) x (≤-trans (≈→≥ in-parts) k)) h)
+
 -- Fractions given by two natural numbers.
 
 -- a / b
@@ -480,6 +500,10 @@ ratio a b p = record { up = a; down = 0; den = b; pos = p }
 pub ratio-≤ : (a c : ℕ) {b d : ℕ} (p : 0 < b) (r : 0 < d) → a * d ≤ c * b → ratio a b p ≤ᶠ ratio c d r
 unfolding ratio
 ratio-≤ a c p r h = omega arith
+
+-- a ≤ c gives a/b ≤ c/b
+pub ratio-mono : {a c b : ℕ} (p : 0 < b) → a ≤ c → ratio a b p ≤ᶠ ratio c b p
+ratio-mono {b = b} p h = ratio-≤ _ _ p p (mul-le-mul-right b h)
 
 -- a·d = c·b gives a/b = c/d
 pub ratio-≈ : (a c : ℕ) {b d : ℕ} (p : 0 < b) (r : 0 < d) → a * d ≡ c * b → ratio a b p ≈ᶠ ratio c d r
@@ -495,6 +519,21 @@ ratio-nonNegative a p = omega arith
 pub ratio-positive : {a b : ℕ} (p : 0 < b) → 0 < a → Positive (ratio a b p)
 unfolding ratio
 ratio-positive p h = omega arith
+
+-- p/q + r/q = (p + r)/q
+pub ratio-sum : (p r q : ℕ) (h : 0 < q) → ratio p q h +ᶠ ratio r q h ≈ᶠ ratio (p + r) q h
+unfolding ratio _+ᶠ_
+ratio-sum p r q h = omega arith
+
+-- (a/b)·(c/d) = (a·c)/(b·d)
+pub ratio-product : (a c : ℕ) {b d : ℕ} (p : 0 < b) (r : 0 < d) → ratio a b p *ᶠ ratio c d r ≈ᶠ ratio (a * c) (b * d) (mul-pos p r)
+unfolding ratio _*ᶠ_
+ratio-product a c p r = omega arith
+
+-- a/a = 1
+pub ratio-one : (a : ℕ) (h : 0 < a) → ratio a a h ≈ᶠ whole 1
+unfolding ratio whole
+ratio-one a h = omega arith
 
 -- k = k/1
 pub whole-is : (k : ℕ) (p : 0 < 1) → whole k ≈ᶠ ratio k 1 p

@@ -1,0 +1,37 @@
+-- Counts of units of 2⁻⁴⁰ as fractions.
+use Prim.Native.Nat.{ℕ, _+_, _*_, _^_, _/_, _≤_, _<_}
+use native.Mathlib.Omega.{arith}
+use Rattle.numbers.specs.Fraction.{Fraction, _≤ᶠ_, _≈ᶠ_, _+ᶠ_, _*ᶠ_}
+use Rattle.numbers.proofs.Order.{≤-trans, ≈-refl, ≈-trans, ≈→≤, +-cong, +-assoc, ratio, ratio-≤, ratio-mono, ratio-sum, ratio-product}
+use Rattle.bounds.specs.Enclosure.{Within}
+use Rattle.bounds.proofs.Within.{ratio-within}
+
+pub unit-pos : 0 < 2 ^ 40
+unit-pos = omega arith
+
+-- k·2⁻⁴⁰
+abbrev pub units : ℕ → Fraction
+units k = ratio k (2 ^ 40) unit-pos
+
+-- they are in the order of the counts
+pub units-≤ : {j k : ℕ} → j ≤ k → units j ≤ᶠ units k
+units-≤ h = ratio-mono unit-pos h
+
+-- and add as the counts do
+pub units-sum : (j k : ℕ) → units j +ᶠ units k ≈ᶠ units (j + k)
+units-sum j k = ratio-sum j k (2 ^ 40) unit-pos
+
+-- so do those that are added to a value
+pub units-fold : (y : Fraction) (j k : ℕ) → y +ᶠ units j +ᶠ units k ≈ᶠ y +ᶠ units (j + k)
+units-fold y j k = ≈-trans (+-assoc y (units j) (units k)) (+-cong (≈-refl y) (units-sum j k))
+
+-- a product of two, cut and one more
+pub units-product : (j k : ℕ) → units j *ᶠ units k ≤ᶠ units (j * k / 2 ^ 40 + 1)
+units-product j k = ≤-trans (≈→≤ (ratio-product j k unit-pos unit-pos)) (ratio-≤ _ _ _ unit-pos (over (j * k)))
+  where
+    over : (y : ℕ) → y * 2 ^ 40 ≤ (y / 2 ^ 40 + 1) * (2 ^ 40 * 2 ^ 40)
+    over y = omega arith
+
+-- a count encloses its units
+pub units-within : (k : ℕ) → Within (2 ^ 40) k 0 (units k)
+units-within k = ratio-within k (2 ^ 40) unit-pos (omega arith) (omega arith)

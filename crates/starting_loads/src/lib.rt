@@ -1,0 +1,2 @@
+// The load that a canister starts with, from the mileage.
+pub mod steps;
