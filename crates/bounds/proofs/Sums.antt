@@ -6,7 +6,7 @@ use Prim.Native.Nat.{ℕ, _+_, _<_}
 use native.Mathlib.Omega.{arith}
 use Rattle.numbers.specs.Fraction.{Fraction, _≤ᶠ_, _≈ᶠ_, _+ᶠ_, negᶠ, _*ᶠ_, whole, _^ᶠ_, _over_, inverse}
 use Rattle.bounds.specs.Series.{factorial, term, S, E}
-use Rattle.numbers.proofs.Order.{NonNegative, positive→nonNegative, nonNegative→≤, test-true, ≤-trans, ≤-by, ≈-refl, ≈-sym, ≈-trans, ≈→≤, +-nonNegative, neg-nonNegative, *-mono-right, *-cong, *-comm, *-assoc, *-swap, *-cancel, ratio}
+use Rattle.numbers.proofs.Order.{NonNegative, positive→nonNegative, nonNegative→≤, test-true, ≤-trans, ≤-by, ≈-refl, ≈-sym, ≈-trans, ≈→≤, +-nonNegative, neg-nonNegative, *-mono-left, *-mono-right, *-cong, *-comm, *-assoc, *-swap, *-cancel, ratio, ratio-positive}
 use Rattle.bounds.proofs.Exponential.{S-product-above, S-product-below, E-is, E-mono, E-positive, E-zero}
 
 -- Eₙ(y) = Sₙ(y) for 0 ≤ y
@@ -32,6 +32,13 @@ ratio-swap a b p q = omega arith
 pub E-neg : (n : ℕ) (y : Fraction) → E n y *ᶠ E n (negᶠ y) ≈ᶠ whole 1
 unfolding negᶠ
 E-neg n y = ≈-trans (*-cong (E-is n y) (E-is n (negᶠ y))) (ratio-swap _ _ _ _)
+
+-- a/b ≤ Eₙ(y) gives Eₙ(−y) ≤ b/a
+pub E-neg-most : (n a b : ℕ) (y : Fraction) (p : 0 < a) (q : 0 < b) → ratio a b q ≤ᶠ E n y → E n (negᶠ y) ≤ᶠ ratio b a p
+E-neg-most n a b y p q h =
+    *-cancel (ratio-positive q p)
+    (≤-by (*-comm (E n (negᶠ y)) _) (≈-trans (ratio-swap b a q p) (≈-sym (E-neg n y)))
+    (*-mono-left (positive→nonNegative (E-positive n (negᶠ y))) h))
 
 -- Eₙ(z) ≤ 1 for z ≤ 0
 pub E-most-1 : {z : Fraction} (n : ℕ) → z ≤ᶠ whole 0 → E n z ≤ᶠ whole 1

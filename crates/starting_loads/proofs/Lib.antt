@@ -1,2 +1,4 @@
 pub mod Bracket
 pub mod Newton
+pub mod Start
+pub mod Empty

@@ -8,14 +8,15 @@ use native.Mathlib.Omega.{arith}
 use native.Mathlib.Nat.{mul-le-mul-right}
 use lib.ListN.{getD}
 use Rattle.numbers.specs.Fraction.{Fraction, _≤ᶠ_, _≈ᶠ_, _+ᶠ_, _*ᶠ_, whole, ten-pos}
-use Rattle.bounds.specs.Series.{E, two-pos}
+use Rattle.bounds.specs.Series.{E}
 use Rattle.bounds.specs.Enclosure.{Within}
 use Rattle.bounds.specs.Exponential.{exponential, exponent}
-use Rattle.numbers.proofs.Order.{NonNegative, positive→nonNegative, whole-nonNegative, ≤-trans, ≈→≤, ≈→≥, +-nonNegative, *-mono, *-mono-right, *-nonNegative, *-cancel, ratio, ratio-nonNegative}
+use Rattle.numbers.proofs.Order.{NonNegative, positive→nonNegative, whole-nonNegative, ≤-trans, ≈→≤, ≈→≥, +-nonNegative, *-mono, *-mono-right, *-nonNegative, *-cancel, ratio, ratio-nonNegative, ratio-sum}
 use Rattle.bounds.proofs.Exponential.{E-cong, E-mono, E-positive}
 use Rattle.bounds.proofs.Sums.{E-product-above, E-product-below, one-plus}
 use Rattle.bounds.proofs.ExponentialBound.{exponential-within, exponentialError-1·41}
 use Rattle.bounds.proofs.Within.{widen, within-≈, within-above, within-below}
+use Rattle.bounds.proofs.Units.{unit-pos, units}
 use Rattle.thresholds.specs.Thresholds.{far, farAbove, nearError, margin}
 use Rattle.thresholds.proofs.Far.{farUnits, far-below, far-above, grown, gap}
 
@@ -29,8 +30,7 @@ exponents-nonNegative k = ratio-nonNegative k (ten-pos 14)
 
 -- the sum of two
 exponents-add : (j k : ℕ) → exponents j +ᶠ exponents k ≈ᶠ exponents (j + k)
-unfolding ratio _+ᶠ_
-exponents-add j k = omega arith
+exponents-add j k = ratio-sum j k (10 ^ 14) (ten-pos 14)
 
 -- two with a whole sum
 exponents-whole : (y d c : ℕ) → y + d ≡ c * 10 ^ 14 → exponents y +ᶠ exponents d ≈ᶠ whole c
@@ -41,10 +41,6 @@ exponents-whole y d c e = record { cross = omega (arith, ap (λ (t : ℕ). t * 1
 held-is : (d : ℕ) → exponent (16 * 10 ^ 14 + d) ≈ᶠ exponents d
 unfolding ratio
 held-is d = omega arith
-
--- x·2⁻⁴⁰
-abbrev units : ℕ → Fraction
-units x = ratio x (2 ^ 40) (two-pos 40)
 
 -- E(d) for d up to 2⁴⁷
 near-within : (d : ℕ) → d ≤ 2 ^ 47 → (n : ℕ) → 40 ≤ n → Within (2 ^ 40) (exponential (16 * 10 ^ 14 + d)) nearError (E n (exponents d))
@@ -63,7 +59,7 @@ pub reached : (M c d y : ℕ) → c < 15 → d ≤ 2 ^ 47 → y + d ≡ c * 10 ^
     → M * (exponential (16 * 10 ^ 14 + d) + nearError) ≤ getD far c 0 * 2 ^ 10 → (n : ℕ) → 40 ≤ n → whole M ≤ᶠ E n (exponents y)
 reached M c d y c15 d47 e h n n40 =
     *-cancel (E-positive n (exponents d))
-    (≤-trans (*-mono-right (whole-nonNegative M) (within-below (two-pos 40) (near-within d d47 n n40)))
+    (≤-trans (*-mono-right (whole-nonNegative M) (within-below unit-pos (near-within d d47 n n40)))
     (≤-trans (product-≤ M _ (getD far c 0) h)
     (≤-trans (far-below c c15 n n40)
     (≤-trans (E-mono n (≈→≥ (exponents-whole y d c e))) (E-product-above n (exponents-nonNegative y) (exponents-nonNegative d))))))
@@ -89,12 +85,12 @@ beyond M c d y c15 d47 s m h n n40 k =
     let below : units x *ᶠ (whole 1 +ᶠ exponents e) ≤ᶠ E 41 (exponents (d + e)) =
     ≤-trans
     (*-mono (positive→nonNegative (E-positive 40 (exponents d))) step
-    (within-above (two-pos 40) (near-within d d47 40 (omega arith))) (one-plus (exponents e) (exponents-nonNegative e)))
+    (within-above unit-pos (near-within d d47 40 (omega arith))) (one-plus (exponents e) (exponents-nonNegative e)))
     (≤-trans (E-product-below 40 1 (exponents-nonNegative d) (exponents-nonNegative e)) (E-mono 41 (≈→≤ (exponents-add d e)))) in
     too-much (10 ^ 14) grown nearError M x (getD far c 0) (getD farAbove c 0) (omega arith)
     (whole-product M x (getD farAbove c 0)
     (≤-trans
-    (*-mono (positive→nonNegative (E-positive n (exponents y))) (*-nonNegative (ratio-nonNegative x (two-pos 40)) step) k below)
+    (*-mono (positive→nonNegative (E-positive n (exponents y))) (*-nonNegative (ratio-nonNegative x unit-pos) step) k below)
     (≤-trans (E-product-below n 41 (exponents-nonNegative y) (exponents-nonNegative (d + e)))
     (≤-trans (E-mono (n + 41) (≈→≤ (exponents-whole y (d + e) c s))) (far-above c c15 (n + 41) (omega arith))))))
     h m (gap c c15)

@@ -1,0 +1,12 @@
+-- What a mileage says of the starting load. Definitions only.
+use Prim.Native.Nat.{ℕ, _*_, _-_, _/_, _^_}
+use Rattle.thresholds.specs.Thresholds.{short}
+use Rattle.starting_loads.specs.Steps.{start}
+
+-- the load without what is lost: (8.13·y − 22.92)/s in units of 2⁻⁴⁰ g, for h = 2·s and y in units of 10⁻¹⁴. (2⁴⁰/10¹⁶ is 2²⁴/5¹⁶.)
+unfoldable pub net : ℕ → ℕ → ℕ
+net h y = 2 * (813 * y - 2292 * 10 ^ 14) / h * 2 ^ 24 / 5 ^ 16
+
+-- the starting load for M km from 17 upward
+abbrev pub startUnits : ℕ → ℕ → ℕ → ℕ → ℕ → ℕ
+startUnits A K h σ M = start A K σ (net h (short M))

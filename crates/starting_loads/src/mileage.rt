@@ -1,0 +1,32 @@
+// What a mileage says of a canister's load: the part of it that is kept, in units of 2^-40 g.
+use thresholds::short;
+ghost use mathlib.Core.Path.{_≡_};
+ghost use Prim.Native.Nat.{_*_, _^_, _<_, _≤_};
+ghost use Rattle.bounds.specs.Exponential.{entries};
+ghost use Rattle.thresholds.specs.Thresholds.{short};
+ghost use Rattle.starting_loads.specs.Net.{net};
+
+// 22.92 in units of 10^-16.
+const OFFSET: u64 = 229200000000000000;
+
+// 2^24 and 5^16: from units of 10^-16 to units of 2^-40.
+const TWOS: u64 = 16777216;
+
+const FIVES: u64 = 152587890625;
+
+// (8.13 y - 22.92) / s, for 2 s = halves.
+fn kept(y: u64, halves: u64) -> u64
+    requires { ⌜ (282 * 10 ^ 12 ≤ y) × (y ≤ 14 * 10 ^ 14) × (0 < halves) ⌝ }
+    ensures { λ r. ⌜ (r ≡ net halves y) × (r < 2 ^ 50) ⌝ }
+{
+    let t = 2 * (813 * y - OFFSET) / halves;
+    t / FIVES * TWOS + t % FIVES * TWOS / FIVES
+}
+
+// The load without what is lost, for a canister with 2 s = halves.
+pub fn net(tables: &[u64; 578], mileage: u64, halves: u64) -> u64
+    requires { ⌜ (now tables ≡ entries) × (17 ≤ mileage) × (mileage ≤ 10 ^ 6) × (0 < halves) ⌝ }
+    ensures { λ r. ⌜ (r ≡ net halves (short mileage)) × (r < 2 ^ 50) ⌝ }
+{
+    kept(short(tables, mileage), halves)
+}
