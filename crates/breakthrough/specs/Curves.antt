@@ -1,27 +1,31 @@
 -- What the values of a row's canister in a season are. Definitions only.
 use mathlib.Core.List.{List}
 use mathlib.Core.Path.{_≡_}
-use Prim.Native.Nat.{ℕ, _+_, _<_}
+use Prim.Native.Nat.{ℕ, _+_, _^_, _≤_, _<_}
 use Rattle.numbers.specs.Lists.{tab}
 use Rattle.exact.specs.declared.Season.{Season}
 use Rattle.exact.specs.declared.Row.{Row}
-use Rattle.sheet.specs.Range.{SeasonInRange}
-use Rattle.sheet.specs.Range.{markWarmth}
-use Rattle.sheet.specs.Range.{halves}
-use Rattle.factors.specs.Escape.{tenthGrams, base, growth, loss, lossError}
-use Rattle.sheet.specs.Range.{RowInRange}
-use Rattle.factors.specs.Units.{gain}
+use Rattle.sheet.specs.Limits.{mileageLimit}
+use Rattle.sheet.specs.Range.{SeasonInRange, markWarmth, halves, RowInRange}
+use Rattle.starting_loads.specs.Balance.{BalancesReady}
+use Rattle.factors.specs.Escape.{tenthGrams, loss}
+use Rattle.factors.specs.Units.{rowStart, lossError, baseAt, growthAt, gain}
 use Rattle.breakthrough.specs.declared.curves.Curves.{Curves}
 
-module _ (season : Season) (row : Row) where
-  abbrev pub baseAt : ℕ → ℕ
-  baseAt i = base (season .vp) (markWarmth season i)
+-- what the starting loads are found from: with a mileage every exponent up to m_sat is at most 0
+pub record LoadsReady (row : Row) (bases growths : List ℕ) : Type 0 where
+  pub saturation-most : row .saturation ≤ 3685
+  pub load-most : row .load ≤ row .saturation
+  pub mileage-most : row .mileage ≤ mileageLimit
+  pub canister-there : 0 < halves (row .canister)
+  pub balanced : 17 ≤ row .mileage → (net : ℕ) → net < 2 ^ 50 → BalancesReady bases growths (tenthGrams (row .saturation)) net
 
-  abbrev pub growthAt : ℕ → ℕ
-  growthAt i = growth (row .canister) (season .vp) (markWarmth season i)
+module _ (season : Season) (row : Row) where
+  abbrev pub startAt : ℕ → ℕ
+  startAt i = rowStart row (baseAt season row i) (growthAt season row i)
 
   abbrev pub firstAt : ℕ → ℕ
-  firstAt i = loss (baseAt i) (growthAt i) (tenthGrams (row .saturation)) (tenthGrams (row .load)) + lossError
+  firstAt i = loss (baseAt season row i) (growthAt season row i) (tenthGrams (row .saturation)) (startAt i) + lossError row
 
   -- what a canister is fitted from
   pub record FitReady (warmths : List ℕ) (vapour : ℕ) : Type 0 where
@@ -32,9 +36,9 @@ module _ (season : Season) (row : Row) where
     pub vapour-is : vapour ≡ gain season row
 
   pub record CurvesOf (c : Curves) : Type 0 where
-    pub bases-are : c .bases ≡ tab baseAt 48
-    pub growths-are : c .growths ≡ tab growthAt 48
+    pub bases-are : c .bases ≡ tab (baseAt season row) 48
+    pub growths-are : c .growths ≡ tab (growthAt season row) 48
+    pub loads-are : c .loads ≡ tab startAt 48
     pub firsts-are : c .firsts ≡ tab firstAt 48
     pub saturation-is : c .saturation ≡ tenthGrams (row .saturation)
-    pub load-is : c .load ≡ tenthGrams (row .load)
     pub gain-is : c .gain ≡ gain season row

@@ -16,7 +16,7 @@ curveAt c mark = record {
   base = at (c .bases) mark;
   growth = at (c .growths) mark;
   saturation = c .saturation;
-  load = c .load;
+  load = at (c .loads) mark;
   first = at (c .firsts) mark;
   gain = c .gain;
 }
@@ -35,7 +35,7 @@ pub record CurvesReady (c : Curves) : Type 0 where
     base = at (c .bases) mark;
     growth = at (c .growths) mark;
     saturation = c .saturation;
-    load = c .load;
+    load = at (c .loads) mark;
     first = first;
     gain = c .gain;
   })

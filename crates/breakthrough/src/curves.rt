@@ -1,7 +1,9 @@
 // The canister that a row has, in a season: its curve at each mark, and what it has lost when a parking starts.
 use crate::curve::Curve;
 use crate::curve::loss;
-use bounds::exp::ONE;
+use crate::loads::loss_error;
+use crate::loads::start_loads;
+use crate::loads::tenth_grams;
 use classes::halves;
 use exact::Row;
 use exact::Season;
@@ -11,7 +13,7 @@ ghost use Rattle.bounds.specs.Exponential.{entries};
 ghost use Rattle.numbers.specs.Lists.{tab, at, AllAtMost};
 ghost use Rattle.sheet.specs.Limits.{vpLimit};
 ghost use Rattle.sheet.specs.Range.{halves};
-ghost use Rattle.factors.specs.Escape.{tenthGrams, base, loss, lossError};
+ghost use Rattle.factors.specs.Escape.{base, loss, drivenError};
 ghost use Rattle.breakthrough.specs.Through.{CurvesReady};
 ghost use Rattle.breakthrough.specs.Curves.{FitReady, CurvesOf};
 
@@ -19,14 +21,11 @@ ghost use Rattle.breakthrough.specs.Curves.{FitReady, CurvesOf};
 pub struct Curves {
     pub bases: [u64; 48],
     pub growths: [u64; 48],
+    pub loads: [u64; 48],
     pub firsts: [u64; 48],
     pub saturation: u64,
-    pub load: u64,
     pub gain: u64,
 }
-
-// How far a loss can be above the computed one, in units of 2^-40 g.
-const LOSS_ERROR: u64 = 179;
 
 // a at -30 °C and a vapour pressure of 0; what it gains with each unit of warmth; and what it loses with each tenth of a kPa.
 const BASE: u64 = 305000000000000;
@@ -39,14 +38,6 @@ const BASE_BY_PRESSURE: u64 = 150000000000;
 const GROWTH: u64 = 11200000000000;
 
 const GROWTH_BY_PRESSURE: u64 = 1500000000;
-
-// Tenths of a gram in units of 2^-40 g, cut.
-fn tenth_grams(m: u64) -> u64
-    requires { ⌜ m ≤ 3685 ⌝ }
-    ensures { λ r. ⌜ r ≡ tenthGrams m ⌝ }
-{
-    m * ONE / 10
-}
 
 // a at each mark.
 fn bases(warmths: &[u64; 48], vp: u64) -> [u64; 48]
@@ -77,22 +68,23 @@ fn growths(warmths: &[u64; 48], vp: u64, times: u64) -> [u64; 48]
 }
 
 // What is lost at each mark at the load at parking start, and as much more as it can be off.
-fn first_losses(tables: &[u64; 578], c: Curves) -> [u64; 48]
-    requires { ⌜ (now tables ≡ entries) × CurvesReady c ⌝ }
-    ensures { λ r. ⌜ r ≡ tab (λ (mark : ℕ). loss (at (c .bases) mark) (at (c .growths) mark) (c .saturation) (c .load) + lossError) 48 ⌝ }
+fn first_losses(tables: &[u64; 578], c: Curves, error: u64) -> [u64; 48]
+    requires { ⌜ (now tables ≡ entries) × CurvesReady c × (error ≤ drivenError) ⌝ }
+    ensures { λ r. ⌜ r ≡ tab (λ (mark : ℕ). loss (at (c .bases) mark) (at (c .growths) mark) (c .saturation) (at (c .loads) mark) + error) 48 ⌝ }
 {
     let mut out = [0u64; 48];
     let mut mark: usize = 0;
     while mark < 48 {
+        let load = c.loads[mark];
         let curve = Curve {
             base: c.bases[mark],
             growth: c.growths[mark],
             saturation: c.saturation,
-            load: c.load,
+            load,
             first: 0,
             gain: c.gain,
         };
-        out[mark] = loss(tables, curve, c.load) + LOSS_ERROR;
+        out[mark] = loss(tables, curve, load) + error;
         mark += 1;
     }
     out
@@ -112,24 +104,24 @@ pub fn fit(
     let bases = bases(warmths, season.vp);
     let canister = row.canister;
     let growths = growths(warmths, season.vp, halves(canister));
+    let loads = start_loads(tables, row, &bases, &growths);
     let saturation = tenth_grams(row.saturation);
-    let load = tenth_grams(row.load);
     let none = [0u64; 48];
     let unlost = Curves {
         bases,
         growths,
+        loads,
         firsts: none,
         saturation,
-        load,
         gain: vapour,
     };
-    let firsts = first_losses(tables, unlost);
+    let firsts = first_losses(tables, unlost, loss_error(row));
     Curves {
         bases,
         growths,
+        loads,
         firsts,
         saturation,
-        load,
         gain: vapour,
     }
 }

@@ -23,7 +23,7 @@ pub fn through_cells(tables: &[u64; 578], rises: &[u64; 576], c: Curves) -> [u64
             base: c.bases[mark],
             growth: c.growths[mark],
             saturation: c.saturation,
-            load: c.load,
+            load: c.loads[mark],
             first: c.firsts[mark],
             gain: c.gain,
         };
@@ -45,7 +45,7 @@ pub fn through_marks(tables: &[u64; 578], raises: &[u64; 48], c: Curves) -> [u64
             base: c.bases[mark],
             growth: c.growths[mark],
             saturation: c.saturation,
-            load: c.load,
+            load: c.loads[mark],
             first: c.firsts[mark],
             gain: c.gain,
         };

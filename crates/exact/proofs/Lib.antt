@@ -3,4 +3,5 @@ pub mod Marked
 pub mod Values
 pub mod Loss
 pub mod Smallest
+pub mod Loads
 pub mod Products

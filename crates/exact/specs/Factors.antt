@@ -2,7 +2,7 @@
 use mathlib.Core.Bool.{true, false}
 use mathlib.Core.List.{List, [], _∷_, map, _++_}
 use Prim.Native.Nat.{ℕ, suc, _+_, _*_, _%_, _/_}
-use lib.Dec.{leb}
+use lib.Dec.{leb, eqb}
 use Rattle.numbers.specs.Fraction.{Fraction, _+ᶠ_, _*ᶠ_, whole, _/10^_, _over_, _times_}
 use Rattle.exact.specs.declared.Canister.{Canister}
 use Rattle.exact.specs.declared.Canister.the-variants.{None, Small, Medium, Large}
@@ -12,6 +12,7 @@ use Rattle.exact.specs.Day.{temperature, startMark}
 use Rattle.exact.specs.Vapour.{vapour, parkingVapour}
 use Rattle.exact.specs.Permeation.{permeation, parkingPermeation}
 use Rattle.exact.specs.Canister as canister
+use Rattle.exact.specs.Mileage.{startingLoad}
 
 -- "Fk for factor k"
 pub data Factor : Type 0 where
@@ -26,9 +27,18 @@ module _ (n : ℕ) (season : Season) (row : Row) where
   unfoldable pub rowVapour : Fraction → Fraction → Fraction
   rowVapour T U = vapour n vp (row .fill /10^ 2) (row .tank /10^ 1) T U
 
+  -- the row's load at parking start: a mileage of "0 keeps the written load"; the starting load of any other "is found for each T of
+  -- a and b, so in running for T2"
+  unfoldable pub rowLoad : Fraction → Fraction
+  rowLoad T =
+      elim (eqb (row .mileage) 0) [
+        | true ↦ row .load /10^ 1
+        | false ↦ startingLoad n vp (canister.size (row .canister)) T (row .mileage) (row .saturation /10^ 1)
+      ]
+
   -- escape of vapour v, "T the temperature from which the escape starts", "m1 the row's load at parking start, in running too"
   unfoldable pub rowEscape : Fraction → Fraction → Fraction
-  rowEscape T v = canister.escape n vp (row .saturation /10^ 1) (row .load /10^ 1) T (row .canister) v
+  rowEscape T v = canister.escape n vp (row .saturation /10^ 1) (rowLoad T) T (row .canister) v
 
   -- what escapes of the vapour from T to T + rise, as in "escape from T1 to T1 + 4.5" and "escape from T2 to T2 + 1"
   unfoldable pub escapeOver : Fraction → Fraction → Fraction

@@ -1,8 +1,12 @@
 -- A row's canister in a season: a, b·s and the loads as they are held, what check 20 says of them, and the breakthrough that is computed from them.
 -- Assumes nothing.
+use mathlib.Core.Bool.{Bool, true, false}
+use mathlib.Core.Path.{_≡_, refl}
 use Prim.Native.Nat.{ℕ, _+_, _*_, _-_, _^_, _≤_, _<_}
 use native.Mathlib.Omega.{arith}
 use native.Mathlib.Decide.{decLe}
+use lib.Dec.{leb}
+use borrow.Author.Tests.{leb-true, leb-false}
 use native.Mathlib.Nat.{mul-le-mul-right, mul-le-mul-left, mul-le-mul}
 use Rattle.numbers.specs.Fraction.{Fraction, _≤ᶠ_, _≈ᶠ_, _+ᶠ_, negᶠ, _-ᶠ_, _*ᶠ_, whole, _/10^_, ten-pos}
 use Rattle.bounds.specs.Enclosure.{Within}
@@ -10,30 +14,29 @@ use Rattle.bounds.specs.Exponential.{exponent}
 use Rattle.bounds.specs.Power.{degrees}
 use Rattle.numbers.proofs.Order.{≈-refl, ≈-trans, +-cong, *-cong, ratio}
 use Rattle.bounds.proofs.Within.{decimal-cut}
+use Rattle.bounds.proofs.Line.{slopeTo0, slopeTo3, rising, along}
 use Rattle.exact.specs.declared.Canister.{Canister}
 use Rattle.exact.specs.declared.Canister.the-variants.{None, Small, Medium, Large}
 use Rattle.exact.specs.declared.Season.{Season}
 use Rattle.exact.specs.declared.Row.{Row}
-use Rattle.exact.specs.Canister.{a, b, breakthrough}
+use Rattle.exact.specs.Canister.{a, b, size, breakthrough}
+use Rattle.exact.specs.Factors.{rowLoad}
+use Rattle.exact.proofs.Loads.{load-written, load-driven}
+use Rattle.starting_loads.specs.Steps.{startError}
+use Rattle.starting_loads.specs.Net.{startUnits}
+use Rattle.starting_loads.proofs.Start.{halves-pos, mileage-within}
+use Rattle.starting_loads.proofs.Empty.{empty-within}
 use Rattle.sheet.specs.Limits.{vpLimit}
 use Rattle.sheet.specs.Range.{warmth, markWarmth, halves, SeasonInRange, RowInRange}
 use Rattle.sheet.proofs.Temperature.{warmth-below-highest, warmth-most}
-use Rattle.factors.specs.Escape.{tenthGrams, base, growth, breakUnits}
-use Rattle.factors.proofs.Breakthrough.{double-unit-pos, loaded, break-within}
-
--- "s = 2, 1, 0.5 for small, medium, large"
-unfoldable pub size : Canister → Fraction
-size None = whole 0
-size Small = whole 2
-size Medium = whole 1
-size Large = 5 /10^ 1
-
-pub halves-pos : 0 < 2
-halves-pos = omega arith
+use Rattle.factors.specs.Escape.{tenthGrams, base, growth, writtenError, drivenError, breakUnits}
+use Rattle.factors.specs.Units.{rowStart, lossError, baseAt, growthAt}
+use Rattle.factors.proofs.Breakthrough.{breakWidth, break-within}
+use Rattle.factors.proofs.Starts.{start-driven, start-written, error-driven, error-written}
 
 -- s in halves
 pub size-is : (c : Canister) → size c ≈ᶠ ratio (halves c) 2 halves-pos
-unfolding size halves whole _/10^_ ratio
+unfolding halves whole _/10^_ ratio
 size-is None = omega arith
 size-is Small = omega arith
 size-is Medium = omega arith
@@ -58,7 +61,7 @@ unfolding b ratio _/10^_ negᶠ _-ᶠ_ _+ᶠ_ _*ᶠ_
 slope-at vp θ v = omega arith
 
 -- (k/10¹⁴)·(h/2)
-halved : (k h : ℕ) → ratio k (10 ^ 14) (ten-pos 14) *ᶠ ratio h 2 halves-pos ≈ᶠ ratio (k * h) (2 * 10 ^ 14) double-unit-pos
+halved : (k h : ℕ) → ratio k (10 ^ 14) (ten-pos 14) *ᶠ ratio h 2 halves-pos ≈ᶠ rising (k * h)
 unfolding ratio _*ᶠ_
 halved k h = omega arith
 
@@ -70,7 +73,7 @@ module _ (vp θ : ℕ) (v : vp ≤ vpLimit) {T : Fraction} (t : T ≈ᶠ degrees
 
   -- b·s = (0.115 − 0.00015·vp + 0.0001·T)·s as it is held
   pub growth-is : (c : Canister) {z : Fraction} → z ≈ᶠ ratio (halves c) 2 halves-pos
-      → b (vp /10^ 1) T *ᶠ z ≈ᶠ ratio (growth c vp θ) (2 * 10 ^ 14) double-unit-pos
+      → b (vp /10^ 1) T *ᶠ z ≈ᶠ rising (growth c vp θ)
   unfolding b growth
   growth-is c e =
       ≈-trans (*-cong (≈-trans (+-cong (≈-refl _) (*-cong (≈-refl _) t)) (slope-at vp θ v)) e) (halved _ (halves c))
@@ -87,17 +90,17 @@ pub tenthGrams-within : (m : ℕ) → Within (2 ^ 40) (tenthGrams m) 1 (m /10^ 1
 unfolding tenthGrams
 tenthGrams-within m = decimal-cut (2 ^ 40) m 1
 
--- a + b·s·m ≤ 3 as a comparison of whole numbers
-loaded-≤ : (A K m : ℕ) → 20 * A + K * m ≤ 380 * 10 ^ 14 → loaded A K (m /10^ 1) ≤ᶠ 3 /10^ 0
-unfolding loaded ratio _/10^_ _+ᶠ_ _*ᶠ_
-loaded-≤ A K m h = omega arith
+-- a + b·s·m ≤ limit as a comparison of whole numbers
+along-≤ : (limit A K m : ℕ) → 20 * A + K * m ≤ (320 + 20 * limit) * 10 ^ 14 → along A K (m /10^ 1) ≤ᶠ whole limit
+unfolding along ratio whole _/10^_ _+ᶠ_ _*ᶠ_
+along-≤ limit A K m h = omega arith
 
--- check 20 at the highest temperature, carried to a lower one
-lower-exponent : (c : Canister) (vp θ h m : ℕ) → vp ≤ vpLimit → θ ≤ h * 10 ^ 9
-    → (112000 + 10 * h - 15 * vp) * halves c * m + 130000 * h ≤ 319000000 + 30000 * vp
-    → 20 * base vp θ + growth c vp θ * m ≤ 380 * 10 ^ 14
+-- checks 20 and 25 at the highest temperature, carried to a lower one
+lower-exponent : (limit : ℕ) (c : Canister) (vp θ h m : ℕ) → vp ≤ vpLimit → θ ≤ h * 10 ^ 9
+    → (112000 + 10 * h - 15 * vp) * halves c * m + 130000 * h ≤ 259000000 + 20000000 * limit + 30000 * vp
+    → 20 * base vp θ + growth c vp θ * m ≤ (320 + 20 * limit) * 10 ^ 14
 unfolding base growth
-lower-exponent c vp θ h m v t e =
+lower-exponent limit c vp θ h m v t e =
     let g : 112 * 10 ^ 11 + θ - 15 * 10 ^ 8 * vp ≤ 10 ^ 8 * (112000 + 10 * h - 15 * vp) = omega arith in
     omega (arith, mul-le-mul-right (halves c * m) g)
 
@@ -111,27 +114,92 @@ saturation-≤ k vp h m v p e =
           absurd (omega (arith, mul-le-mul-left (112000 + 10 * h - 15 * vp) g))
     ]
 
+-- how far what breaks through can be above the computed one, by whether the load is found from the mileage, for a vapour within w
+abbrev pub throughWidth : Bool → ℕ → ℕ
+throughWidth true w = breakWidth slopeTo0 drivenError startError w
+throughWidth false w = breakWidth slopeTo3 writtenError 1 w
+
 module _ {season : Season} {row : Row} (s : SeasonInRange season) (r : RowInRange season row) where
-  -- check 20: a + b·s·m_sat ≤ 3 at every mark
-  pub saturated : (i : ℕ)
-      → loaded (base (season .vp) (markWarmth season i)) (growth (row .canister) (season .vp) (markWarmth season i)) (row .saturation /10^ 1) ≤ᶠ 3 /10^ 0
+  -- a + b·s·m_sat at every mark is at most what it is at the season's highest temperature,
+  carried : (limit i : ℕ)
+      → (112000 + 10 * warmth (season .highest) - 15 * season .vp) * halves (row .canister) * row .saturation + 130000 * warmth (season .highest)
+      ≤ 259000000 + 20000000 * limit + 30000 * season .vp
+      → along (baseAt season row i) (growthAt season row i) (row .saturation /10^ 1) ≤ᶠ whole limit
   unfolding markWarmth
-  saturated i =
-      loaded-≤ _ _ (row .saturation)
-      (lower-exponent (row .canister) (season .vp) (markWarmth season i) (warmth (season .highest)) (row .saturation) (s .vp-most)
-      (warmth-below-highest i s) (r .exponent-most))
+  carried limit i h =
+      along-≤ limit _ _ (row .saturation)
+      (lower-exponent limit (row .canister) (season .vp) (markWarmth season i) (warmth (season .highest)) (row .saturation) (s .vp-most)
+      (warmth-below-highest i s) h)
+
+  -- by check 20 at most 3,
+  pub saturated : (i : ℕ) → along (baseAt season row i) (growthAt season row i) (row .saturation /10^ 1) ≤ᶠ whole 3
+  saturated i = carried 3 i (omega (arith, r .exponent-most))
+
+  -- and with a mileage, by check 25, at most 0
+  pub unsaturated : (i : ℕ) → 1 ≤ row .mileage → along (baseAt season row i) (growthAt season row i) (row .saturation /10^ 1) ≤ᶠ whole 0
+  unsaturated i km = carried 0 i (omega (arith, r .driven km .exponent-low))
 
   -- m_sat ≤ 368.5 g
   pub saturation-most : 0 < halves (row .canister) → row .saturation ≤ 3685
   saturation-most p = saturation-≤ (halves (row .canister)) (season .vp) _ (row .saturation) (s .vp-most) p (r .exponent-most)
 
-  -- what breaks through of a vapour that is known within w, from mark i and a starting load that is known within 1
-  pub through-within : (n i : ℕ) {q v w : ℕ} {z T m1 x : Fraction} → 40 ≤ n → z ≈ᶠ ratio (halves (row .canister)) 2 halves-pos
-      → T ≈ᶠ degrees (markWarmth season i) → Within (2 ^ 40) q 1 m1 → Within (2 ^ 40) v w x
-      → Within (2 ^ 40)
-      (breakUnits (base (season .vp) (markWarmth season i)) (growth (row .canister) (season .vp) (markWarmth season i)) (tenthGrams (row .saturation)) q v)
-      (6 * w + 358) (breakthrough n (season .vp /10^ 1) z (row .saturation /10^ 1) T m1 x)
-  through-within n i {z = z} n40 e t m a =
-      break-within n _ _ (season .vp /10^ 1) z (row .saturation /10^ 1) _ n40 (base-is (season .vp) (markWarmth season i) (s .vp-most) t)
-      (growth-is (season .vp) (markWarmth season i) (s .vp-most) t (row .canister) e)
-      (growth-most (row .canister) (season .vp) (markWarmth season i) (warmth-most i s)) (saturated i) (tenthGrams-within (row .saturation)) m a
+  -- a ≤ −7.75
+  base-most : (i : ℕ) → baseAt season row i ≤ 825 * 10 ^ 12
+  unfolding base
+  base-most i = omega (arith, warmth-most i s)
+
+  -- What is known at mark i, at its temperature T.
+  module _ (n i : ℕ) {T : Fraction} (n40 : 40 ≤ n) (here : T ≈ᶠ degrees (markWarmth season i)) where
+    a-is : a (season .vp /10^ 1) T ≈ᶠ exponent (baseAt season row i)
+    a-is = base-is (season .vp) (markWarmth season i) (s .vp-most) here
+
+    b-is : {z : Fraction} → z ≈ᶠ ratio (halves (row .canister)) 2 halves-pos → b (season .vp /10^ 1) T *ᶠ z ≈ᶠ rising (growthAt season row i)
+    b-is e = growth-is (season .vp) (markWarmth season i) (s .vp-most) here (row .canister) e
+
+    gentle : growthAt season row i ≤ 22 * 2 ^ 41
+    gentle = growth-most (row .canister) (season .vp) (markWarmth season i) (warmth-most i s)
+
+    -- from 17 km on the steps find the load
+    driven-load : 17 ≤ row .mileage
+        → Within (2 ^ 40)
+        (startUnits (baseAt season row i) (growthAt season row i) (halves (row .canister)) (tenthGrams (row .saturation)) (row .mileage)) startError
+        (rowLoad n season row T)
+    driven-load km =
+        rw (load-driven n season row T (λ e. omega arith))
+        (mileage-within _ _ (halves (row .canister)) _ (row .mileage) (season .vp /10^ 1) (size (row .canister)) (row .saturation /10^ 1) T
+        a-is (b-is (size-is (row .canister))) (size-is (row .canister)) (r .driven (omega arith) .canister-there) gentle
+        (unsaturated i (omega arith)) (tenthGrams-within (row .saturation)) km (r .mileage-most) .at n n40)
+
+    -- up to 16 km it is 0, and so is the written one; without mileage it is the written one
+    written-load : row .mileage < 17 → Within (2 ^ 40) (tenthGrams (row .load)) 1 (rowLoad n season row T)
+    unfolding tenthGrams
+    written-load few =
+        elim (decLe 1 (row .mileage)) [
+          | yes km ↦
+              rw (load-driven n season row T (λ e. omega arith), r .driven km .no-load)
+              (empty-within n _ (halves (row .canister)) (row .mileage) (season .vp /10^ 1) (size (row .canister)) (row .saturation /10^ 1) T n40
+              a-is (base-most i) (size-is (row .canister)) (halves-most (row .canister)) (omega arith))
+          | no none ↦ rw (load-written n season row T (omega arith)) (tenthGrams-within (row .load))
+        ]
+
+    -- what breaks through of a vapour that is known within w, through a canister of size z
+    module _ {z : Fraction} (sized : z ≈ᶠ ratio (halves (row .canister)) 2 halves-pos) {v w : ℕ} {x : Fraction} (vapour : Within (2 ^ 40) v w x) where
+      through-by : (byMileage : Bool) → leb 17 (row .mileage) ≡ byMileage
+          → Within (2 ^ 40)
+          (breakUnits (baseAt season row i) (growthAt season row i) (tenthGrams (row .saturation)) (lossError row) (rowStart row (baseAt season row i) (growthAt season row i)) v)
+          (throughWidth byMileage w) (breakthrough n (season .vp /10^ 1) z (row .saturation /10^ 1) T (rowLoad n season row T) x)
+      through-by true e =
+          let km : 17 ≤ row .mileage = leb-true 17 (row .mileage) e in
+          rw (error-driven row km, start-driven row (baseAt season row i) (growthAt season row i) km)
+          (break-within slopeTo0 n _ _ (season .vp /10^ 1) z (row .saturation /10^ 1) T n40 a-is (b-is sized) gentle (unsaturated i (omega arith))
+          (tenthGrams-within (row .saturation)) drivenError (omega arith) (omega arith) (driven-load km) vapour)
+      through-by false e =
+          let few : row .mileage < 17 = leb-false 17 (row .mileage) e in
+          rw (error-written row few, start-written row (baseAt season row i) (growthAt season row i) few)
+          (break-within slopeTo3 n _ _ (season .vp /10^ 1) z (row .saturation /10^ 1) T n40 a-is (b-is sized) gentle (saturated i)
+          (tenthGrams-within (row .saturation)) writtenError (omega arith) (omega arith) (written-load few) vapour)
+
+      pub through-within : Within (2 ^ 40)
+          (breakUnits (baseAt season row i) (growthAt season row i) (tenthGrams (row .saturation)) (lossError row) (rowStart row (baseAt season row i) (growthAt season row i)) v)
+          (throughWidth (leb 17 (row .mileage)) w) (breakthrough n (season .vp /10^ 1) z (row .saturation /10^ 1) T (rowLoad n season row T) x)
+      through-within = through-by (leb 17 (row .mileage)) refl

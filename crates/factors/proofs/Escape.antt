@@ -1,10 +1,12 @@
 -- The mean escape over the cells, with and without canister, of a rise of E(0.0716·T) that is known at each cell.
 -- Assumes nothing.
+use mathlib.Core.Bool.{Bool}
 use mathlib.Core.Path.{_≡_}
 use mathlib.Core.List.{List}
 use Prim.Native.Nat.{ℕ, _+_, _*_, _^_, _/_, _≤_, _<_}
 use native.Mathlib.Omega.{arith}
 use native.Mathlib.Nat.{mul-comm}
+use lib.Dec.{leb}
 use Rattle.numbers.specs.Fraction.{Fraction, _≈ᶠ_, _*ᶠ_, _/10^_}
 use Rattle.bounds.specs.Enclosure.{Within, WithinAll}
 use Rattle.bounds.specs.Power.{degrees}
@@ -15,7 +17,7 @@ use Rattle.exact.specs.declared.Canister.the-variants.{None, Small, Medium, Lar
 use Rattle.exact.specs.declared.Season.{Season}
 use Rattle.exact.specs.declared.Row.{Row}
 use Rattle.exact.specs.Canister.{breakthrough, escape}
-use Rattle.exact.specs.Factors.{total, mean}
+use Rattle.exact.specs.Factors.{rowLoad, total, mean}
 use Rattle.sheet.specs.Range.{SeasonInRange}
 use Rattle.sheet.specs.Range.{markWarmth}
 use Rattle.sheet.specs.Range.{RowInRange}
@@ -23,7 +25,8 @@ use Rattle.factors.specs.Means.{meanUnits}
 use Rattle.sheet.specs.Range.{halves}
 use Rattle.factors.specs.Units.{gain, vapourUnits, throughUnits, escapeUnits}
 use Rattle.factors.proofs.Gain.{exactGain, gain-within, gain-most}
-use Rattle.factors.proofs.Canister.{size, size-is, halves-pos, tenthGrams-within, through-within}
+use Rattle.starting_loads.proofs.Start.{halves-pos}
+use Rattle.factors.proofs.Canister.{size-is, throughWidth, through-within}
 use Rattle.factors.proofs.Mean.{mean-cong, mean-*, mean-within, meanUnits-most}
 
 module _ {season : Season} {row : Row} (s : SeasonInRange season) (r : RowInRange season row) where
@@ -54,27 +57,27 @@ module _ {season : Season} {row : Row} (s : SeasonInRange season) (r : RowInRang
       -- with a canister of size z: the mean of what breaks through
       through-mean : {z : Fraction} → z ≈ᶠ ratio (halves (row .canister)) 2 halves-pos
           → WithinAll (2 ^ 28) (meanUnits counts (λ (cell : ℕ). throughUnits season row (mark cell) (rise cell)))
-          ((6 * ((R * 2 ^ 40 * 313 + 36 * 2 ^ 40 * w + w * 313) / 2 ^ 40 + 2) + 358) / 2 ^ 12 + 3)
-          (λ n. mean (λ (cell : ℕ). breakthrough n (season .vp /10^ 1) z (row .saturation /10^ 1) (T cell) (row .load /10^ 1) (y n cell)) counts)
+          (throughWidth (leb 17 (row .mileage)) ((R * 2 ^ 40 * 313 + 36 * 2 ^ 40 * w + w * 313) / 2 ^ 40 + 2) / 2 ^ 12 + 3)
+          (λ n. mean (λ (cell : ℕ). breakthrough n (season .vp /10^ 1) z (row .saturation /10^ 1) (T cell) (rowLoad n season row (T cell)) (y n cell)) counts)
       unfolding throughUnits
       through-mean {z} e =
           mean-within counts p _
-          (λ n cell. breakthrough n (season .vp /10^ 1) z (row .saturation /10^ 1) (T cell) (row .load /10^ 1) (y n cell))
+          (λ n cell. breakthrough n (season .vp /10^ 1) z (row .saturation /10^ 1) (T cell) (rowLoad n season row (T cell)) (y n cell))
           (λ cell.
           record {
             at = λ n n40.
-                through-within s r n (mark cell) n40 e (here cell) (tenthGrams-within (row .load))
+                through-within s r n (mark cell) n40 (here cell) e
                 (within-≈ (≈-sym (driven n cell)) (vapour-within n (R * 2 ^ 40) n40 (small cell) (known cell .at n n40)));
           })
 
       -- the mean escape of the row's canister
       pub escape-within : (c : Canister) → row .canister ≡ c → (W : ℕ)
           → (R * 2 ^ 28 * 313 + 36 * 2 ^ 40 * (w / 2 ^ 12 + 3) + (w / 2 ^ 12 + 3) * 313) / 2 ^ 40 + 2 ≤ W
-          → (6 * ((R * 2 ^ 40 * 313 + 36 * 2 ^ 40 * w + w * 313) / 2 ^ 40 + 2) + 358) / 2 ^ 12 + 3 ≤ W
+          → ((byMileage : Bool) → throughWidth byMileage ((R * 2 ^ 40 * 313 + 36 * 2 ^ 40 * w + w * 313) / 2 ^ 40 + 2) / 2 ^ 12 + 3 ≤ W)
           → WithinAll (2 ^ 28) (escapeUnits season row counts c mark rise) W
-          (λ n. mean (λ (cell : ℕ). escape n (season .vp /10^ 1) (row .saturation /10^ 1) (row .load /10^ 1) (T cell) c (y n cell)) counts)
-      unfolding escapeUnits escape size
+          (λ n. mean (λ (cell : ℕ). escape n (season .vp /10^ 1) (row .saturation /10^ 1) (rowLoad n season row (T cell)) (T cell) c (y n cell)) counts)
+      unfolding escapeUnits escape
       escape-within None e W o t = all-map (λ n a. widen a o) open-within
-      escape-within Small e W o t = all-map (λ n a. widen a t) (through-mean (rw e (size-is Small)))
-      escape-within Medium e W o t = all-map (λ n a. widen a t) (through-mean (rw e (size-is Medium)))
-      escape-within Large e W o t = all-map (λ n a. widen a t) (through-mean (rw e (size-is Large)))
+      escape-within Small e W o t = all-map (λ n a. widen a (t (leb 17 (row .mileage)))) (through-mean (rw e (size-is Small)))
+      escape-within Medium e W o t = all-map (λ n a. widen a (t (leb 17 (row .mileage)))) (through-mean (rw e (size-is Medium)))
+      escape-within Large e W o t = all-map (λ n a. widen a (t (leb 17 (row .mileage)))) (through-mean (rw e (size-is Large)))

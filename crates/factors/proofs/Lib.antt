@@ -1,5 +1,6 @@
 pub mod Gain
 pub mod Breakthrough
+pub mod Starts
 pub mod Canister
 pub mod Mean
 pub mod Escape

@@ -1,5 +1,6 @@
 -- The means that the factors are made of: escape over a parking, escape over a raise of the temperature, and permeation.
 -- Assumes nothing.
+use mathlib.Core.Bool.{Bool, true, false}
 use mathlib.Core.Path.{refl}
 use mathlib.Core.List.{List}
 use Prim.Native.Nat.{ℕ, _+_, _*_, _^_, _/_, _≤_, _<_}
@@ -32,6 +33,7 @@ use Rattle.factors.specs.Means.{meanUnits}
 use Rattle.factors.specs.Units.{startOf, endOf, parkingRise, parkingRates, escapeUnits, escapeOverUnits, openUnits}
 use Rattle.factors.proofs.Gain.{exactGain}
 use Rattle.factors.proofs.Mean.{mean-*, mean-zero, mean-within}
+use Rattle.factors.proofs.Canister.{throughWidth}
 use Rattle.factors.proofs.Escape.{open-within, escape-within}
 
 -- a parking lasts 24 half-hours at most
@@ -50,6 +52,15 @@ hour-pos = omega arith
 hours-is : (n : ℕ) (season : Season) (row : Row) → hours n season row ≈ᶠ ratio (row .minutes) 60 hour-pos
 unfolding hours whole _over_ ratio
 hours-is n season row = omega arith
+
+-- the width of the mean of what breaks through, in a parking and over a raise
+parking-fits : (byMileage : Bool) → throughWidth byMileage ((450 * 2 ^ 40 * 313 + 36 * 2 ^ 40 * (24 * (2 * heatError)) + 24 * (2 * heatError) * 313) / 2 ^ 40 + 2) / 2 ^ 12 + 3 ≤ 946
+parking-fits true = omega arith
+parking-fits false = omega arith
+
+raise-fits : (byMileage : Bool) → throughWidth byMileage ((56 * 2 ^ 40 * 313 + 36 * 2 ^ 40 * (2 * raisedError) + 2 * raisedError * 313) / 2 ^ 40 + 2) / 2 ^ 12 + 3 ≤ 114
+raise-fits true = omega arith
+raise-fits false = omega arith
 
 module _ {season : Season} {row : Row} (s : SeasonInRange season) (r : RowInRange season row) (counts : List ℕ) (p : 0 < total counts) where
   -- "escape of the parking's vapour"
@@ -74,7 +85,7 @@ module _ {season : Season} {row : Row} (s : SeasonInRange season) (r : RowInRang
       (λ n cell.
       ≈-trans (vapour-rises n (season .vp /10^ 1) (row .fill /10^ 2) (row .tank /10^ 1) (temperature season) (endHour cell) (duration cell))
       (*-cong (≈-refl _) (rises-cong n (endHour cell) (duration cell) (λ i. temperature-is i s))))
-      (row .canister) refl 946 (omega arith) (omega arith)
+      (row .canister) refl 946 (omega arith) parking-fits
 
   -- a raise of the temperature by k tenths, at most 6 °C, from a mark that each cell names
   module _ (mark : ℕ → ℕ) (amount : Fraction) (k : ℕ) (k-most : k ≤ 60)
@@ -107,7 +118,7 @@ module _ {season : Season} {row : Row} (s : SeasonInRange season) (r : RowInRang
       over-within =
           escape-within s r counts p 56 mark (λ (cell : ℕ). raise (tenths k) (markWarmth season (mark cell))) (λ (cell : ℕ). temperature season (mark cell))
           exactRise (λ n cell. rowVapour n season row (temperature season (mark cell)) (temperature season (mark cell) +ᶠ amount))
-          (λ cell. temperature-is (mark cell) s) raise-small raise-known raise-driven (row .canister) refl 114 (omega arith) (omega arith)
+          (λ cell. temperature-is (mark cell) s) raise-small raise-known raise-driven (row .canister) refl 114 (omega arith) raise-fits
 
   -- "without canister the vapour from T2 to T2 + 1 or T2 + 5", from the end of the parking
   pub opened-within : (amount : Fraction) (k : ℕ) → k ≤ 60 → ((i : ℕ) → temperature season i +ᶠ amount ≈ᶠ degrees (markWarmth season i + tenths k))

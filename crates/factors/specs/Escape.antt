@@ -21,10 +21,13 @@ growth c vp θ = (112 * 10 ^ 11 + θ - 15 * 10 ^ 8 * vp) * halves c
 unfoldable pub loss : ℕ → ℕ → ℕ → ℕ → ℕ
 loss A K saturation m = exponential (A + K * min m saturation / 2 ^ 41) + (m - (saturation + 1))
 
--- how far B(m1) can be above `loss`
-abbrev pub lossError : ℕ
-lossError = 179
+-- how far B(m1) can be above `loss`: for a written load, and for one that is found from the mileage
+abbrev pub writtenError : ℕ
+writtenError = 179
 
--- B(m1 + v) − B(m1), from below
-unfoldable pub breakUnits : ℕ → ℕ → ℕ → ℕ → ℕ → ℕ
-breakUnits A K saturation m1 v = loss A K saturation (m1 + v) - (loss A K saturation m1 + lossError)
+abbrev pub drivenError : ℕ
+drivenError = 161733
+
+-- B(m1 + v) − B(m1), from below, where B(m1) can be that far above
+unfoldable pub breakUnits : ℕ → ℕ → ℕ → ℕ → ℕ → ℕ → ℕ
+breakUnits A K saturation error m1 v = loss A K saturation (m1 + v) - (loss A K saturation m1 + error)

@@ -10,9 +10,10 @@ use Rattle.exact.specs.declared.Season.{Season}
 use Rattle.exact.specs.declared.Row.{Row}
 use Rattle.exact.specs.Day.{startMark}
 use Rattle.exact.specs.Factors.{Factor, F1, F2, F3, F4, F5, F6, F7, endHour, duration}
-use Rattle.sheet.specs.Range.{markWarmth}
+use Rattle.starting_loads.specs.Net.{startUnits}
+use Rattle.sheet.specs.Range.{markWarmth, halves}
 use Rattle.marks.specs.Marks.{stepAt, raise, tenths, rate, passed}
-use Rattle.factors.specs.Escape.{tenthGrams, base, growth, breakUnits}
+use Rattle.factors.specs.Escape.{tenthGrams, base, growth, drivenError, writtenError, breakUnits}
 use Rattle.factors.specs.Means.{meanUnits}
 
 -- the mark at which a cell's parking starts, and at which it ends
@@ -34,16 +35,34 @@ parkingRates season cell = passed (λ (i : ℕ). rate (season .vp) (markWarmth s
 unfoldable pub gain : Season → Row → ℕ
 gain season row = (100 - row .fill) * row .tank * exponential (205 * season .vp * 10 ^ 9 + 16 * 10 ^ 14) / 40000
 
+-- the load at parking start where a = A and 2·b·s = K: from 17 km on it is found by steps; up to 16 km it is 0, as is the one that is written
+unfoldable pub rowStart : Row → ℕ → ℕ → ℕ
+rowStart row A K =
+    elim (leb 17 (row .mileage)) [
+      | true ↦ startUnits A K (halves (row .canister)) (tenthGrams (row .saturation)) (row .mileage)
+      | false ↦ tenthGrams (row .load)
+    ]
+
+-- and how far what is lost there can be above `loss`
+unfoldable pub lossError : Row → ℕ
+lossError row = elim (leb 17 (row .mileage)) [ true ↦ drivenError | false ↦ writtenError ]
+
 module _ (season : Season) (row : Row) where
   -- vapour of a rise of E(0.0716·T)
   unfoldable pub vapourUnits : ℕ → ℕ
   vapourUnits rise = gain season row * rise / 2 ^ 40
 
+  -- a and 2·b·s at mark i
+  abbrev pub baseAt : ℕ → ℕ
+  baseAt i = base (season .vp) (markWarmth season i)
+
+  abbrev pub growthAt : ℕ → ℕ
+  growthAt i = growth (row .canister) (season .vp) (markWarmth season i)
+
   -- what breaks through of the vapour of such a rise, from mark i
   unfoldable pub throughUnits : ℕ → ℕ → ℕ
   throughUnits i rise =
-      breakUnits (base (season .vp) (markWarmth season i)) (growth (row .canister) (season .vp) (markWarmth season i))
-      (tenthGrams (row .saturation)) (tenthGrams (row .load)) (vapourUnits rise)
+      breakUnits (baseAt i) (growthAt i) (tenthGrams (row .saturation)) (lossError row) (rowStart row (baseAt i) (growthAt i)) (vapourUnits rise)
 
   module _ (counts : List ℕ) where
     -- the mean escape of a rise that each cell has, from the mark that each cell names: without canister the rise is

@@ -11,7 +11,7 @@ ghost use mathlib.Core.Path.{_≡_};
 ghost use Prim.Native.Nat.{_+_, _*_, _^_, _<_, _≤_};
 ghost use lib.ListN.{length};
 ghost use Rattle.sheet.specs.Integers.{u8At, u16At, u32At};
-ghost use Rattle.sheet.specs.Versions.{versionOf, hasGrid, seasonsStart};
+ghost use Rattle.sheet.specs.Versions.{versionOf, hasGrid, hasMileage, seasonsStart};
 ghost use Rattle.sheet.specs.Bytes.{seasonsOf, rowsOf, countsAt, durationCounts, hourCounts, gridCounts};
 ghost use Rattle.sheet.specs.Bytes.{seasonPlace, rowPlace, seasonFrom, seasonAt, equipmentAt, canisterOf, tankOf, rowFrom, rowAt};
 ghost use Rattle.sheet.specs.Range.{warmth};
@@ -32,6 +32,8 @@ pub const CELLS: usize = 576;
 pub const GRID_START: usize = 8;
 
 const GRID_VERSION: u64 = 2;
+
+const MILEAGE_VERSION: u64 = 3;
 
 // Where the parking ends and the seasons start: after two lists, and after a grid.
 const AFTER_LISTS: usize = 104;
@@ -89,6 +91,14 @@ pub fn has_grid(s: &[u8]) -> bool
     ensures { λ r. ⌜ r ≡ hasGrid (now (s .entry)) ⌝ }
 {
     GRID_VERSION <= version_of(s)
+}
+
+// Whether the rows have a mileage.
+pub fn has_mileage(s: &[u8]) -> bool
+    requires { ⌜ 8 ≤ length (now s) ⌝ }
+    ensures { λ r. ⌜ r ≡ hasMileage (now (s .entry)) ⌝ }
+{
+    MILEAGE_VERSION <= version_of(s)
 }
 
 // Where the seasons start.

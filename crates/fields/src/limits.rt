@@ -1,7 +1,7 @@
 // The limits of a sheet, each named once for the code; sheet/specs/Limits.antt names them for the definitions.
 
 // The versions that are read, from 1 on.
-pub const VERSION_LIMIT: u64 = 2;
+pub const VERSION_LIMIT: u64 = 3;
 
 pub const SEASONS_LIMIT: u64 = 12;
 
@@ -37,3 +37,6 @@ pub const VEHICLES_LIMIT: u64 = 10000000;
 pub const TRIPS_LIMIT: u64 = 2000;
 
 pub const MINUTES_LIMIT: u64 = 1440;
+
+// Kilometres.
+pub const MILEAGE_LIMIT: u64 = 1000000;

@@ -6,7 +6,7 @@ use Prim.Native.Nat.{ℕ, zero, suc, _+_, _*_, _≤_, _<_, zero-le}
 use native.Mathlib.Numerals.{add-one}
 use native.Mathlib.Omega.{arith}
 use native.Mathlib.Nat.{le-antisymm, suc-mul, eq-or-lt-of-le}
-use lib.ListN.{length, getD, set, take, length-append, length-set, List·getD-append}
+use lib.ListN.{replicate, length-replicate, getD-replicate, length, getD, set, take, length-append, length-set, List·getD-append}
 use lib.Seq.{take-suc-set, take-all, getD-at, ext-getD}
 use Rattle.numbers.specs.Lists.{tab, sum, at, AllAtMost}
 
@@ -99,6 +99,11 @@ snoc-all P z [] v h p zero = p
 snoc-all P z [] v h p (suc k) = z
 snoc-all P z (x ∷ xs) v h p zero = h 0
 snoc-all P z (x ∷ xs) v h p (suc k) = snoc-all P z xs v (λ j. h (suc j)) p k
+
+-- one value throughout
+pub tab-constant : {f : ℕ → ℕ} (n v : ℕ) → ((k : ℕ) → k < n → f k ≡ v) → replicate n v ≡ tab f n
+tab-constant n v h =
+    sym (tab-at (replicate n v) (length-replicate n v)) ∙ tab-ext n (λ k l. getD-replicate n k v 0 l ∙ sym (h k l))
 
 -- what holds of 0 and of each value holds at every index
 pub tab-all : (P : ℕ → Type 0) → P 0 → (f : ℕ → ℕ) (n : ℕ) → ((k : ℕ) → k < n → P (f k)) → (k : ℕ) → P (getD (tab f n) k 0)

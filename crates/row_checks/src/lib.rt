@@ -1,10 +1,12 @@
-// Each row: numbers 13 to 21.
+// Each row: numbers 13 to 21, and 25.
 use classes::halves;
 use exact::Canister;
 use exact::Equipment;
 use exact::Row;
 use exact::Season;
 use fields::equipment_at;
+use fields::has_mileage;
+use fields::limits::MILEAGE_LIMIT;
 use fields::limits::MINUTES_LIMIT;
 use fields::limits::PERCENT_LIMIT;
 use fields::limits::TANK_LIMIT;
@@ -21,16 +23,18 @@ use fields::u8_at;
 use fields::u16_at;
 use fields::warmth;
 use sheet::Check;
-ghost use mathlib.Core.Bool.{not, _||_};
+ghost use mathlib.Core.Bool.{not, _||_, _&&_};
 ghost use mathlib.Core.Path.{_≡_};
-ghost use Prim.Native.Nat.{_+_, _<_, _≤_};
+ghost use Prim.Native.Nat.{ℕ, _+_, _<_, _≤_};
 ghost use lib.Dec.{ltb, eqb};
 ghost use lib.ListN.{length};
 ghost use Rattle.sheet.specs.Limits.{vehiclesLimit, tankLimit, tripsLimit, minutesLimit};
 ghost use Rattle.sheet.specs.Integers.{u8At, u16At};
+ghost use Rattle.sheet.specs.Versions.{hasMileage};
 ghost use Rattle.sheet.specs.Bytes.{seasonsOf, rowsOf, rowPlace, equipmentAt};
 ghost use Rattle.sheet.specs.Check.{refuse, _then_, each};
-ghost use Rattle.sheet.specs.Sheet.{isAbsent, codeWrong, percentWrong, loadWrong, saturationWrong, someSeason, rowCheck};
+ghost use Rattle.sheet.specs.Sheet.{isAbsent, codeWrong, percentWrong, loadWrong};
+ghost use Rattle.sheet.specs.Sheet.{saturationAbove, someSeason, noCanister, mileageWrong, rowCheck};
 ghost use Rattle.sheet.specs.Range.{SeasonInRange};
 ghost use Rattle.row_checks.specs.Passed.{SeasonsPassed};
 
@@ -75,31 +79,55 @@ fn load_wrong(canister: Canister, load: u64, saturation: u64) -> bool
     }
 }
 
-// Number 20 in one season: at its highest temperature, a + b·s·m above 3, for m tenths of a gram.
+// In one season: at its highest temperature, a + b·s·m above the limit, for m tenths of a gram.
 // At h tenths above −30 °C, 20000000·a is 130000·h − 2000·(129500 + 15·vp), and 1000000·b is 112000 + 10·h − 15·vp.
-// Without a canister s is 0, and a alone is below 3.
-fn saturation_wrong(canister: Canister, m: u64, season: Season) -> bool
-    requires { ⌜ SeasonInRange season × (m < 65536) ⌝ }
-    ensures { λ r. ⌜ r ≡ saturationWrong canister m season ⌝ }
+// Without a canister s is 0, and a alone is below 0.
+fn saturation_above(limit: u64, canister: Canister, m: u64, season: Season) -> bool
+    requires { ⌜ SeasonInRange season × (limit ≤ 3) × (m < 65536) ⌝ }
+    ensures { λ r. ⌜ r ≡ saturationAbove limit canister m season ⌝ }
 {
     let highest = warmth(season.highest);
     let b = 112000 + 10 * highest - 15 * season.vp;
-    60000000 + 2000 * (129500 + 15 * season.vp) < b * halves(canister) * m + 130000 * highest
+    let most = limit * 20000000 + 2000 * (129500 + 15 * season.vp);
+    most < b * halves(canister) * m + 130000 * highest
 }
 
-// Number 20: in some season.
-fn saturated(s: &[u8], canister: Canister, saturation: u64) -> bool
-    requires { ⌜ SeasonsPassed (now s) × (saturation < 65536) ⌝ }
-    ensures { λ r. ⌜ r ≡ someSeason (saturationWrong canister saturation) (now (s .entry)) (seasonsOf (now (s .entry))) ⌝ }
+// In some season.
+fn saturated(s: &[u8], limit: u64, canister: Canister, saturation: u64) -> bool
+    requires { ⌜ SeasonsPassed (now s) × (limit ≤ 3) × (saturation < 65536) ⌝ }
+    ensures { λ r. ⌜ r ≡ someSeason (saturationAbove limit canister saturation) (now (s .entry)) (seasonsOf (now (s .entry))) ⌝ }
 {
     let n = seasons_of(s);
     let mut wrong = false;
     let mut i: usize = 0;
     while i < n {
-        wrong = wrong | saturation_wrong(canister, saturation, season_at(s, i));
+        wrong = wrong | saturation_above(limit, canister, saturation, season_at(s, i));
         i += 1;
     }
     wrong
+}
+
+// No canister counts for the row.
+fn no_canister(canister: Canister) -> bool
+    ensures { λ r. ⌜ r ≡ noCanister canister ⌝ }
+{
+    match canister {
+        Canister::None => true,
+        Canister::Small => false,
+        Canister::Medium => false,
+        Canister::Large => false,
+    }
+}
+
+// A mileage above the limit, or one with no canister, beside a load, or where a + b·s·m_sat is above 0 in some season.
+fn mileage_wrong(s: &[u8], row: Row) -> bool
+    requires { ⌜ SeasonsPassed (now s) × (row .saturation < 65536) ⌝ }
+    ensures { λ r. ⌜ r ≡ mileageWrong (now (s .entry)) row ⌝ }
+{
+    let canister = row.canister;
+    let none = no_canister(canister);
+    let above = saturated(s, 0, canister, row.saturation);
+    (MILEAGE_LIMIT < row.mileage) | ((1 <= row.mileage) & (none | (row.load != 0) | above))
 }
 
 // Numbers 13 to 15 of the row that starts at p.
@@ -140,24 +168,34 @@ fn use_check(s: &[u8], row: Row, p: usize) -> Check
     )
 }
 
-// Numbers 19 to 21.
+// Numbers 19 and 20.
 fn load_check(s: &[u8], row: Row, p: usize) -> Check
     requires { ⌜ SeasonsPassed (now s) × (row .saturation < 65536) ⌝ }
     ensures { λ r. ⌜ r ≡ (
         refuse (loadWrong (row .canister) (row .load) (row .saturation)) 19 p then
-        refuse (someSeason (saturationWrong (row .canister) (row .saturation)) (now (s .entry)) (seasonsOf (now (s .entry)))) 20 p then
-        refuse (not (eqb (row .mileage) 0)) 21 p) ⌝ }
+        refuse (someSeason (saturationAbove 3 (row .canister) (row .saturation)) (now (s .entry)) (seasonsOf (now (s .entry)))) 20 p) ⌝ }
 {
     let place = p as u64;
     let canister = row.canister;
     let load = load_wrong(canister, row.load, row.saturation);
     or_else(
         when(load, 19, place),
-        or_else(
-            when(saturated(s, canister, row.saturation), 20, place),
-            when(row.mileage != 0, 21, place),
-        ),
+        when(saturated(s, 3, canister, row.saturation), 20, place),
     )
+}
+
+// Number 21, or 25 in its place.
+fn mileage_check(s: &[u8], row: Row, p: usize) -> Check
+    requires { ⌜ SeasonsPassed (now s) × (row .saturation < 65536) ⌝ }
+    ensures { λ r. ⌜ r ≡ (
+        refuse (not (hasMileage (now (s .entry))) && not (eqb (row .mileage) 0)) 21 p then
+        refuse (hasMileage (now (s .entry)) && mileageWrong (now (s .entry)) row) 25 p) ⌝ }
+{
+    let place = p as u64;
+    if has_mileage(s) {
+        return when(mileage_wrong(s, row), 25, place);
+    }
+    when(row.mileage != 0, 21, place)
 }
 
 // Row i.
@@ -168,8 +206,8 @@ fn row_check(s: &[u8], i: usize) -> Check
     let row = row_at(s, i);
     let p = row_place(s, i);
     or_else(
-        class_check(s, row, p),
-        or_else(use_check(s, row, p), load_check(s, row, p)),
+        or_else(class_check(s, row, p), use_check(s, row, p)),
+        or_else(load_check(s, row, p), mileage_check(s, row, p)),
     )
 }
 

@@ -21,7 +21,7 @@ use Rattle.sheet.specs.Range.{SeasonInRange}
 use Rattle.sheet.specs.Demands.{Met}
 use Rattle.sheet.proofs.Equipment.{equipment-tank, equipment-class}
 use Rattle.sheet.proofs.Temperature.{season-in-range}
-use Rattle.sheet.specs.Demands.{seasonDemands, rowDemands, Size, AtMost3}
+use Rattle.sheet.specs.Demands.{seasonDemands, rowDemands, ExponentMost, MileageRight}
 use Rattle.sheet.proofs.Conditions.{sheet-judged}
 
 -- each element is a byte
@@ -53,8 +53,9 @@ pub record AcceptedRow (s : List ℕ) (i : ℕ) : Type 0 where
   pub minutes-most : (rowAt s i) .minutes ≤ minutesLimit
   pub load-most : (rowAt s i) .load ≤ (rowAt s i) .saturation
   pub no-load : (rowAt s i) .canister ≡ None → ((rowAt s i) .load ≡ 0) × ((rowAt s i) .saturation ≡ 0)
-  pub exponent : (j : ℕ) → j < seasonsOf s → (size : Fraction) → Size ((rowAt s i) .canister) size → AtMost3 (seasonAt s j) size ((rowAt s i) .saturation)
-  pub reserved-zero : (rowAt s i) .mileage ≡ 0
+  pub exponent : (j : ℕ) → j < seasonsOf s → ExponentMost 3 (rowAt s i) (seasonAt s j)
+  pub no-mileage : versionOf s < 3 → (rowAt s i) .mileage ≡ 0
+  pub mileage : 3 ≤ versionOf s → MileageRight s (rowAt s i)
 
 -- the whole sheet
 pub record Accepted (s : List ℕ) : Type 0 where
@@ -96,7 +97,7 @@ tank-between (suc tenths) class technology n h = (omega arith, h)
 
 row-accepted : (s : List ℕ) (i : ℕ) → Met (rowDemands s i) → AcceptedRow s i
 unfolding rowAt rowFrom equipmentAt
-row-accepted s i (present, (code, (((carburettor, hot), fill), (vehicles, (tank, ((trips, minutes), ((load, none), (exponent, reserved)))))))) =
+row-accepted s i (present, (code, (((carburettor, hot), fill), (vehicles, (tank, ((trips, minutes), ((load, none), (exponent, (bytes, mileage))))))))) =
     let (tank-least, tank-most) = tank-between (u16At s (rowPlace s i + 6)) (u8At s (rowPlace s i)) (u8At s (rowPlace s i + 1)) present tank in
     let (class-least, class-most) = equipment-class (u8At s (rowPlace s i)) (u8At s (rowPlace s i + 1)) present in
     record {
@@ -115,7 +116,8 @@ row-accepted s i (present, (code, (((carburettor, hot), fill), (vehicles, (tank,
       load-most = load;
       no-load = λ e. let z = none e in (omega arith, z);
       exponent = exponent;
-      reserved-zero = reserved;
+      no-mileage = bytes;
+      mileage = mileage;
     }
 
 -- the days of all seasons together, from those up to each

@@ -16,13 +16,14 @@ use Rattle.exact.specs.declared.Canister.{Canister}
 use Rattle.exact.specs.declared.Canister.the-variants.{None, Small, Medium, Large}
 use Rattle.exact.specs.declared.Equipment.the-variants.{Fitted}
 use Rattle.exact.specs.declared.Season.{Season}
+use Rattle.exact.specs.declared.Row.{Row}
 use Rattle.sheet.specs.declared.Check.{Check}
 use Rattle.sheet.specs.Limits.{tankLimit}
 use Rattle.sheet.specs.Integers.{u8At, u16At}
 use Rattle.sheet.specs.Versions.{versionOf, hasGrid, seasonsStart}
 use Rattle.sheet.specs.Bytes.{seasonsOf, rowsOf, durationCounts, hourCounts, gridCounts, cellsOf, seasonPlace, rowPlace, seasonAt, seasonsFrom, seasonList, rowFrom, rowAt, equipmentAt, fittedCanister, fittedTank, writtenCanister, canisterOf, tankOf}
 use Rattle.sheet.specs.Check.{each}
-use Rattle.sheet.specs.Sheet.{lettersMissing, markCheck, numbersCheck, headCheck, lengthCheck, parkingCheck, daysBefore, seasonCheck, codeWrong, someSeason, rowCheck, sheetCheck}
+use Rattle.sheet.specs.Sheet.{lettersMissing, markCheck, numbersCheck, headCheck, lengthCheck, parkingCheck, daysBefore, seasonCheck, codeWrong, saturationAbove, someSeason, mileageWrong, rowCheck, sheetCheck}
 use Rattle.sheet.proofs.Versions.{start-grid, start-between, start-same}
 use Rattle.sheet.proofs.Equipment.{equipment-tank}
 use Rattle.sheet.proofs.Local.{Same, byte-at, word-at, season-same, equipment-same, row-counts, row-same, counts-same}
@@ -224,9 +225,15 @@ module _ (s s' : List ℕ) (i : ℕ) (c : Canister) (t : ℕ) (fitted : equipmen
   row j = rw (start, seasons) (row-alike j .row)
 
   -- and it passes or is refused alike.
+  mileage : (r : Row) → mileageWrong s' r ≡ mileageWrong s r
+  unfolding mileageWrong
+  mileage r = cc (seasons, some (saturationAbove 0 (r .canister) (r .saturation)) (seasonsOf s) (omega arith))
+
   row-check : (j : ℕ) → rowCheck s' j ≡ rowCheck s j
   unfolding rowCheck
-  row-check j = let r = row-alike j in cc (start, seasons, row j, some _ (seasonsOf s) (omega arith))
+  row-check j =
+      let r = row-alike j in
+      cc (start, seasons, version, row j, some (saturationAbove 3 ((rowAt s j) .canister) ((rowAt s j) .saturation)) (seasonsOf s) (omega arith), mileage (rowAt s j))
 
   -- accepted or refused alike, with the same values
   pub alike : Alike s s'

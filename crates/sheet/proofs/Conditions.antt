@@ -1,10 +1,10 @@
--- "Where a sheet stops", numbers 1 to 21 and 24 as demands in plain arithmetic, each with its place: a sheet is accepted
+-- "Where a sheet stops", numbers 1 to 21, 24 and 25 as demands in plain arithmetic, each with its place: a sheet is accepted
 -- where all are met, and else the first that is not met gives the number and the place.
 -- Assumes nothing.
-use mathlib.Core.Bool.{Bool, true}
+use mathlib.Core.Bool.{Bool, true, false}
 use mathlib.Core.List.{List}
 use mathlib.Core.Logic.{_⊎_}
-use mathlib.Core.Path.{_≡_, refl, sym}
+use mathlib.Core.Path.{_≡_, refl, sym, ap, _∙_}
 use Prim.Native.Nat.{ℕ, suc, zero, _+_, _*_, _≤_, _<_}
 use native.Mathlib.Omega.{arith}
 use lib.ListN.{length}
@@ -16,14 +16,15 @@ use Rattle.exact.specs.declared.Equipment.the-variants.{Absent, Fitted}
 use Rattle.exact.specs.declared.Season.{Season}
 use Rattle.exact.specs.declared.Row.{Row}
 use Rattle.exact.specs.Day.{signedTenths}
+use Rattle.exact.specs.Canister.{size}
 use Rattle.exact.specs.Factors.{total}
 use Rattle.sheet.specs.declared.Check.the-variants.{Pass, Refused}
 use Rattle.sheet.specs.Integers.{u8At, u16At}
 use Rattle.sheet.specs.Versions.{versionOf, seasonsStart}
 use Rattle.sheet.specs.Bytes.{seasonsOf, rowsOf, durationCounts, hourCounts, gridCounts, rowPlace, seasonAt, rowAt, equipmentAt}
-use Rattle.sheet.specs.Sheet.{outside, lettersMissing, markCheck, numbersCheck, headCheck, lengthCheck, parkingCheck, daysBefore, temperaturesWrong, seasonCheck, isAbsent, codeWrong, percentWrong, loadWrong, above3, saturationWrong, someSeason, rowCheck, sheetCheck}
+use Rattle.sheet.specs.Sheet.{outside, lettersMissing, markCheck, numbersCheck, headCheck, lengthCheck, parkingCheck, daysBefore, temperaturesWrong, seasonCheck, isAbsent, codeWrong, percentWrong, loadWrong, exponentAbove, saturationAbove, someSeason, noCanister, mileageWrong, rowCheck, sheetCheck}
 use Rattle.sheet.specs.Check.{numberOf, placeOf}
-use Rattle.sheet.specs.Demands.{Met, FirstUnmet, Says, markDemands, numbersDemands, headDemands, lengthDemand, parkingDemands, seasonDemands, Size, AtMost3, rowDemands, demands}
+use Rattle.sheet.specs.Demands.{Met, FirstUnmet, Says, markDemands, numbersDemands, headDemands, lengthDemand, parkingDemands, seasonDemands, exponentAt, ExponentMost, MileageRight, rowDemands, demands}
 use Rattle.sheet.proofs.Checks.{Tests, Judges, numbers, among, number-among, Once, Unmet, unmet, Broken, broken, met-passes, says, true-is-not-false, below-suc, judges-refuse, judges-then, judges-each, _⊳_, ltb-tests, ||-tests, &&-tests, tests-as, not-tests, eqb-shows, ≤-shows, &&-shows, leb-shows, not-leb-shows, guarded}
 
 -- a number outside least to most
@@ -93,19 +94,27 @@ load-tests Small load saturation = tests-as (λ h. (h, λ e. cc)) (λ (h, k). h)
 load-tests Medium load saturation = tests-as (λ h. (h, λ e. cc)) (λ (h, k). h) (ltb-tests saturation load)
 load-tests Large load saturation = tests-as (λ h. (h, λ e. cc)) (λ (h, k). h) (ltb-tests saturation load)
 
--- 20 in one season, for one size
-above3-tests : (season : Season) (s : Fraction) (saturation : ℕ) → Tests (above3 season s saturation) ((size : Fraction) → size ≡ s → AtMost3 season size saturation)
-unfolding above3
-above3-tests season s saturation = tests-as (λ h size e. rw e h) (λ f. f s refl) (not-tests (≤-shows _ _))
+-- a size is a canister
+fitted : {c : Canister} → noCanister c ≡ false → ¬ (c ≡ None)
+unfolding noCanister
+fitted h e = true-is-not-false (sym (ap noCanister e) ∙ h)
 
--- and for the size of the canister, if there is one
-pub saturation-tests : (c : Canister) (saturation : ℕ) (season : Season)
-    → Tests (saturationWrong c saturation season) ((size : Fraction) → Size c size → AtMost3 season size saturation)
-unfolding saturationWrong
-saturation-tests None saturation season = record { holds = λ _ size n. absurd n; fails = λ e. absurd (true-is-not-false (sym e)) }
-saturation-tests Small saturation season = above3-tests season (whole 2) saturation
-saturation-tests Medium saturation season = above3-tests season (whole 1) saturation
-saturation-tests Large saturation season = above3-tests season (5 /10^ 1) saturation
+none-tests : (c : Canister) → Tests (noCanister c) (¬ (c ≡ None))
+unfolding noCanister
+none-tests None = record { holds = λ e. absurd (true-is-not-false e); fails = λ _ n. n refl }
+none-tests Small = record { holds = fitted; fails = λ e. absurd (true-is-not-false (sym e)) }
+none-tests Medium = record { holds = fitted; fails = λ e. absurd (true-is-not-false (sym e)) }
+none-tests Large = record { holds = fitted; fails = λ e. absurd (true-is-not-false (sym e)) }
+
+-- 20, and the last part of 25, in one season, for a canister if there is one
+pub saturation-tests : (limit : ℕ) (c : Canister) (saturation : ℕ) (season : Season)
+    → Tests (saturationAbove limit c saturation season)
+    (¬ (c ≡ None) → exponentAt season (signedTenths (season .highest)) (size c) (saturation /10^ 1) ≤ᶠ whole limit)
+unfolding saturationAbove exponentAbove noCanister
+saturation-tests limit None saturation season = record { holds = λ _ n. absurd (n refl); fails = λ e. absurd (true-is-not-false (sym e)) }
+saturation-tests limit Small saturation season = tests-as (λ h _. h) (λ f. f (fitted refl)) (not-tests (≤-shows _ _))
+saturation-tests limit Medium saturation season = tests-as (λ h _. h) (λ f. f (fitted refl)) (not-tests (≤-shows _ _))
+saturation-tests limit Large saturation season = tests-as (λ h _. h) (λ f. f (fitted refl)) (not-tests (≤-shows _ _))
 
 -- a test at some season demands the same of every season
 some-tests : {P : Season → Type 0} (wrong : Season → Bool) → ((season : Season) → Tests (wrong season) (P season))
@@ -118,6 +127,13 @@ some-tests {P} wrong t s (suc n) =
     (λ f. ((λ j l. f j (omega arith)), f n (omega arith)))
     (||-tests (some-tests wrong t s n) (t (seasonAt s n)))
 
+-- 25
+mileage-tests : (s : List ℕ) (row : Row) → Tests (mileageWrong s row) (MileageRight s row)
+unfolding mileageWrong
+mileage-tests s row =
+    ||-tests (ltb-tests _ _)
+    (guarded (leb-shows _ _) (||-tests (||-tests (none-tests _) (not-tests (eqb-shows _ _))) (some-tests _ (saturation-tests 0 _ _) _ _)))
+
 -- rowCheck
 pub row-judged : (s : List ℕ) (i : ℕ) → Judges (rowCheck s i) (rowDemands s i)
 unfolding rowCheck percentWrong
@@ -129,8 +145,9 @@ row-judged s i =
     ltb-tests _ _ ⊳
     ||-tests (ltb-tests _ _) (ltb-tests _ _) ⊳
     load-tests _ _ _ ⊳
-    some-tests _ (saturation-tests _ _) _ _ ⊳
-    judges-refuse (not-tests (eqb-shows _ _))
+    some-tests _ (saturation-tests 3 _ _) _ _ ⊳
+    guarded (not-leb-shows _ _) (not-tests (eqb-shows _ _)) ⊳
+    judges-refuse (guarded (leb-shows _ _) (mileage-tests _ _))
 
 -- a sheet is accepted where all demands are met, and else refused with the number and the place of the first that is not
 pub sheet-judged : (s : List ℕ) → Judges (sheetCheck s) (demands s)
@@ -152,7 +169,7 @@ once s = (
     (
       refl,
       (refl, tt, (refl, tt, tt)),
-      (refl, (λ i. (refl, (refl, tt, (refl, tt, tt)))), (λ i. (refl, (refl, tt, (refl, tt, (refl, tt, (refl, tt, (refl, tt, (refl, tt, (refl, tt, (refl, tt, tt))))))))))),
+      (refl, (λ i. (refl, (refl, tt, (refl, tt, tt)))), (λ i. (refl, (refl, tt, (refl, tt, (refl, tt, (refl, tt, (refl, tt, (refl, tt, (refl, tt, (refl, tt, (refl, tt, tt)))))))))))),
     ),
   ),
 )
@@ -190,7 +207,7 @@ NotInRow s p A = (i : ℕ) × (i < rowsOf s) × ((p ≡ seasonsStart s + 8 * sea
 pub record Conditions (s : List ℕ) (p : ℕ) : Type 0 where
   pub short : sheetCheck s ≡ Refused 1 p → (p ≡ 0) × ¬ (8 ≤ length s)
   pub mark : sheetCheck s ≡ Refused 2 p → (p ≡ 0) × ¬ (((u8At s 0 ≡ 0x45) × (u8At s 1 ≡ 0x56)) × (u8At s 2 ≡ 0x50))
-  pub version : sheetCheck s ≡ Refused 3 p → (p ≡ 3) × ¬ ((1 ≤ u16At s 3) × (u16At s 3 ≤ 2))
+  pub version : sheetCheck s ≡ Refused 3 p → (p ≡ 3) × ¬ ((1 ≤ u16At s 3) × (u16At s 3 ≤ 3))
   pub seasons : sheetCheck s ≡ Refused 4 p → (p ≡ 5) × ¬ ((1 ≤ u8At s 5) × (u8At s 5 ≤ 12))
   pub rows : sheetCheck s ≡ Refused 5 p → (p ≡ 6) × ¬ ((1 ≤ u8At s 6) × (u8At s 6 ≤ 32))
   pub byte-7 : sheetCheck s ≡ Refused 6 p → (p ≡ 7) × ¬ (u8At s 7 ≡ 0)
@@ -211,8 +228,11 @@ pub record Conditions (s : List ℕ) (p : ℕ) : Type 0 where
   pub trips-minutes : sheetCheck s ≡ Refused 18 p → NotInRow s p (λ (row : Row) (place : ℕ). (row .trips ≤ 2000) × (row .minutes ≤ 1440))
   pub loads : sheetCheck s ≡ Refused 19 p → NotInRow s p (λ (row : Row) (place : ℕ). (row .load ≤ row .saturation) × (row .canister ≡ None → row .saturation ≡ 0))
   pub saturation : sheetCheck s ≡ Refused 20 p
-      → NotInRow s p (λ (row : Row) (place : ℕ). (j : ℕ) → j < seasonsOf s → (size : Fraction) → Size (row .canister) size → AtMost3 (seasonAt s j) size (row .saturation))
-  pub bytes-20-to-23 : sheetCheck s ≡ Refused 21 p → NotInRow s p (λ (row : Row) (place : ℕ). row .mileage ≡ 0)
+      → NotInRow s p (λ (row : Row) (place : ℕ). (j : ℕ) → j < seasonsOf s → ExponentMost 3 row (seasonAt s j))
+  pub bytes-20-to-23 : sheetCheck s ≡ Refused 21 p → NotInRow s p (λ (row : Row) (place : ℕ). versionOf s < 3 → row .mileage ≡ 0)
+  pub mileage : sheetCheck s ≡ Refused 25 p
+      → NotInRow s p (λ (row : Row) (place : ℕ). 3 ≤ versionOf s → (row .mileage ≤ 1000000)
+      × (1 ≤ row .mileage → (¬ (row .canister ≡ None) × (row .load ≡ 0)) × ((j : ℕ) → j < seasonsOf s → ExponentMost 0 row (seasonAt s j))))
 
 -- "a number is returned only where its condition holds"
 pub conditions : (s : List ℕ) (p : ℕ) → Conditions s p
@@ -241,4 +261,5 @@ conditions s p =
       loads = only 19;
       saturation = only 20;
       bytes-20-to-23 = only 21;
+      mileage = only 25;
     }

@@ -98,7 +98,7 @@ module _ {s t : List ℕ} (g : GridOf s t) where
 
   -- and on each row.
   row-met : (i : ℕ) → Met (rowDemands s i) → Met (rowDemands t i)
-  row-met i (present, (code, (percents, (vehicles, (tank, (driving, (load, (exponent, reserved)))))))) =
+  row-met i (present, (code, (percents, (vehicles, (tank, (driving, (load, (exponent, (bytes, mileage))))))))) =
       let h = row-bytes i in
       let at-2 : u8At t (rowPlace t i + 2) ≡ u8At s (rowPlace s i + 2) = byte-at h 2 _ _ refl refl (omega arith) in
       let at-6 : u16At t (rowPlace t i + 6) ≡ u16At s (rowPlace s i + 6) = word-at h 6 _ _ refl refl (omega arith) in (
@@ -115,7 +115,7 @@ module _ {s t : List ℕ} (g : GridOf s t) where
                   rw (row i) driving,
                   (
                     rw (row i) load,
-                    ((λ j l size is. rw (row i, season j) (exponent j (omega (arith, g .seasons)) size (rw (row i) at is))), rw (row i) reserved),
+                    ((λ j l. rw (row i, season j) (exponent j (omega (arith, g .seasons)))), ((λ _. rw (row i) (bytes (omega (arith, g .lists)))), (λ new. absurd (omega (arith, g .grid))))),
                   ),
                 ),
               ),

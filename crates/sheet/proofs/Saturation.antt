@@ -1,4 +1,4 @@
--- Number 20 on whole numbers: document 01's comparison of a + b·s·m_sat with 3, in units of 1/20,000,000.
+-- Numbers 20 and 25 on whole numbers: the comparison of a + b·s·m_sat with a limit, in units of 1/20,000,000.
 -- Assumes nothing.
 use mathlib.Core.Path.{_≡_, refl, ap}
 use Prim.Native.Nat.{ℕ, _+_, _*_, _-_, _≤_, _<_}
@@ -12,8 +12,8 @@ use Rattle.exact.specs.declared.Canister.{Canister}
 use Rattle.exact.specs.declared.Canister.the-variants.{None, Small, Medium, Large}
 use Rattle.exact.specs.declared.Season.{Season}
 use Rattle.exact.specs.Day.{signedTenths}
-use Rattle.exact.specs.Canister.{a, b}
-use Rattle.sheet.specs.Sheet.{above3, saturationWrong}
+use Rattle.exact.specs.Canister.{a, b, size}
+use Rattle.sheet.specs.Sheet.{exponentAbove, saturationAbove}
 use Rattle.sheet.specs.Range.{warmth, warmthLimit, SeasonInRange, halves}
 use Rattle.sheet.proofs.Checks.{ltb-tests, ≤-shows, not-tests, tests-as, tests-same}
 use Rattle.sheet.proofs.Temperature.{aboveColdest, signed-is}
@@ -46,9 +46,9 @@ b-is : (vp h : ℕ) → b (vp /10^ 1) (aboveColdest h) ≈ᶠ bWhole vp h
 unfolding b bWhole aboveColdest _-ᶠ_ _+ᶠ_ negᶠ _*ᶠ_ whole _/10^_
 b-is vp h = record { cross = omega arith }
 
--- 3 − a's part below 0, times 20000000
-abbrev pub most : ℕ → ℕ
-most vp = 60000000 + 2000 * (129500 + 15 * vp)
+-- the limit less a's part below 0, times 20000000
+abbrev pub most : ℕ → ℕ → ℕ
+most limit vp = limit * 20000000 + 2000 * (129500 + 15 * vp)
 
 -- what is compared with it
 abbrev pub reached : ℕ → ℕ → ℕ → ℕ → ℕ
@@ -64,40 +64,40 @@ b-positive vp h halves m l =
     let e : 112000 + 10 * h ≡ (112000 + 10 * h - 15 * vp) + 15 * vp = omega arith in
     omega (arith, ap (λ (t : ℕ). t * halves * m) e)
 
--- at most 3 as a fraction is at most that as a whole number
-exponent→ : (vp h halves m : ℕ) → vp ≤ 1100 → exponent vp h halves m ≤ᶠ whole 3 → reached vp h halves m ≤ most vp
+-- at most the limit as a fraction is at most that as a whole number
+exponent→ : (limit vp h halves m : ℕ) → vp ≤ 1100 → exponent vp h halves m ≤ᶠ whole limit → reached vp h halves m ≤ most limit vp
 unfolding aWhole bWhole _over_ _+ᶠ_ _*ᶠ_ whole _/10^_
-exponent→ vp h halves m l e = omega (arith, e .cross, b-positive vp h halves m l)
+exponent→ limit vp h halves m l e = omega (arith, e .cross, b-positive vp h halves m l)
 
 -- and back
-exponent← : (vp h halves m : ℕ) → vp ≤ 1100 → reached vp h halves m ≤ most vp → exponent vp h halves m ≤ᶠ whole 3
+exponent← : (limit vp h halves m : ℕ) → vp ≤ 1100 → reached vp h halves m ≤ most limit vp → exponent vp h halves m ≤ᶠ whole limit
 unfolding aWhole bWhole _over_ _+ᶠ_ _*ᶠ_ whole _/10^_
-exponent← vp h halves m l e = record { cross = omega (arith, b-positive vp h halves m l) }
+exponent← limit vp h halves m l e = record { cross = omega (arith, b-positive vp h halves m l) }
 
--- a + b·s·m_sat above 3 is this comparison of whole numbers, for a season in range and a size s of so many halves
-pub above3-is : (season : Season) (s : Fraction) (halves m : ℕ) → season .highest < 65536 → warmth (season .highest) ≤ warmthLimit
+-- a + b·s·m_sat above the limit is this comparison of whole numbers, for a season in range and a size s of so many halves
+above-is : (limit : ℕ) (season : Season) (s : Fraction) (halves m : ℕ) → season .highest < 65536 → warmth (season .highest) ≤ warmthLimit
     → season .vp ≤ 1100 → s ≈ᶠ whole halves over 2
-    → ltb (most (season .vp)) (reached (season .vp) (warmth (season .highest)) halves m) ≡ above3 season s m
-unfolding above3
-above3-is season s halves m bits warm l size =
+    → ltb (most limit (season .vp)) (reached (season .vp) (warmth (season .highest)) halves m) ≡ exponentAbove limit season s m
+unfolding exponentAbove
+above-is limit season s halves m bits warm l size =
     let vp = season .vp in
     let h = warmth (season .highest) in
     let T = signed-is (season .highest) bits warm in
     let e : a (vp /10^ 1) (signedTenths (season .highest)) +ᶠ b (vp /10^ 1) (signedTenths (season .highest)) *ᶠ s *ᶠ m /10^ 1 ≈ᶠ exponent vp h halves m =
     +-cong (≈-trans (a-cong _ T) (a-is vp h)) (*-cong (*-cong (≈-trans (b-cong _ T) (b-is vp h)) size) (≈-refl _)) in
-    tests-same (ltb-tests (most vp) (reached vp h halves m))
-    (tests-as (λ c. exponent→ vp h halves m l (≤-by (≈-sym e) (≈-refl _) c)) (λ c. ≤-by e (≈-refl _) (exponent← vp h halves m l c))
+    tests-same (ltb-tests (most limit vp) (reached vp h halves m))
+    (tests-as (λ c. exponent→ limit vp h halves m l (≤-by (≈-sym e) (≈-refl _) c)) (λ c. ≤-by e (≈-refl _) (exponent← limit vp h halves m l c))
     (not-tests (≤-shows _ _)))
 
 -- for each canister, and without one, in a season in range
-pub saturation-is : (c : Canister) (m : ℕ) {season : Season} → SeasonInRange season
-    → ltb (most (season .vp)) (reached (season .vp) (warmth (season .highest)) (halves c) m) ≡ saturationWrong c m season
-unfolding halves saturationWrong whole _over_ _/10^_
-saturation-is None m {season} r =
-    le-ltb (most (season .vp)) (reached (season .vp) (warmth (season .highest)) 0 m) (omega (arith, r .warm))
-saturation-is Small m r = above3-is _ (whole 2) 4 m (r .highest-bits) (r .warm) (r .vp-most) (record { cross = refl })
-saturation-is Medium m r = above3-is _ (whole 1) 2 m (r .highest-bits) (r .warm) (r .vp-most) (record { cross = refl })
-saturation-is Large m r = above3-is _ (5 /10^ 1) 1 m (r .highest-bits) (r .warm) (r .vp-most) (record { cross = refl })
+pub saturation-is : (limit : ℕ) (c : Canister) (m : ℕ) {season : Season} → SeasonInRange season
+    → ltb (most limit (season .vp)) (reached (season .vp) (warmth (season .highest)) (halves c) m) ≡ saturationAbove limit c m season
+unfolding halves saturationAbove whole _over_ _/10^_
+saturation-is limit None m {season} r =
+    le-ltb (most limit (season .vp)) (reached (season .vp) (warmth (season .highest)) 0 m) (omega (arith, r .warm))
+saturation-is limit Small m r = above-is limit _ (size Small) 4 m (r .highest-bits) (r .warm) (r .vp-most) (record { cross = refl })
+saturation-is limit Medium m r = above-is limit _ (size Medium) 2 m (r .highest-bits) (r .warm) (r .vp-most) (record { cross = refl })
+saturation-is limit Large m r = above-is limit _ (size Large) 1 m (r .highest-bits) (r .warm) (r .vp-most) (record { cross = refl })
 
 -- b times the halves fits 64 bits
 pub b-size : {x halves : ℕ} → x ≤ 120000 → halves ≤ 4 → x * halves ≤ 480000

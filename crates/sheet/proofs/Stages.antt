@@ -17,11 +17,11 @@ unfolding _then_
 then-assoc Pass c d = refl
 then-assoc (Refused number place) c d = refl
 
--- three groups of three are nine in a row
-pub regroup : (c₁ c₂ c₃ c₄ c₅ c₆ c₇ c₈ c₉ : Check) {x : Check}
-    → x ≡ ((c₁ then c₂ then c₃) then (c₄ then c₅ then c₆) then c₇ then c₈ then c₉)
-    → x ≡ (c₁ then c₂ then c₃ then c₄ then c₅ then c₆ then c₇ then c₈ then c₉)
-regroup c₁ c₂ c₃ c₄ c₅ c₆ c₇ c₈ c₉ h = h ∙ simp then-assoc
+-- two groups of three and two of two are ten in a row
+pub regroup : (c₁ c₂ c₃ c₄ c₅ c₆ c₇ c₈ c₉ d : Check) {x : Check}
+    → x ≡ (((c₁ then c₂ then c₃) then (c₄ then c₅ then c₆)) then (c₇ then c₈) then c₉ then d)
+    → x ≡ (c₁ then c₂ then c₃ then c₄ then c₅ then c₆ then c₇ then c₈ then c₉ then d)
+regroup c₁ c₂ c₃ c₄ c₅ c₆ c₇ c₈ c₉ d h = h ∙ simp then-assoc
 
 -- nothing after a check
 then-pass-right : (c : Check) → c ≡ (c then Pass)
@@ -40,6 +40,16 @@ module _ {g : Bool} (a b e : Bool) (m n p q r : ℕ) where
       → x ≡ (refuse (not g && a) m q then refuse (not g && b) n r then refuse (g && e) p q)
   unfolding refuse _then_
   grid-alone h t = rw h t
+
+-- One number for the versions before, and one for those with it.
+module _ {g : Bool} (a e : Bool) (m p q : ℕ) where
+  pub old-alone : {x : Check} → g ≡ false → x ≡ refuse a m q → x ≡ (refuse (not g && a) m q then refuse (g && e) p q)
+  unfolding refuse
+  old-alone h t = rw h (t ∙ then-pass-right (refuse a m q))
+
+  pub new-alone : {x : Check} → g ≡ true → x ≡ refuse e p q → x ≡ (refuse (not g && a) m q then refuse (g && e) p q)
+  unfolding refuse _then_
+  new-alone h t = rw h t
 
 -- a stage that refuses is the answer
 pub stop : (c d : Check) {r : Check} {n p : ℕ} → r ≡ c → r ≡ Refused n p → r ≡ (c then d)

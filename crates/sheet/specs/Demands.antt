@@ -6,15 +6,15 @@ use mathlib.Core.Path.{_≡_}
 use Prim.Native.Nat.{ℕ, suc, zero, _+_, _*_, _≤_, _<_}
 use lib.ListN.{length}
 use Rattle.numbers.specs.Fraction.{Fraction, _≤ᶠ_, _+ᶠ_, negᶠ, _*ᶠ_, whole, _/10^_}
-use Rattle.exact.specs.declared.Canister.{Canister}
-use Rattle.exact.specs.declared.Canister.the-variants.{None, Small, Medium, Large}
+use Rattle.exact.specs.declared.Canister.the-variants.{None}
 use Rattle.exact.specs.declared.Equipment.the-variants.{Absent}
 use Rattle.exact.specs.declared.Season.{Season}
+use Rattle.exact.specs.declared.Row.{Row}
 use Rattle.exact.specs.Day.{signedTenths}
-use Rattle.exact.specs.Canister.{a, b}
+use Rattle.exact.specs.Canister.{a, b, size}
 use Rattle.exact.specs.Factors.{total}
 use Rattle.sheet.specs.Limits.{versionLimit, seasonsLimit, rowsLimit, countsLimit, gridLimit, daysLimit, coldLimit, warmLimit}
-use Rattle.sheet.specs.Limits.{vpLeast, vpLimit, percentLimit, tankLimit, vehiclesLimit, tripsLimit, minutesLimit}
+use Rattle.sheet.specs.Limits.{vpLeast, vpLimit, percentLimit, tankLimit, vehiclesLimit, tripsLimit, minutesLimit, mileageLimit}
 use Rattle.sheet.specs.Integers.{u8At, u16At}
 use Rattle.sheet.specs.Versions.{versionOf, seasonsStart}
 use Rattle.sheet.specs.Bytes.{seasonsOf, rowsOf, durationCounts, hourCounts, gridCounts, seasonPlace, rowPlace, seasonAt, rowAt, equipmentAt}
@@ -85,26 +85,27 @@ seasonDemands s i =
     demand 11 place (((negᶠ (coldLimit /10^ 1) ≤ᶠ lowest) × (lowest ≤ᶠ highest)) × (highest ≤ᶠ warmLimit /10^ 1)) next
     demand 12 place ((vpLeast ≤ season .vp) × (season .vp ≤ vpLimit))
 
--- "s = 2, 1, 0.5 for small, medium, large"
-abbrev pub Size : Canister → Fraction → Type 0
-Size None s = ⊥
-Size Small s = s ≡ whole 2
-Size Medium s = s ≡ whole 1
-Size Large s = s ≡ 5 /10^ 1
-
 -- a + b·s·m at temperature T, for a canister of size s and its load m
 abbrev pub exponentAt : Season → Fraction → Fraction → Fraction → Fraction
 exponentAt season T s m =
     let vp = season .vp /10^ 1 in
     a vp T +ᶠ b vp T *ᶠ s *ᶠ m
 
--- at the season's highest temperature, a + b·s·m_sat ≤ 3
-abbrev pub AtMost3 : Season → Fraction → ℕ → Type 0
-AtMost3 season s saturation = exponentAt season (signedTenths (season .highest)) s (saturation /10^ 1) ≤ᶠ whole 3
+-- at the season's highest temperature, a + b·s·m_sat is at most a limit, for a row with a canister
+abbrev pub ExponentMost : ℕ → Row → Season → Type 0
+ExponentMost limit row season =
+    ¬ (row .canister ≡ None)
+    → exponentAt season (signedTenths (season .highest)) (size (row .canister)) (row .saturation /10^ 1) ≤ᶠ whole limit
+
+-- a mileage up to 1,000,000 km; and above 0 it has a canister, no load beside it, and a + b·s·m_sat ≤ 0 in every season
+abbrev pub MileageRight : List ℕ → Row → Type 0
+MileageRight s row =
+    (row .mileage ≤ mileageLimit) ×
+    (1 ≤ row .mileage → (¬ (row .canister ≡ None) × (row .load ≡ 0)) × ((j : ℕ) → j < seasonsOf s → ExponentMost 0 row (seasonAt s j)))
 
 -- Each row | 13 class and technology not in the table; 14 canister code; 15 a percent; 16 vehicles; 17 tank; 18 trips or
 -- minutes; 19 load above m_sat, or a load or m_sat with no canister; 20 in some season, at its highest temperature,
--- a + b·s·m_sat above 3; 21 bytes 20 to 23 | record start
+-- a + b·s·m_sat above 3; 21 bytes 20 to 23 | record start; from version 3 on "25, in place of 21"
 abbrev pub rowDemands : List ℕ → ℕ → Demands
 rowDemands s i =
     let row = rowAt s i in
@@ -117,8 +118,9 @@ rowDemands s i =
     demand 17 place (u16At s (place + 6) ≤ tankLimit) next
     demand 18 place ((row .trips ≤ tripsLimit) × (row .minutes ≤ minutesLimit)) next
     demand 19 place ((row .load ≤ row .saturation) × (row .canister ≡ None → row .saturation ≡ 0)) next
-    demand 20 place ((j : ℕ) → j < seasonsOf s → (size : Fraction) → Size (row .canister) size → AtMost3 (seasonAt s j) size (row .saturation)) next
-    demand 21 place (row .mileage ≡ 0)
+    demand 20 place ((j : ℕ) → j < seasonsOf s → ExponentMost 3 row (seasonAt s j)) next
+    demand 21 place (versionOf s < 3 → row .mileage ≡ 0) next
+    demand 25 place (3 ≤ versionOf s → MileageRight s row)
 
 -- the whole table, "in table and file order"
 abbrev pub demands : List ℕ → Demands

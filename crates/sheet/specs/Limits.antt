@@ -4,7 +4,7 @@ use Prim.Native.Nat.{ℕ}
 
 -- the versions that are read, from 1 on
 abbrev pub versionLimit : ℕ
-versionLimit = 2
+versionLimit = 3
 
 -- "u8 seasons S, 1 to 12; u8 rows R, 1 to 32"
 abbrev pub seasonsLimit : ℕ
@@ -58,3 +58,7 @@ tripsLimit = 2000
 -- "minutes per trip, at most 1440"
 abbrev pub minutesLimit : ℕ
 minutesLimit = 1440
+
+-- "a mileage above 1,000,000", in km
+abbrev pub mileageLimit : ℕ
+mileageLimit = 1000000

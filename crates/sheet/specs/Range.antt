@@ -1,11 +1,12 @@
 -- What is known of the values of an accepted sheet, as whole numbers. For `requires` and proofs; nothing here has to be believed.
+use mathlib.Core.Path.{_≡_}
 use Prim.Native.Nat.{ℕ, _+_, _*_, _-_, _%_, _^_, _≤_, _<_}
 use Rattle.bounds.specs.Weights.{w}
 use Rattle.exact.specs.declared.Canister.{Canister}
 use Rattle.exact.specs.declared.Canister.the-variants.{None, Small, Medium, Large}
 use Rattle.exact.specs.declared.Season.{Season}
 use Rattle.exact.specs.declared.Row.{Row}
-use Rattle.sheet.specs.Limits.{coldLimit, warmLimit, vpLimit, percentLimit, tankLimit, minutesLimit}
+use Rattle.sheet.specs.Limits.{coldLimit, warmLimit, vpLimit, percentLimit, tankLimit, minutesLimit, mileageLimit}
 
 -- tenths of °C above −30 °C, the coldest that a sheet may have, of a number of 16 bits in two's complement
 abbrev pub warmth : ℕ → ℕ
@@ -35,7 +36,16 @@ halves Small = 4
 halves Medium = 2
 halves Large = 1
 
--- a row that passed numbers 13 to 20
+-- a row with a mileage above 0 that passed number 25
+pub record DrivenInRange (season : Season) (row : Row) : Type 0 where
+  pub canister-there : 0 < halves (row .canister)
+  pub no-load : row .load ≡ 0
+  -- in whole numbers: a + b·s·m_sat ≤ 0 at the season's highest temperature, times 2·10⁷
+  pub exponent-low :
+      (112000 + 10 * warmth (season .highest) - 15 * season .vp) * halves (row .canister) * row .saturation
+      + 130000 * warmth (season .highest) ≤ 259000000 + 30000 * season .vp
+
+-- a row that passed numbers 13 to 21, or 25 in place of 21
 pub record RowInRange (season : Season) (row : Row) : Type 0 where
   pub fill-most : row .fill ≤ percentLimit
   pub tank-most : row .tank ≤ tankLimit
@@ -45,3 +55,5 @@ pub record RowInRange (season : Season) (row : Row) : Type 0 where
   pub exponent-most :
       (112000 + 10 * warmth (season .highest) - 15 * season .vp) * halves (row .canister) * row .saturation
       + 130000 * warmth (season .highest) ≤ 319000000 + 30000 * season .vp
+  pub mileage-most : row .mileage ≤ mileageLimit
+  pub driven : 1 ≤ row .mileage → DrivenInRange season row

@@ -1,8 +1,8 @@
--- "Where a sheet stops": the table of document 01, numbers 1 to 21, with number 24 of document 02. Definitions only.
+-- "Where a sheet stops": the table of document 01, numbers 1 to 21, with numbers 24 and 25 of document 02. Definitions only.
 use mathlib.Core.Bool.{Bool, true, false, not, _&&_, _||_}
 use mathlib.Core.List.{List}
 use Prim.Native.Nat.{ℕ, suc, zero, _+_, _*_}
-use lib.Dec.{ltb, eqb}
+use lib.Dec.{ltb, leb, eqb}
 use lib.ListN.{length}
 use Rattle.numbers.specs.Fraction.{Fraction, _+ᶠ_, negᶠ, _*ᶠ_, whole, _/10^_, _≤?_}
 use Rattle.exact.specs.declared.Canister.{Canister}
@@ -12,13 +12,13 @@ use Rattle.exact.specs.declared.Equipment.the-variants.{Absent, Fitted}
 use Rattle.exact.specs.declared.Season.{Season}
 use Rattle.exact.specs.declared.Row.{Row}
 use Rattle.exact.specs.Day.{signedTenths}
-use Rattle.exact.specs.Canister.{a, b}
+use Rattle.exact.specs.Canister.{a, b, size}
 use Rattle.exact.specs.Factors.{total}
 use Rattle.sheet.specs.declared.Check.{Check}
 use Rattle.sheet.specs.Limits.{versionLimit, seasonsLimit, rowsLimit, countsLimit, gridLimit, daysLimit, coldLimit, warmLimit}
-use Rattle.sheet.specs.Limits.{vpLeast, vpLimit, percentLimit, tankLimit, vehiclesLimit, tripsLimit, minutesLimit}
+use Rattle.sheet.specs.Limits.{vpLeast, vpLimit, percentLimit, tankLimit, vehiclesLimit, tripsLimit, minutesLimit, mileageLimit}
 use Rattle.sheet.specs.Integers.{u8At, u16At}
-use Rattle.sheet.specs.Versions.{versionOf, hasGrid, seasonsStart}
+use Rattle.sheet.specs.Versions.{versionOf, hasGrid, hasMileage, seasonsStart}
 use Rattle.sheet.specs.Bytes.{seasonsOf, rowsOf, durationCounts, hourCounts, gridCounts, seasonPlace, rowPlace, seasonAt, rowAt, equipmentAt}
 use Rattle.sheet.specs.Check.{refuse, _then_, each}
 
@@ -100,28 +100,44 @@ loadWrong Small load saturation = ltb saturation load
 loadWrong Medium load saturation = ltb saturation load
 loadWrong Large load saturation = ltb saturation load
 
--- "at its highest temperature, a + b·s·m_sat above 3", for a canister of size s; m_sat in tenths of a gram
-unfoldable pub above3 : Season → Fraction → ℕ → Bool
-above3 season s saturation =
+-- "at its highest temperature, a + b·s·m_sat above 3", or above another limit, for a canister of size s; m_sat in tenths of a gram
+unfoldable pub exponentAbove : ℕ → Season → Fraction → ℕ → Bool
+exponentAbove limit season s saturation =
     let vp = season .vp /10^ 1 in
     let T = signedTenths (season .highest) in
-    not (a vp T +ᶠ b vp T *ᶠ s *ᶠ saturation /10^ 1 ≤? whole 3)
+    not (a vp T +ᶠ b vp T *ᶠ s *ᶠ saturation /10^ 1 ≤? whole limit)
 
--- "s = 2, 1, 0.5 for small, medium, large"; "Rule 20 applies to rows with a canister only."
-unfoldable pub saturationWrong : Canister → ℕ → Season → Bool
-saturationWrong None saturation season = false
-saturationWrong Small saturation season = above3 season (whole 2) saturation
-saturationWrong Medium saturation season = above3 season (whole 1) saturation
-saturationWrong Large saturation season = above3 season (5 /10^ 1) saturation
+-- "Rule 20 applies to rows with a canister only."
+unfoldable pub saturationAbove : ℕ → Canister → ℕ → Season → Bool
+saturationAbove limit None saturation season = false
+saturationAbove limit Small saturation season = exponentAbove limit season (size Small) saturation
+saturationAbove limit Medium saturation season = exponentAbove limit season (size Medium) saturation
+saturationAbove limit Large saturation season = exponentAbove limit season (size Large) saturation
 
 -- "in some season" of the first n
 unfoldable pub someSeason : (Season → Bool) → List ℕ → ℕ → Bool
 someSeason wrong s zero = false
 someSeason wrong s (suc n) = someSeason wrong s n || wrong (seasonAt s n)
 
+-- "with no canister"
+unfoldable pub noCanister : Canister → Bool
+noCanister None = true
+noCanister Small = false
+noCanister Medium = false
+noCanister Large = false
+
+-- "a mileage above 1,000,000, or one above 0 with no canister, or beside a load, or where the left side of rule 20 is above 0"
+unfoldable pub mileageWrong : List ℕ → Row → Bool
+mileageWrong s row =
+    ltb mileageLimit (row .mileage) ||
+    (leb 1 (row .mileage) &&
+    (noCanister (row .canister) ||
+    not (eqb (row .load) 0) ||
+    someSeason (saturationAbove 0 (row .canister) (row .saturation)) s (seasonsOf s)))
+
 -- Each row | 13 class and technology not in the table; 14 canister code; 15 a percent; 16 vehicles; 17 tank; 18 trips or
 -- minutes; 19 load above m_sat, or a load or m_sat with no canister; 20 in some season, at its highest temperature,
--- a + b·s·m_sat above 3; 21 bytes 20 to 23 | record start
+-- a + b·s·m_sat above 3; 21 bytes 20 to 23 | record start; from version 3 on "25, in place of 21"
 unfoldable pub rowCheck : List ℕ → ℕ → Check
 rowCheck s i =
     let row = rowAt s i in
@@ -133,8 +149,9 @@ rowCheck s i =
     refuse (ltb tankLimit (u16At s (place + 6))) 17 place then
     refuse (ltb tripsLimit (row .trips) || ltb minutesLimit (row .minutes)) 18 place then
     refuse (loadWrong (row .canister) (row .load) (row .saturation)) 19 place then
-    refuse (someSeason (saturationWrong (row .canister) (row .saturation)) s (seasonsOf s)) 20 place then
-    refuse (not (eqb (row .mileage) 0)) 21 place
+    refuse (someSeason (saturationAbove 3 (row .canister) (row .saturation)) s (seasonsOf s)) 20 place then
+    refuse (not (hasMileage s) && not (eqb (row .mileage) 0)) 21 place then
+    refuse (hasMileage s && mileageWrong s row) 25 place
 
 -- the whole table, "in table and file order"
 unfoldable pub sheetCheck : List ℕ → Check

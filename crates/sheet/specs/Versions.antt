@@ -13,6 +13,10 @@ versionOf s = u16At s 3
 abbrev pub hasGrid : List ℕ → Bool
 hasGrid s = leb 2 (versionOf s)
 
+-- from version 3 on: "row bytes 20 to 23 are a u32 mileage M in km; 0 keeps the written load"
+abbrev pub hasMileage : List ℕ → Bool
+hasMileage s = leb 3 (versionOf s)
+
 -- where the seasons start, after the parking: 96 bytes of two lists, or with a grid "the length is 1,160 + 8S + 24R"
 unfoldable pub seasonsStart : List ℕ → ℕ
 seasonsStart s = elim (hasGrid s) [ true ↦ 1160 | false ↦ 104 ]

@@ -7,21 +7,17 @@ use Rattle.row_checks.proofs.load_check.Tie as tie
 returns : tie.Need-returns
 returns c =
     rw (
-      c .or-else2 .ensures,
-      c .before .or-else .ensures,
-      c .before .before .when3 .ensures,
-      c .before .before .before .before .when2 .ensures,
-      c .before .before .before .before .before .saturated .ensures,
-      c .before .before .before .before .before .before .when .ensures,
-      c .before .before .before .before .before .before .before .load-wrong .ensures,
+      c .or-else .ensures,
+      c .before .when2 .ensures,
+      c .before .before .saturated .ensures,
+      c .before .before .before .when .ensures,
+      c .before .before .before .before .load-wrong .ensures,
     )
 
 pub load-check-spec : {M : Type 1} → statement M
 load-check-spec =
     tie.close
     (tie.spec
-    (λ c κs. search needs)
-    (λ c κs. search needs)
     (λ c κs. search needs)
     (λ c κs. search needs)
     (λ c κs. search needs)

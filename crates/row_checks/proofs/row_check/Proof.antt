@@ -1,4 +1,4 @@
--- `row_checks::row_check` meets its contract: three groups of three.
+-- `row_checks::row_check` meets its contract: two groups of three and two of two.
 -- Assumes nothing.
 use borrow.Author.Needs.{needs}
 use Rattle.sheet.specs.Sheet.{rowCheck}
@@ -9,20 +9,25 @@ use Rattle.row_checks.proofs.row_check.Tie as tie
 returns : tie.Need-returns
 unfolding rowCheck
 returns c =
-    regroup _ _ _ _ _ _ _ _ _ (rw (
-      c .or-else2 .ensures,
-      c .before .or-else .ensures,
-      c .before .before .load-check .ensures,
-      c .before .before .before .use-check .ensures,
-      c .before .before .before .before .class-check .ensures,
-      c .before .before .before .before .before .row-place .ensures,
-      c .before .before .before .before .before .before .row-at .ensures .0,
+    let made = c .before .before .before .before in
+    regroup _ _ _ _ _ _ _ _ _ _ (rw (
+      c .or-else3 .ensures,
+      c .before .or-else2 .ensures,
+      c .before .before .mileage-check .ensures,
+      c .before .before .before .load-check .ensures,
+      made .or-else .ensures,
+      made .before .use-check .ensures,
+      made .before .before .class-check .ensures,
+      made .before .before .before .row-place .ensures,
+      made .before .before .before .before .row-at .ensures .0,
     ))
 
 pub row-check-spec : {M : Type 1} → statement M
 row-check-spec =
     tie.close
     (tie.spec
+    (λ c κs. search needs)
+    (λ c κs. search needs)
     (λ c κs. search needs)
     (λ c κs. search needs)
     (λ c κs. search needs)

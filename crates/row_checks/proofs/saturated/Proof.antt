@@ -6,7 +6,7 @@ use native.Mathlib.Nat.{le-antisymm}
 use native.Mathlib.Numerals.{add-one}
 use borrow.Author.Needs.{needs}
 use native.Mathlib.Omega.{arith}
-use Rattle.sheet.specs.Sheet.{saturationWrong, someSeason, seasonCheck}
+use Rattle.sheet.specs.Sheet.{saturationAbove, someSeason, seasonCheck}
 use Rattle.sheet.proofs.Versions.{start-between}
 use Rattle.sheet.proofs.Checks.{each-pass}
 use Rattle.sheet.proofs.InRange.{passed-in-range}
@@ -14,29 +14,29 @@ use Rattle.row_checks.proofs.saturated.Statement.{statement}
 use Rattle.row_checks.proofs.saturated.Tie as tie
 
 abbrev Inv-loop : tie.InvT-loop
-Inv-loop s canister saturation n wrong₀ i₀ wrong i = (i ≤ n) × (wrong ≡ someSeason (saturationWrong canister saturation) s i)
+Inv-loop s limit canister saturation n wrong₀ i₀ wrong i = (i ≤ n) × (wrong ≡ someSeason (saturationAbove limit canister saturation) s i)
 
 abbrev μ-loop : tie.MeasureT-loop
-μ-loop s canister saturation n wrong₀ i₀ wrong i = n - i
+μ-loop s limit canister saturation n wrong₀ i₀ wrong i = n - i
 
 loop-holds : tie.Need-loop-holds Inv-loop μ-loop
 unfolding someSeason
 loop-holds c = (search needs, refl)
 
-saturation-wrong-requires : tie.Need-saturation-wrong-requires Inv-loop μ-loop
-saturation-wrong-requires c κs =
+saturation-above-requires : tie.Need-saturation-above-requires Inv-loop μ-loop
+saturation-above-requires c κs =
     let l = c .before .before .loop in
     let start = c .before .before .before .before .before in
     let season = c .season-at .ensures in
     let s = start .args .s .now in
     let passes = each-pass (seasonCheck s) _ (start .pre .0 .passed) (l .i) (search needs) in
-    (passed-in-range s (l .i) passes (season .0) (season .2) (season .3), start .pre .1)
+    (passed-in-range s (l .i) passes (season .0) (season .2) (season .3), start .pre .1, start .pre .2)
 
 loop-again : tie.Need-loop-again Inv-loop μ-loop
 unfolding someSeason
 loop-again c =
     let l = c .before .before .before .loop in
-    (search needs, rw (add-one, l .inv .1, c .saturation-wrong .ensures, c .before .season-at .ensures .0))
+    (search needs, rw (add-one, l .inv .1, c .saturation-above .ensures, c .before .season-at .ensures .0))
 
 returns : tie.Need-returns Inv-loop μ-loop
 returns c = let l = c .before .loop in l .inv .1 ∙ ap (someSeason _ _) (le-antisymm (search needs) (search needs))
@@ -50,7 +50,7 @@ saturated-spec =
     (λ c κs. omega (arith, start-between (c .before .args .s .now)))
     loop-holds
     (λ c κs. search needs)
-    saturation-wrong-requires
+    saturation-above-requires
     (λ c. search needs)
     (λ c. search needs)
     loop-again

@@ -8,8 +8,9 @@ use Rattle.sheet.specs.Range.{markWarmth}
 use Rattle.sheet.proofs.Temperature.{warmth-most}
 use Rattle.factors.specs.Escape.{base, growth}
 use Rattle.factors.proofs.Canister.{saturation-most}
-use Rattle.breakthrough.specs.Curves.{baseAt, growthAt}
-use Rattle.breakthrough.proofs.Fitted.{fitted-ready, losses-tab}
+use Rattle.factors.specs.Units.{rowStart, baseAt, growthAt}
+use Rattle.breakthrough.specs.Curves.{startAt}
+use Rattle.breakthrough.proofs.Fitted.{loads-ready, fitted-ready, losses-tab}
 use borrow.Author.Needs.{needs}
 use Rattle.breakthrough.proofs.curves.fit.Statement.{statement}
 use Rattle.breakthrough.proofs.curves.fit.Tie as tie
@@ -40,27 +41,54 @@ growths-known c =
 saturation-fits : (s : tie.Start) → s .args .row .saturation ≤ 3685
 saturation-fits s = let f = s .pre .1 in saturation-most (f .season-in) (f .row-in) (f .canister-there)
 
-first-losses-requires : tie.Need-first-losses-requires
-first-losses-requires c κs =
+start-loads-requires : tie.Need-start-loads-requires
+start-loads-requires c κs =
     let g = c .before .before in
     let b = g .before .before in
     let p = b .before .pre in
     let f = p .1 in
-    (p .0, fitted-ready (f .season-in) (f .row-in) (f .canister-there) (bases-known b) (growths-known g) (c .before .tenth-grams .ensures) (c .tenth-grams2 .ensures) (f .vapour-is))
+    (p .0, loads-ready (f .season-in) (f .row-in) (f .canister-there) (bases-known b) (growths-known g))
+
+loads-known : (c : tie.After-start-loads)
+    → let s = c .before .before .before .before .before .before in c .start-loads .result ≡ tab (startAt (s .args .season) (s .args .row)) 48
+loads-known c =
+    let g = c .before .before .before in
+    let b = g .before .before in
+    let a = b .before .args in
+    c .start-loads .ensures ∙
+    tab-ext 48
+    (λ k h.
+    ap₂ (λ (base growth : ℕ). rowStart (a .row) base growth) (rw (bases-known b) (getD-tab (baseAt (a .season) (a .row)) 48 k h))
+    (rw (growths-known g) (getD-tab (growthAt (a .season) (a .row)) 48 k h)))
+
+first-losses-requires : tie.Need-first-losses-requires
+first-losses-requires c κs =
+    let t = c .before in
+    let w = t .before in
+    let g = w .before .before .before in
+    let b = g .before .before in
+    let p = b .before .pre in
+    let f = p .1 in (
+      p .0,
+      fitted-ready (f .season-in) (f .row-in) (f .canister-there) (bases-known b) (growths-known g) (loads-known w) (t .tenth-grams .ensures) (f .vapour-is),
+      c .loss-error .ensures .1,
+    )
 
 returns : tie.Need-returns
 returns c =
-    let l = c .before in
-    let g = l .before .before in
+    let t = c .before .before in
+    let w = t .before in
+    let g = w .before .before .before in
     let b = g .before .before in
-    let es = l .before .tenth-grams .ensures in
-    let el = l .tenth-grams2 .ensures in
+    let es = t .tenth-grams .ensures in
     record {
       bases-are = bases-known b;
       growths-are = growths-known g;
-      firsts-are = c .first-losses .ensures ∙ losses-tab _ _ (bases-known b) (growths-known g) es el;
+      loads-are = loads-known w;
+      firsts-are =
+          c .first-losses .ensures ∙
+          losses-tab _ _ _ (bases-known b) (growths-known g) (loads-known w) es (c .before .loss-error .ensures .0);
       saturation-is = es;
-      load-is = el;
       gain-is = b .before .pre .1 .vapour-is;
     }
 
@@ -71,7 +99,8 @@ fit-spec =
     (λ c κs. (temperate c, c .pre .1 .season-in .vp-most))
     (λ c κs. search needs)
     (λ c κs. let s = c .before .before in (temperate s, s .pre .1 .season-in .vp-most, c .halves .ensures .1))
-    (λ c κs. saturation-fits (c .before .before .before))
-    (λ c κs. omega (arith, c .before .before .before .before .pre .1 .row-in .load-most, saturation-fits (c .before .before .before .before)))
+    start-loads-requires
+    (λ c κs. saturation-fits (c .before .before .before .before .before .before))
+    (λ c κs. search needs)
     first-losses-requires
     returns)

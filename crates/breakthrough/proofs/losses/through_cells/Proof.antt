@@ -22,15 +22,15 @@ abbrev μ-loop : tie.MeasureT-loop
 
 through-requires : tie.Need-through-requires Inv-loop μ-loop
 through-requires c κs =
-    let m = c .before .before .before .before in
-    let l = c .before .before .before .before .before .before in
+    let m = c .before .before .before .before .before in
+    let l = m .before .before in
     let p = l .before .pre in
     (p .0, p .1 .ready (m .mark-of .result) _ (m .mark-of .ensures .1), omega (arith, p .2 .at-most (l .loop .cell)))
 
 loop-again : tie.Need-loop-again Inv-loop μ-loop
 loop-again c =
-    let m = c .before .before .before .before .before in
-    let l = c .before .before .before .before .before .before .before in
+    let m = c .before .before .before .before .before .before in
+    let l = m .before .before in
     let a = l .before .args in
     filled-more (l .loop .inv) (omega arith)
     (c .through .ensures ∙ ap (λ (mark : ℕ). through (curveAt (a .t3) mark) (at (a .rises .now) (l .loop .cell))) (m .mark-of .ensures .0))
@@ -49,6 +49,8 @@ through-cells-spec =
     μ-loop
     (λ c. filled-none _ (replicate 576 0) refl)
     (λ c κs. search needs)
+    (λ c. search needs)
+    (λ c. search needs)
     (λ c. search needs)
     (λ c. search needs)
     (λ c. search needs)

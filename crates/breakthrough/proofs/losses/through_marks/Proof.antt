@@ -19,7 +19,7 @@ abbrev μ-loop : tie.MeasureT-loop
 
 through-requires : tie.Need-through-requires Inv-loop μ-loop
 through-requires c κs =
-    let l = c .before .before .before .before .before in
+    let l = c .before .before .before .before .before .before in
     let p = l .before .pre in
     (p .0, p .1 .ready (l .loop .mark) _ (omega arith), omega (arith, p .2 .at-most (l .loop .mark)))
 
@@ -38,7 +38,8 @@ through-marks-spec =
     (λ c. filled-none _ (replicate 48 0) refl)
     (λ c. search needs) (λ c. search needs) (λ c. search needs) (λ c. search needs)
     (λ c. search needs) (λ c. search needs) (λ c. search needs) (λ c. search needs)
+    (λ c. search needs) (λ c. search needs)
     through-requires
     (λ c. search needs) (λ c. search needs) (λ c. search needs) (λ c. search needs)
-    (λ c. filled-more (c .before .before .before .before .before .before .loop .inv) (omega arith) (c .through .ensures))
+    (λ c. filled-more (c .before .before .before .before .before .before .before .loop .inv) (omega arith) (c .through .ensures))
     returns)

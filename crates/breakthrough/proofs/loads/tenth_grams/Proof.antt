@@ -1,8 +1,8 @@
--- `breakthrough::curves::tenth_grams` meets its contract.
+-- `breakthrough::loads::tenth_grams` meets its contract.
 use Rattle.factors.specs.Escape.{tenthGrams}
 use borrow.Author.Needs.{needs}
-use Rattle.breakthrough.proofs.curves.tenth_grams.Statement.{statement}
-use Rattle.breakthrough.proofs.curves.tenth_grams.Tie as tie
+use Rattle.breakthrough.proofs.loads.tenth_grams.Statement.{statement}
+use Rattle.breakthrough.proofs.loads.tenth_grams.Tie as tie
 
 returns : tie.Need-returns
 unfolding tenthGrams

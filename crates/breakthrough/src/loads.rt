@@ -1,0 +1,58 @@
+// The load of a canister at parking start, and how far what is lost there can be above the computed one.
+use bounds::exp::ONE;
+use classes::halves;
+use exact::Row;
+use starting_loads::mileage::net;
+use starting_loads::steps::starts;
+ghost use mathlib.Core.Path.{_≡_};
+ghost use Prim.Native.Nat.{ℕ, _≤_};
+ghost use Rattle.bounds.specs.Exponential.{entries};
+ghost use Rattle.numbers.specs.Lists.{tab, at};
+ghost use Rattle.factors.specs.Escape.{tenthGrams, drivenError};
+ghost use Rattle.factors.specs.Units.{rowStart, lossError};
+ghost use Rattle.breakthrough.specs.Curves.{LoadsReady};
+
+// From this mileage on a canister is not empty.
+const FIRST_KILOMETRES: u64 = 17;
+
+// How far a loss can be above the computed one, in units of 2^-40 g: at a written load, and at one that is found.
+const WRITTEN_ERROR: u64 = 179;
+
+const DRIVEN_ERROR: u64 = 161733;
+
+// Tenths of a gram in units of 2^-40 g, cut.
+pub fn tenth_grams(m: u64) -> u64
+    requires { ⌜ m ≤ 3685 ⌝ }
+    ensures { λ r. ⌜ r ≡ tenthGrams m ⌝ }
+{
+    m * ONE / 10
+}
+
+// How far the loss at parking start can be above the computed one.
+pub fn loss_error(row: Row) -> u64
+    ensures { λ r. ⌜ (r ≡ lossError row) × (r ≤ drivenError) ⌝ }
+{
+    if FIRST_KILOMETRES <= row.mileage {
+        DRIVEN_ERROR
+    } else {
+        WRITTEN_ERROR
+    }
+}
+
+// The load at each mark: found from the mileage, or written. (Up to 16 km both are 0.)
+pub fn start_loads(
+    tables: &[u64; 578],
+    row: Row,
+    bases: &[u64; 48],
+    growths: &[u64; 48],
+) -> [u64; 48]
+    requires { ⌜ (now tables ≡ entries) × LoadsReady row (now bases) (now growths) ⌝ }
+    ensures { λ r. ⌜ r ≡ tab (λ (mark : ℕ). rowStart row (at (now (bases .entry)) mark) (at (now (growths .entry)) mark)) 48 ⌝ }
+{
+    if FIRST_KILOMETRES <= row.mileage {
+        let canister = row.canister;
+        let kept = net(tables, row.mileage, halves(canister));
+        return starts(tables, bases, growths, tenth_grams(row.saturation), kept);
+    }
+    [tenth_grams(row.load); 48]
+}

@@ -1,0 +1,28 @@
+-- The load at parking start and its error, by whether they come from the mileage.
+-- Assumes nothing.
+use mathlib.Core.Path.{_≡_, refl}
+use Prim.Native.Nat.{ℕ, _≤_, _<_}
+use borrow.Author.Tests.{le-leb, lt-leb}
+use Rattle.exact.specs.declared.Row.{Row}
+use Rattle.starting_loads.specs.Net.{startUnits}
+use Rattle.sheet.specs.Range.{halves}
+use Rattle.factors.specs.Escape.{tenthGrams, writtenError, drivenError}
+use Rattle.factors.specs.Units.{rowStart, lossError}
+
+module _ (row : Row) where
+  pub start-driven : (A K : ℕ) → 17 ≤ row .mileage
+      → rowStart row A K ≡ startUnits A K (halves (row .canister)) (tenthGrams (row .saturation)) (row .mileage)
+  unfolding rowStart
+  start-driven A K h = rw (rowStart, le-leb 17 (row .mileage) h) refl
+
+  pub start-written : (A K : ℕ) → row .mileage < 17 → rowStart row A K ≡ tenthGrams (row .load)
+  unfolding rowStart
+  start-written A K h = rw (rowStart, lt-leb 17 (row .mileage) h) refl
+
+  pub error-driven : 17 ≤ row .mileage → lossError row ≡ drivenError
+  unfolding lossError
+  error-driven h = rw (lossError, le-leb 17 (row .mileage) h) refl
+
+  pub error-written : row .mileage < 17 → lossError row ≡ writtenError
+  unfolding lossError
+  error-written h = rw (lossError, lt-leb 17 (row .mileage) h) refl
