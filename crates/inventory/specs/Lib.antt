@@ -1,3 +1,4 @@
 pub mod FactorCall
 pub mod ReportCall
 pub mod SameGrid
+pub mod NextVersion
