@@ -32,9 +32,16 @@ pub record Slope : Type 0 where
   pub moved : ℕ → ℕ
   pub moves : (w : ℕ) → Within (2 ^ 40) 0 (moved w) (ratio (22 * w + 1) (10 ^ 14) (ten-pos 14) *ᶠ steepest)
 
-pub held-3 : (x : ℕ) → exponent x ≤ᶠ 3 /10^ 0 → x ≤ 19 * 10 ^ 14
-unfolding _/10^_
+pub held-3 : (x : ℕ) → exponent x ≤ᶠ whole 3 → x ≤ 19 * 10 ^ 14
+unfolding whole
 held-3 x h = omega (arith, h .cross)
+
+written-3 : whole 3 ≤ᶠ 3 /10^ 0
+unfolding whole _/10^_
+written-3 = omega arith
+
+pub steep-3 : (n : ℕ) → 40 ≤ n → {z : Fraction} → z ≤ᶠ whole 3 → E n z ≤ᶠ 201 /10^ 1
+steep-3 n n40 h = E-below 40 3 0 201 1 (omega arith) end-3 n n40 (≤-trans h written-3)
 
 pub moves-3 : (w : ℕ) → Within (2 ^ 40) 0 (5 * w + 1) (ratio (22 * w + 1) (10 ^ 14) (ten-pos 14) *ᶠ 201 /10^ 1)
 unfolding ratio _*ᶠ_ _/10^_
@@ -43,12 +50,12 @@ moves-3 w = omega arith
 -- up to 3: E is at most 20.1 and moves by five units for each of m
 abbrev pub slopeTo3 : Slope
 slopeTo3 = record {
-  top = 3 /10^ 0;
+  top = whole 3;
   last = 19 * 10 ^ 14;
   held = held-3;
   last-fits = omega arith;
   steepest = 201 /10^ 1;
-  steep = λ n n40 h. E-below 40 3 0 201 1 (omega arith) end-3 n n40 h;
+  steep = steep-3;
   error = 171;
   error-most = exponentialError-3;
   moved = λ (w : ℕ). 5 * w + 1;
