@@ -1,6 +1,7 @@
 // What a carbon canister has let through at a load, and what breaks through it of the vapour of a rise, in units of 2^-40 g.
 use bounds::exp::exponential;
 use bounds::fixed::mul_shift;
+use bounds::order::less;
 ghost use mathlib.Core.Path.{_≡_};
 ghost use Prim.Native.Nat.{_+_, _*_, _-_, _^_, _<_, _≤_};
 ghost use Rattle.bounds.specs.Exponential.{entries};
@@ -18,13 +19,6 @@ pub struct Curve {
     pub first: u64,
     // Vapour for a rise of 1 in E(0.0716 T).
     pub gain: u64,
-}
-
-// a - b, and 0 where b is above a.
-fn less(a: u64, b: u64) -> u64
-    ensures { λ r. ⌜ r ≡ a - b ⌝ }
-{
-    if b < a { a - b } else { 0 }
 }
 
 // B(m): what the canister has let through at the load m.
