@@ -1,4 +1,4 @@
--- E at the ends of the ranges that an accepted sheet brings, each by one computed comparison: what `E-below` asks for.
+-- E at the ends of the ranges that an accepted sheet brings, each by one computed comparison: what `E-below` asks for, and `ratio-≤-E`.
 use Prim.Native.Nat.{_^_}
 use lib.Dec.{T}
 use Rattle.bounds.proofs.Tail.{belowTest}
@@ -12,6 +12,11 @@ end-0·44 = tt
 pub end-2·255 : T (belowTest (10 ^ 3) 40 (10 ^ 2) 2255 954 0)
 unfolding belowTest
 end-2·255 = tt
+
+-- 16 ≤ E(2.78), of a mileage of 16 km
+pub end-2·78 : T (belowTest (10 ^ 2) 40 16 0 1 278)
+unfolding belowTest
+end-2·78 = tt
 
 -- E(2.8201) ≤ 16.9, of a mileage of 17 km
 pub end-2·8201 : T (belowTest (10 ^ 4) 40 (10 ^ 1) 28201 169 0)
@@ -32,3 +37,8 @@ end-3·58 = tt
 pub end-4·0096 : T (belowTest (10 ^ 4) 40 (10 ^ 0) 40096 56 0)
 unfolding belowTest
 end-4·0096 = tt
+
+-- 8 ≤ E(7.75), of what an empty canister loses
+pub end-7·75 : T (belowTest (10 ^ 2) 40 8 0 1 775)
+unfolding belowTest
+end-7·75 = tt

@@ -1,7 +1,7 @@
 -- E along a straight line, E(a + b·m), for an m that is known within a width: a law with E's slope as its parameter.
 -- a is held as A, an exponent; 2·b as K, in units of 10⁻¹⁴; m in units of 2⁻⁴⁰.
 -- Assumes nothing.
-use Prim.Native.Nat.{ℕ, _+_, _*_, _-_, _^_, _/_, _≤_, _<_, min}
+use Prim.Native.Nat.{ℕ, _+_, _*_, _^_, _/_, _≤_, _<_, min}
 use native.Mathlib.Omega.{arith}
 use native.Mathlib.Nat.{mul-le-mul-right, mul-le-mul-left, le-of-mul-le-mul-right}
 use Rattle.numbers.specs.Fraction.{Fraction, _≤ᶠ_, _≈ᶠ_, _+ᶠ_, _-ᶠ_, _*ᶠ_, whole, _/10^_, ten-pos}

@@ -1,13 +1,13 @@
--- E along a straight line to the first order, up to an exponent of 0: from l to an m that is at most w above it, all in units of 2⁻⁴⁰, E(a + b·m) is
--- the computed E at l and b·(m − l) times as much, from below by the chord, from above by the tangent and the square of the way.
+-- E along a straight line to the first order, up to an exponent of 0. From l to an m that is at most w above it, all in units of 2⁻⁴⁰, and with x the
+-- computed E at l: E(a + b·m) is x + b·(m − l)·x or more, by the chord, and at most the square of w/4 more, by the tangent.
 -- Assumes nothing.
 use Prim.Native.Nat.{ℕ, _+_, _*_, _^_, _/_, _≤_, _<_}
 use native.Mathlib.Omega.{arith}
 use Rattle.numbers.specs.Fraction.{Fraction, _≤ᶠ_, _≈ᶠ_, _+ᶠ_, _-ᶠ_, _*ᶠ_, whole, ten-pos}
-use Rattle.numbers.proofs.Order.{NonNegative, whole-nonNegative, ≤-refl, ≤-trans, ≤-by, ≈-refl, ≈-sym, ≈-trans, ≈→≤, ≈→≥, ≈-by, +-mono, +-cong, +-comm, +-assoc, +-nonNegative, sub-nonNegative, ≤-sub, ≤-minus, regain, *-mono-left, *-mono-right, *-comm, *-one, *-distrib, +-times, ratio, ratio-nonNegative}
+use Rattle.numbers.proofs.Order.{NonNegative, whole-nonNegative, ≤-refl, ≤-trans, ≈-refl, ≈-sym, ≈-trans, ≈→≤, ≈→≥, ≈-by, +-mono, +-cong, +-comm, +-assoc, +-nonNegative, sub-nonNegative, ≤-sub, ≤-minus, regain, *-mono-left, *-mono-right, *-comm, *-one, *-distrib, +-times, ratio, ratio-nonNegative}
 use Rattle.bounds.specs.Series.{E}
 use Rattle.bounds.specs.Enclosure.{Within}
-use Rattle.bounds.specs.Exponential.{exponential, exponent, exponentLimit}
+use Rattle.bounds.specs.Exponential.{exponential, exponent}
 use Rattle.bounds.proofs.Exponential.{E-mono, E-tangent}
 use Rattle.bounds.proofs.Sums.{chord}
 use Rattle.bounds.proofs.ExponentialBound.{exponential-within, exponential-size, exponentialError-0}

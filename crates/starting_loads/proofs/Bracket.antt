@@ -7,7 +7,7 @@ use native.Mathlib.Omega.{arith}
 use native.Mathlib.Decide.{decLe}
 use native.Mathlib.Nat.{mul-le-mul-right, pow-le-pow-right, le-refl}
 use Rattle.numbers.specs.Fraction.{Fraction, _≤ᶠ_, _≈ᶠ_, _+ᶠ_, _-ᶠ_, _*ᶠ_, whole}
-use Rattle.numbers.proofs.Order.{NonNegative, positive→nonNegative, ≤-refl, ≤-trans, ≈-refl, ≈-sym, ≈→≤, ≈→≥, +-mono, +-cong, +-comm, +-grows, +-nonNegative, sub-cong, sub-≤, regain, *-cong, ratio, ratio-nonNegative}
+use Rattle.numbers.proofs.Order.{NonNegative, positive→nonNegative, nonNegative→≤, ≤-refl, ≤-trans, ≈-refl, ≈→≤, ≈→≥, +-mono, +-cong, +-comm, +-grows, +-nonNegative, sub-cong, sub-≤, regain, *-cong, ratio, ratio-nonNegative}
 use Rattle.bounds.specs.Series.{E}
 use Rattle.bounds.specs.Enclosure.{Within}
 use Rattle.bounds.specs.Exponential.{exponent}
@@ -36,14 +36,15 @@ unfolding multiple
 multiple-mono n k = omega arith
 
 -- the first is 0
-multiple-0 : (n : ℕ) {x : Fraction} → NonNegative x → multiple n 0 ≤ᶠ x
-unfolding multiple
-multiple-0 n h = record { cross = omega (arith, mul-le-mul-right (2 ^ n) (h .nonneg)) }
+pub multiple-0 : (n : ℕ) → multiple n 0 ≈ᶠ whole 0
+unfolding multiple whole
+multiple-0 n = omega arith
 
 -- what is lost at a load
 abbrev pub lost : ℕ → ℕ → ℕ → Fraction → Fraction
 lost n A K m = E n (along A K m)
 
+-- it is 0 or more
 lost-nonNegative : (n A K : ℕ) (m : Fraction) → NonNegative (lost n A K m)
 lost-nonNegative n A K m = positive→nonNegative (E-positive n (along A K m))
 
@@ -76,14 +77,17 @@ module _ (n A K : ℕ) {σ : ℕ} (vp s saturation T : Fraction) (n40 : 40 ≤ n
         let here : m' ≤ᶠ lost n A K m +ᶠ units (G + W) = ≤-trans before (+-mono (E-mono n (along-mono A K l)) (≤-refl _)) in
         ≤-trans h (≤-trans (+-mono here (≤-refl (units 1))) (≈→≤ (units-fold (lost n A K m) (G + W) 1)))
 
+    -- 0 ≤ m_sat
     sat-nonNegative : NonNegative saturation
     sat-nonNegative = within-nonNegative unit-pos full
 
+    -- the load is the first that reaches M, a later one, or m_sat
     balanced : {m : Fraction} → IsStart n vp s T M saturation m → Balanced n A K G W saturation m
     balanced (smallest zero l r before) = record {
       most = l;
       least = inr (reaching (multiple n 0) r);
-      near = multiple-0 n (+-nonNegative (lost-nonNegative n A K _) (ratio-nonNegative (G + W + 1) unit-pos));
+      near =
+          ≤-trans (≈→≤ (multiple-0 n)) (nonNegative→≤ (+-nonNegative (lost-nonNegative n A K _) (ratio-nonNegative (G + W + 1) unit-pos)));
     }
     balanced (smallest (suc k) l r before) = record {
       most = l;
@@ -110,10 +114,11 @@ module _ (n A K G W : ℕ) {σ : ℕ} {saturation m : Fraction} (top : along A K
     pub along-0 : along A K m ≤ᶠ whole 0
     along-0 = ≤-trans (along-mono A K (c .most)) top
 
-    -- what a lower bound is that holds of m_sat, and where G and what is lost are at most m
+    -- a count up to σ is at most m, if it is so where G and what is lost are
     pub at-least : {k : ℕ} → k ≤ σ → (lost n A K m +ᶠ units G ≤ᶠ m → units k ≤ᶠ m) → units k ≤ᶠ m
     at-least h f = ⊎-elim (λ l. ≤-trans (units-≤ h) (≤-trans (within-above unit-pos full) l)) f (c .least)
 
+    -- a count above σ is at least m
     pub at-most : {k : ℕ} → σ < k → m ≤ᶠ units k
     at-most h = ≤-trans (c .most) (≤-trans (within-below unit-pos full) (units-≤ (omega arith)))
 

@@ -1,20 +1,19 @@
--- Newton's steps enclose the starting load.
+-- Newton's steps enclose a balanced load: each stays below it, and leaves of its width a square.
 -- Assumes nothing.
-use mathlib.Core.Path.{_≡_, refl}
+use mathlib.Core.Path.{_≡_}
 use Prim.Native.Nat.{ℕ, suc, zero, _+_, _*_, _-_, _^_, _/_, _≤_, _<_, min}
 use native.Mathlib.Omega.{arith}
 use native.Mathlib.Decide.{decLe}
-use native.Mathlib.Nat.{mul-le-mul-right, mul-le-mul-left, mul-le-mul, le-of-mul-le-mul-right, div-mul-le-self, lt-div-mul-add}
-use lib.Dec.{lit≤}
+use native.Mathlib.Nat.{mul-le-mul-left, mul-le-mul, div-mul-le-self, lt-div-mul-add}
 use Rattle.numbers.specs.Fraction.{Fraction, _≤ᶠ_, _≈ᶠ_, _+ᶠ_, _-ᶠ_, _*ᶠ_, whole}
-use Rattle.numbers.proofs.Order.{NonNegative, Positive, ≤-refl, ≤-trans, ≈-refl, ≈-sym, ≈-trans, ≈→≤, ≈→≥, +-mono, +-cong, +-comm, +-assoc, sub-nonNegative, ≤-sub, ≤-minus, regain, *-mono-left, *-mono-right, *-cong, *-swap, +-times, solve-least, solve-most, ratio, ratio-≤, ratio-nonNegative, ratio-positive, ratio-sum, ratio-product, ratio-one}
+use Rattle.numbers.proofs.Order.{NonNegative, Positive, ≤-refl, ≤-trans, ≈-refl, ≈-sym, ≈-trans, ≈→≤, ≈→≥, +-mono, +-comm, sub-nonNegative, ≤-sub, ≤-minus, regain, *-mono-left, *-mono-right, *-cong, *-swap, +-times, solve-least, solve-most, ratio, ratio-≤, ratio-nonNegative, ratio-positive, ratio-sum, ratio-product, ratio-one}
 use Rattle.bounds.specs.Enclosure.{Within}
 use Rattle.bounds.specs.Exponential.{exponential}
 use Rattle.bounds.proofs.Within.{within-above, within-below, within-from}
 use Rattle.bounds.proofs.Units.{unit-pos, units, units-≤, units-sum, units-fold}
 use Rattle.bounds.proofs.Line.{slopeTo0, rising, along, along-most, exponential-most-1}
 use Rattle.bounds.proofs.Tangent.{tangent-least, tangent-near}
-use Rattle.starting_loads.specs.Steps.{slope, added, stepped, step, steps, stepCount, startError}
+use Rattle.starting_loads.specs.Steps.{slope, added, stepped, step, steps}
 use Rattle.starting_loads.proofs.Bracket.{lost, Balanced, along-0, at-least, at-most, unstepped}
 
 -- The slope.
@@ -46,38 +45,6 @@ two-parts : (w : ℕ) → parts 2 *ᶠ units w ≤ᶠ units (w / 2 ^ 18 + 1)
 unfolding ratio _*ᶠ_
 two-parts w = record { cross = omega arith }
 
--- What is lost at a load m, from a load l that is at most w below it.
-module _ (n A K : ℕ) {l w : ℕ} {m : Fraction} (n40 : 40 ≤ n) (hK : K ≤ 22 * 2 ^ 41) (top : along A K m ≤ᶠ whole 0) (a : Within (2 ^ 40) l w m) where
-  -- what is lost at l
-  abbrev x : ℕ
-  x = exponential (A + K * l / 2 ^ 41)
-
-  -- how far m is above l
-  abbrev way : Fraction
-  way = m -ᶠ units l
-
-  way-nonNegative : NonNegative way
-  way-nonNegative = sub-nonNegative (within-above unit-pos a)
-
-  way-most : way ≤ᶠ units w
-  way-most = ≤-sub (units l) (units w) (≤-trans (within-below unit-pos a) (≈→≥ (units-sum l w)))
-
-  lost-least : parts (slope K x) *ᶠ way +ᶠ units x ≤ᶠ lost n A K m
-  lost-least =
-      ≤-trans
-      (+-mono (≤-trans (*-mono-left way-nonNegative (slope-low K x)) (≈→≤ (*-swap (rising K) (units x) way))) (≤-refl (units x)))
-      (tangent-least A K m a hK top n n40)
-
-  lost-near : lost n A K m ≤ᶠ parts (slope K x) *ᶠ way +ᶠ units (w / 2 ^ 18 + 1 + (x + (21 + (w / 4 + 1) * (w / 4 + 20) / 2 ^ 40)))
-  lost-near = ≤-trans (tangent-near A K m a hK top n n40) (≤-trans (+-mono along-way (≤-refl _)) (≈→≤ (units-fold _ _ _)))
-    where
-      along-way : rising K *ᶠ way *ᶠ units x ≤ᶠ parts (slope K x) *ᶠ way +ᶠ units (w / 2 ^ 18 + 1)
-      along-way =
-          ≤-trans (≈→≤ (*-swap (rising K) way (units x)))
-          (≤-trans (*-mono-left way-nonNegative (slope-high K x))
-          (≤-trans (≈→≤ (≈-trans (*-cong (≈-sym (ratio-sum (slope K x) 2 (2 ^ 19) parts-pos)) (≈-refl way)) (+-times _ _ way)))
-          (+-mono (≤-refl _) (≤-trans (*-mono-right (ratio-nonNegative 2 parts-pos) way-most) (two-parts w)))))
-
 -- What is added.
 
 -- r·2¹⁹/p cut, over bare numbers: it is at least r
@@ -98,10 +65,11 @@ quotient-most r p k C h g =
 quotient-none : (p k : ℕ) → 0 < p → k * p ≤ 0 → k ≡ 0
 quotient-none p k h g = omega (arith, mul-le-mul-left k h, g)
 
--- k·(p/2¹⁹) against r
+-- k·p/2¹⁹ ≤ r
 shrink : (k p r : ℕ) → k * p ≤ r * 2 ^ 19 → units k *ᶠ parts p ≤ᶠ units r
 shrink k p r h = ≤-trans (≈→≤ (ratio-product k p unit-pos parts-pos)) (ratio-≤ _ _ _ unit-pos (omega (arith, h)))
 
+-- r ≤ k·p/2¹⁹
 stretch : (k p r : ℕ) → r * 2 ^ 19 ≤ k * p → units r ≤ᶠ units k *ᶠ parts p
 stretch k p r h = ≤-trans (ratio-≤ _ _ unit-pos _ (omega (arith, h))) (≈→≥ (ratio-product k p unit-pos parts-pos))
 
@@ -110,15 +78,15 @@ whole-parts : (q p : ℕ) → q + p ≡ 2 ^ 19 → parts q +ᶠ parts p ≈ᶠ w
 whole-parts q p e = ≈-trans (ratio-sum q p (2 ^ 19) parts-pos) (rw e (ratio-one (2 ^ 19) parts-pos))
 
 module _ (K x r : ℕ) (q-most : slope K x ≤ 2 ^ 17) where
+  -- what is added is r·2¹⁹/p cut
+  added-low : added K x r * (2 ^ 19 - slope K x) ≤ r * 2 ^ 19
+  unfolding added
+  added-low = div-mul-le-self (r * 2 ^ 19) (2 ^ 19 - slope K x)
+
   -- from above
   added-high : r * 2 ^ 19 < added K x r * (2 ^ 19 - slope K x) + (2 ^ 19 - slope K x)
   unfolding added
-  added-high = omega (arith, lt-div-mul-add {a = r * 2 ^ 19} {b = 2 ^ 19 - slope K x} (omega arith))
-
-  -- and from below
-  added-low : added K x r * (2 ^ 19 - slope K x) ≤ r * 2 ^ 19
-  unfolding added
-  added-low = omega (arith, div-mul-le-self (r * 2 ^ 19) (2 ^ 19 - slope K x))
+  added-high = lt-div-mul-add {a = r * 2 ^ 19} (omega arith)
 
 -- Widths, for a G of width W.
 
@@ -131,48 +99,49 @@ unfoldable pub stepsWidth : ℕ → ℕ → ℕ
 stepsWidth W zero = 2 ^ 40 + W + 1
 stepsWidth W (suc i) = 4 * leftOpen W (stepsWidth W i) / 3 + 2
 
--- how far G can be off, at s = 0.5
-abbrev pub netError : ℕ
-netError = 71514
-
--- the steps that are taken bring the width down
-pub start-width : stepsWidth netError stepCount ≤ startError
-unfolding stepsWidth leftOpen
-start-width = lit≤ tt
-
 -- A step, and all of them.
 module _ (n A K G W : ℕ) {σ : ℕ} {saturation m : Fraction} (n40 : 40 ≤ n) (hK : K ≤ 22 * 2 ^ 41) (top : along A K saturation ≤ᶠ whole 0)
     (full : Within (2 ^ 40) σ 1 saturation) (c : Balanced n A K G W saturation m)
   where
+    -- the exponent at m is at most 0
     top-m : along A K m ≤ᶠ whole 0
     top-m = along-0 n A K G W top full c
 
     module _ {l w : ℕ} (a : Within (2 ^ 40) l w m) where
-      -- what is lost at l, its slope and the rest of it; what is missing, and what is added
-      abbrev lost-l : ℕ
-      lost-l = exponential (A + K * l / 2 ^ 41)
+      -- what is lost at l, and how far m is above l
+      abbrev x : ℕ
+      x = exponential (A + K * l / 2 ^ 41)
 
+      abbrev way : Fraction
+      way = m -ᶠ units l
+
+      -- the slope at l, and what is left of a whole
       abbrev q : ℕ
-      q = slope K lost-l
+      q = slope K x
 
       abbrev p : ℕ
       p = 2 ^ 19 - q
 
+      -- what is missing, what is added, and what is left open
       abbrev missing : ℕ
-      missing = min σ (G + lost-l) - l
+      missing = min σ (G + x) - l
 
       abbrev k : ℕ
-      k = added K lost-l missing
+      k = added K x missing
 
-      -- what is left open
       abbrev C : ℕ
       C = leftOpen W w
 
-      abbrev far : Fraction
-      far = m -ᶠ units l
+      -- 0 ≤ m − l ≤ w
+      way-nonNegative : NonNegative way
+      way-nonNegative = sub-nonNegative (within-above unit-pos a)
 
+      way-most : way ≤ᶠ units w
+      way-most = ≤-sub (units l) (units w) (≤-trans (within-below unit-pos a) (≈→≥ (units-sum l w)))
+
+      -- q ≤ 1/4, so that something is left
       q-most : q ≤ 2 ^ 17
-      q-most = slope-most K lost-l hK (exponential-most-1 _ (along-most A K m a slopeTo0 top-m))
+      q-most = slope-most K x hK (exponential-most-1 _ (along-most A K m a slopeTo0 top-m))
 
       p-pos : Positive (parts p)
       p-pos = ratio-positive parts-pos (omega (arith, q-most))
@@ -180,45 +149,65 @@ module _ (n A K G W : ℕ) {σ : ℕ} {saturation m : Fraction} (n40 : 40 ≤ n)
       q-and-p : parts q +ᶠ parts p ≈ᶠ whole 1
       q-and-p = whole-parts q p (omega (arith, q-most))
 
+      -- what is lost at m is q·(m − l) + x or more
+      lost-least : parts q *ᶠ way +ᶠ units x ≤ᶠ lost n A K m
+      lost-least =
+          ≤-trans (+-mono (≤-trans (*-mono-left way-nonNegative (slope-low K x)) (≈→≤ (*-swap (rising K) (units x) way))) (≤-refl (units x)))
+          (tangent-least A K m a hK top-m n n40)
+
+      -- and little more
+      lost-near : lost n A K m ≤ᶠ parts q *ᶠ way +ᶠ units (w / 2 ^ 18 + 1 + (x + (21 + (w / 4 + 1) * (w / 4 + 20) / 2 ^ 40)))
+      lost-near = ≤-trans (tangent-near A K m a hK top-m n n40) (≤-trans (+-mono along-way (≤-refl _)) (≈→≤ (units-fold _ _ _)))
+        where
+          along-way : rising K *ᶠ way *ᶠ units x ≤ᶠ parts q *ᶠ way +ᶠ units (w / 2 ^ 18 + 1)
+          along-way =
+              ≤-trans (≈→≤ (*-swap (rising K) way (units x)))
+              (≤-trans (*-mono-left way-nonNegative (slope-high K x))
+              (≤-trans (≈→≤ (≈-trans (*-cong (≈-sym (ratio-sum q 2 (2 ^ 19) parts-pos)) (≈-refl way)) (+-times _ _ way)))
+              (+-mono (≤-refl _) (≤-trans (*-mono-right (ratio-nonNegative 2 parts-pos) way-most) (two-parts w)))))
+
+      -- the step stays below m: q·(m − l) + missing ≤ m − l
       low : units (min σ (l + k)) ≤ᶠ m
       low =
           at-least n A K G W top full c (omega arith)
           (λ h.
-          elim (decLe (min σ (G + lost-l)) l) [
+          elim (decLe (min σ (G + x)) l) [
             | yes z ↦
                 let none : missing ≡ 0 = omega arith in
-                let k0 : k ≡ 0 = quotient-none p k (omega (arith, q-most)) (omega (arith, none, added-low K lost-l missing q-most)) in
+                let k0 : k ≡ 0 = quotient-none p k (omega (arith, q-most)) (omega (arith, none, added-low K x missing q-most)) in
                 ≤-trans (units-≤ (omega (arith, k0))) (within-above unit-pos a)
             | no z ↦
-                let all : parts q *ᶠ far +ᶠ units missing +ᶠ units l ≤ᶠ m =
+                let all : parts q *ᶠ way +ᶠ units missing +ᶠ units l ≤ᶠ m =
                 ≤-trans (≈→≤ (units-fold _ missing l))
-                (≤-trans (+-mono (≤-refl _) (units-≤ {k = lost-l + G} (omega arith)))
-                (≤-trans (≈→≥ (units-fold _ lost-l G)) (≤-trans (+-mono (lost-least n A K n40 hK top-m a) (≤-refl _)) h))) in
-                let k-far : units k ≤ᶠ far =
-                solve-least (parts q) far p-pos q-and-p (shrink k p missing (added-low K lost-l missing q-most)) (≤-minus _ (units l) all) in
-                ≤-trans (units-≤ (omega arith)) (≤-trans (≈→≥ (units-sum l k)) (≤-trans (+-mono (≤-refl (units l)) k-far) (≈→≤ (regain m (units l)))))
+                (≤-trans (+-mono (≤-refl _) (units-≤ {k = x + G} (omega arith)))
+                (≤-trans (≈→≥ (units-fold _ x G)) (≤-trans (+-mono lost-least (≤-refl _)) h))) in
+                let k-way : units k ≤ᶠ way =
+                solve-least (parts q) way p-pos q-and-p (shrink k p missing (added-low K x missing q-most)) (≤-minus _ (units l) all) in
+                ≤-trans (units-≤ (omega arith)) (≤-trans (≈→≥ (units-sum l k)) (≤-trans (+-mono (≤-refl (units l)) k-way) (≈→≤ (regain m (units l)))))
           ])
 
+      -- and comes close to it: m − l ≤ q·(m − l) + missing + C
       high : m ≤ᶠ units (min σ (l + k) + (4 * C / 3 + 2))
       unfolding leftOpen
       high =
           elim (decLe σ (l + k)) [
             | yes z ↦ at-most n A K G W top full c (omega arith)
             | no z ↦
-                let kr : missing ≤ k = quotient-least missing p k (omega arith) (added-high K lost-l missing q-most) in
-                let all : m ≤ᶠ units l +ᶠ (parts q *ᶠ far +ᶠ units (missing + C)) =
+                let r : missing ≤ k = quotient-least missing p k (omega arith) (added-high K x missing q-most) in
+                let all : m ≤ᶠ units l +ᶠ (parts q *ᶠ way +ᶠ units (missing + C)) =
                 ≤-trans (c .near)
-                (≤-trans (+-mono (lost-near n A K n40 hK top-m a) (≤-refl _))
+                (≤-trans (+-mono lost-near (≤-refl _))
                 (≤-trans (≈→≤ (units-fold _ _ (G + W + 1)))
                 (≤-trans (+-mono (≤-refl _) (units-≤ {k = missing + C + l} (omega arith)))
                 (≈→≤ (≈-trans (≈-sym (units-fold _ (missing + C) l)) (+-comm _ _)))))) in
-                let far-k : far ≤ᶠ units (k + (4 * C / 3 + 2)) =
-                solve-most (parts q) far p-pos q-and-p
-                (stretch _ p (missing + C) (quotient-most missing p k C (omega (arith, q-most)) (added-high K lost-l missing q-most)))
+                let way-k : way ≤ᶠ units (k + (4 * C / 3 + 2)) =
+                solve-most (parts q) way p-pos q-and-p
+                (stretch _ p (missing + C) (quotient-most missing p k C (omega (arith, q-most)) (added-high K x missing q-most)))
                 (≤-sub (units l) _ all) in
-                ≤-trans (≈→≥ (regain m (units l))) (≤-trans (+-mono (≤-refl (units l)) far-k) (≤-trans (≈→≤ (units-sum l _)) (units-≤ (omega arith))))
+                ≤-trans (≈→≥ (regain m (units l))) (≤-trans (+-mono (≤-refl (units l)) way-k) (≤-trans (≈→≤ (units-sum l _)) (units-≤ (omega arith))))
           ]
 
+      -- a step from l
       step-within : Within (2 ^ 40) (step A K σ G l) (4 * C / 3 + 2) m
       unfolding step stepped
       step-within = within-from unit-pos low high

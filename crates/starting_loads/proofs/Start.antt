@@ -4,6 +4,7 @@ use mathlib.Core.Path.{_≡_}
 use Prim.Native.Nat.{ℕ, _+_, _*_, _-_, _^_, _/_, _≤_, _<_}
 use native.Mathlib.Omega.{arith}
 use native.Mathlib.Nat.{mul-le-mul-right, le-of-mul-le-mul-right, div-mul-le-self, lt-div-mul-add}
+use lib.Dec.{lit≤}
 use Rattle.numbers.specs.Fraction.{Fraction, _≤ᶠ_, _≈ᶠ_, _+ᶠ_, _*ᶠ_, whole, _/10^_, inverse}
 use Rattle.numbers.proofs.Order.{either, ≤-trans, ≈-refl, ≈→≤, ≈→≥, +-cong, *-cong, ratio}
 use Rattle.bounds.specs.Enclosure.{Within, WithinAll}
@@ -21,32 +22,36 @@ use Rattle.thresholds.proofs.Found.{enough-reaches, enough-least, short-enough,
 use Rattle.starting_loads.specs.Steps.{stepCount, startError}
 use Rattle.starting_loads.specs.Net.{net, startUnits}
 use Rattle.starting_loads.proofs.Bracket.{startingLoad-balanced}
-use Rattle.starting_loads.proofs.Newton.{netError, start-width, steps-within}
+use Rattle.starting_loads.proofs.Newton.{leftOpen, stepsWidth, steps-within}
 
 pub halves-pos : 0 < 2
 halves-pos = omega arith
 
--- "(s·g + 22.92)/8.13"
-abbrev pub reading : Fraction → Fraction → Fraction
-reading s x = (s *ᶠ x +ᶠ 2292 /10^ 2) *ᶠ inverse (813 /10^ 2)
+-- "(s·g + 22.92)/8.13", the exponent of the kilometres driven
+abbrev pub drivenExponent : Fraction → Fraction → Fraction
+drivenExponent s x = (s *ᶠ x +ᶠ 2292 /10^ 2) *ᶠ inverse (813 /10^ 2)
 
--- equal sizes have equal ones
-pub reading-cong : {s s' : Fraction} (x : Fraction) → s ≈ᶠ s' → reading s x ≈ᶠ reading s' x
-reading-cong x e = *-cong (+-cong (*-cong e (≈-refl x)) (≈-refl _)) (≈-refl _)
+-- equal sizes have equal exponents
+pub drivenExponent-cong : {s s' : Fraction} (x : Fraction) → s ≈ᶠ s' → drivenExponent s x ≈ᶠ drivenExponent s' x
+drivenExponent-cong x e = *-cong (+-cong (*-cong e (≈-refl x)) (≈-refl _)) (≈-refl _)
 
 -- y ≤ (s·x + 22.92)/8.13 gives G ≤ x, for G ≤ (8.13·y − 22.92)/s
 net-low : (h y G : ℕ) (x : Fraction) → 0 < h → G * h * 10 ^ 16 + 4584 * 10 ^ 14 * 2 ^ 40 ≤ 1626 * y * 2 ^ 40
-    → exponents y ≤ᶠ reading (ratio h 2 halves-pos) x → units G ≤ᶠ x
+    → exponents y ≤ᶠ drivenExponent (ratio h 2 halves-pos) x → units G ≤ᶠ x
 unfolding ratio _+ᶠ_ _*ᶠ_ _/10^_ inverse
 net-low h y G x h0 k l =
     record { cross = le-of-mul-le-mul-right {k = h} (omega (arith, mul-le-mul-right (x .den) k, l .cross)) h0 }
 
 -- (s·x + 22.92)/8.13 ≤ y gives x ≤ G, for (8.13·y − 22.92)/s ≤ G
 net-high : (h y G : ℕ) (x : Fraction) → 0 < h → 1626 * y * 2 ^ 40 ≤ G * h * 10 ^ 16 + 4584 * 10 ^ 14 * 2 ^ 40
-    → reading (ratio h 2 halves-pos) x ≤ᶠ exponents y → x ≤ᶠ units G
+    → drivenExponent (ratio h 2 halves-pos) x ≤ᶠ exponents y → x ≤ᶠ units G
 unfolding ratio _+ᶠ_ _*ᶠ_ _/10^_ inverse
 net-high h y G x h0 k l =
     record { cross = le-of-mul-le-mul-right {k = h} (omega (arith, mul-le-mul-right (x .den) k, l .cross)) h0 }
+
+-- how far what is kept can be off, at s = 0.5
+abbrev netError : ℕ
+netError = 71514
 
 -- the cuts of `net`, over bare numbers: v = 8.13·y − 22.92, t = 2·v/h
 low-cut : (h t v y G : ℕ) → v + 2292 * 10 ^ 14 ≡ 813 * y → t * h ≤ 2 * v → G * 5 ^ 16 ≤ t * 2 ^ 24
@@ -76,6 +81,11 @@ module _ (h y : ℕ) (h0 : 0 < h) (y0 : 282 * 10 ^ 12 ≤ y) where
       next : (t : ℕ) → t * 2 ^ 24 ≤ (t * 2 ^ 24 / 5 ^ 16 + 1) * 5 ^ 16
       next t = omega arith
 
+-- so far the steps that are taken bring the width down
+start-width : stepsWidth netError stepCount ≤ startError
+unfolding stepsWidth leftOpen
+start-width = lit≤ tt
+
 -- a = A, 2·b·s = K and s = h/2 as they are held, number 25 at m_sat, and m_sat as it is held
 module _ (A K h σ M : ℕ) (vp s saturation T : Fraction) (ea : a vp T ≈ᶠ exponent A) (eb : b vp T *ᶠ s ≈ᶠ rising K) (es : s ≈ᶠ ratio h 2 halves-pos)
     (h0 : 0 < h) (hK : K ≤ 22 * 2 ^ 41) (top : along A K saturation ≤ᶠ whole 0) (full : Within (2 ^ 40) σ 1 saturation) (least : 17 ≤ M)
@@ -93,8 +103,8 @@ module _ (A K h σ M : ℕ) (vp s saturation T : Fraction) (ea : a vp T ≈ᶠ e
     unfolding driven
     low n n40 m r =
         let x : Fraction = g n vp s T m in
-        either (exponents (short M)) (reading s x)
-        (λ l. net-low h (short M) G x h0 (net-above h (short M) h0 short-least) (≤-trans l (≈→≤ (reading-cong x es))))
+        either (exponents (short M)) (drivenExponent s x)
+        (λ l. net-low h (short M) G x h0 (net-above h (short M) h0 short-least) (≤-trans l (≈→≤ (drivenExponent-cong x es))))
         (λ l. absurd (short-fails M least most n n40 (≤-trans (r .far) (E-mono n l))))
 
     -- one that does not has a g of at most G and `netError`
@@ -102,13 +112,13 @@ module _ (A K h σ M : ℕ) (vp s saturation T : Fraction) (ea : a vp T ≈ᶠ e
     unfolding driven
     high n n40 m r =
         let x : Fraction = g n vp s T m in
-        either (reading s x) (exponents (enough M))
+        either (drivenExponent s x) (exponents (enough M))
         (λ l.
         net-high h (enough M) (G + netError) x h0 (rw (← (short-enough M least most)) (net-below h (short M) h0 short-least))
-        (≤-trans (≈→≥ (reading-cong x es)) l))
+        (≤-trans (≈→≥ (drivenExponent-cong x es)) l))
         (λ l. absurd (r (record { far = ≤-trans (enough-reaches M least most n n40) (E-mono n l) })))
 
-    -- the starting load, within an eighth of a microgram
+    -- the starting load, within 0.12 µg
     pub mileage-within : WithinAll (2 ^ 40) (startUnits A K h σ M) startError (λ n. startingLoad n vp s T M saturation)
     mileage-within = record {
       at = λ n n40.

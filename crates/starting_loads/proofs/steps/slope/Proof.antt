@@ -1,5 +1,4 @@
 -- `starting_loads::steps::slope` meets its contract: the product fits.
-use Prim.Native.Nat.{ℕ, _*_, _/_, _^_, _≤_}
 use native.Mathlib.Omega.{arith}
 use native.Mathlib.Nat.{mul-le-mul}
 use borrow.Author.Needs.{needs}

@@ -1,6 +1,6 @@
 -- `starting_loads::steps::start` meets its contract: so many steps are taken.
-use mathlib.Core.Path.{_≡_, refl, _∙_, ap}
-use Prim.Native.Nat.{ℕ, suc, _+_, _-_, _≤_, min}
+use mathlib.Core.Path.{_≡_, _∙_, ap}
+use Prim.Native.Nat.{_-_, _≤_, min}
 use native.Mathlib.Omega.{arith}
 use native.Mathlib.Numerals.{add-one}
 use borrow.Author.Needs.{needs}

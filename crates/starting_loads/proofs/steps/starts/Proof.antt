@@ -34,14 +34,8 @@ starts-spec =
     Inv-loop
     μ-loop
     (λ c. filled-none _ (replicate 48 0) refl)
-    (λ c. search needs)
-    (λ c. search needs)
-    (λ c. search needs)
-    (λ c. search needs)
+    (λ c. search needs) (λ c. search needs) (λ c. search needs) (λ c. search needs)
     start-requires
-    (λ c. search needs)
-    (λ c. search needs)
-    (λ c. search needs)
-    (λ c. search needs)
+    (λ c. search needs) (λ c. search needs) (λ c. search needs) (λ c. search needs)
     (λ c. filled-more (c .before .before .before .before .loop .inv) (omega arith) (c .start .ensures .0))
     returns)

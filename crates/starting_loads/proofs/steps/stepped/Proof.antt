@@ -1,5 +1,5 @@
 -- `starting_loads::steps::stepped` meets its contract: at most a gram is missing, so the product and the sum fit.
-use Prim.Native.Nat.{ℕ, _+_, _*_, _-_}
+use Prim.Native.Nat.{_*_, _-_}
 use native.Mathlib.Omega.{arith}
 use native.Mathlib.Nat.{div-le-self}
 use borrow.Author.Needs.{needs}
