@@ -6,8 +6,9 @@ then computes anew from the definitions in specs/.
   python3 tools/values.py            writes the file
   python3 tools/values.py --check    says whether the file is up to date
 
-The starting loads are chosen so that each of MISREADINGS changes one of them;
-the run ends where that is not so.
+The starting loads are chosen so that each of MISREADINGS changes one of them,
+and the rows with a mileage so that T1 for T2 in running changes a factor; the
+run ends where that is not so.
 """
 
 import os
@@ -73,6 +74,22 @@ row class=1 technology=0 fill=25 minutes=10
 """),
 )
 
+# the same with a mileage; these have a grid, and so make sheets of version 3
+DRIVEN_SCENES = (
+    ("odometer-car", 3, "a small canister after 14 km", ((2, 12, 1),), """
+season days=1 lowest=10.0 highest=30.0 vp=60.0
+row class=1 technology=2 fill=35 minutes=60 saturation=5.3 mileage=14
+"""),
+    ("odometer-motorcycle", 3, "a two-wheeler after 30 km: its load at T2 is above that at T1", ((4, 12, 1),), """
+season days=1 lowest=10.0 highest=30.0 vp=70.0
+row class=9 technology=1 fill=50 minutes=45 saturation=7.0 mileage=30
+"""),
+    ("odometer-never", 2, "a mileage that is never reached; m_sat is no multiple", ((2, 10, 1),), """
+season days=1 lowest=5.0 highest=25.0 vp=70.0
+row class=2 technology=4 fill=40 minutes=15 saturation=3.3 mileage=1000000
+"""),
+)
+
 # the same for masses: two seasons, c and p inside 0 to 100
 YEARS = (
     ("year", 2, "two seasons, c and p inside 0 to 100, a canister", ((1, 13, 3), (4, 13, 2)), """
@@ -84,6 +101,13 @@ row class=1 technology=2 carburettor=40 hot=30 fill=35 vehicles=1000 trips=2.50 
 season days=200 lowest=10.0 highest=30.0 vp=60.0
 season days=165 lowest=-5.0 highest=8.0 vp=90.0
 row class=7 technology=0 carburettor=40 hot=30 fill=35 vehicles=1000 trips=2.50 minutes=20
+"""),
+)
+DRIVEN_YEARS = (
+    ("odometer-year", 2, "two seasons of two-wheelers after 22 km", ((3, 13, 2),), """
+season days=200 lowest=10.0 highest=30.0 vp=60.0
+season days=165 lowest=-5.0 highest=8.0 vp=90.0
+row class=9 technology=2 carburettor=40 hot=30 fill=35 vehicles=1000 trips=2.50 minutes=20 saturation=15.0 mileage=22
 """),
 )
 
@@ -236,6 +260,15 @@ def load_claim(name, n, about, vp, s, T, M, m_sat):
         "unfolding definitions same", "%s = tt" % name))
 
 
+def same_at_both_ends(read, n, cells):
+    """Whether the load of each parking at T1 is that at T2."""
+    season, row = read.seasons[0], read.rows[0]
+    return all(
+        evaporation.load_of(row, season, evaporation.temperature(season, evaporation.start_mark(hour, half_hours)), n, "exact")
+        == evaporation.load_of(row, season, evaporation.temperature(season, 2 * hour), n, "exact")
+        for half_hours, hour, _ in cells)
+
+
 def claim(name, n, about, durations, hours, seasons, row, call, values):
     lines = ["", "-- %s; n = %d" % (about, n), "abbrev %s-cells : List ℕ" % name,
              "%s-cells =" % name,
@@ -257,12 +290,16 @@ def text():
     parts = [HEAD.rstrip("\n")]
     for words in unseen():
         raise SystemExit("no starting load would show: %s" % words)
-    for name, n, about, cells, description in SCENES:
+    ends = []
+    for name, n, about, cells, description in SCENES + DRIVEN_SCENES:
         data, durations, hours = sheet_of(cells, description)
         read = evaporation.read(data)
+        ends.append(evaporation.is_two_wheeler(read.rows[0]) and not same_at_both_ends(read, n, cells))
         parts.append(claim(name, n, about, durations, hours, read.seasons, read.rows[0], "factors",
                            evaporation.factors(read, 0, 0, n, "exact")))
-    for name, n, about, cells, description in YEARS:
+    if not any(ends):
+        raise SystemExit("no two-wheeler has another load at T2 than at T1")
+    for name, n, about, cells, description in YEARS + DRIVEN_YEARS:
         data, durations, hours = sheet_of(cells, description)
         read = evaporation.read(data)
         parts.append(claim(name, n, about, durations, hours, read.seasons, read.rows[0], "masses",
