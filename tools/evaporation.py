@@ -5,11 +5,12 @@ The method is Tier 3 of the guidebook (source document 001) as document 01
 settles it. This file is a second reckoning, made apart from the program, so
 that the program's lows and highs can be held against it.
 
-Sheets of two versions are read. Version 1 has two lists of counts, durations
+Sheets of three versions are read. Version 1 has two lists of counts, durations
 and end hours; version 2 has a grid of 576 counts, end hour 1 first, its 24
 durations in a row. Both are read as a grid, that of two lists being their
-products, and a cell weighs its count over the sum of all. Whatever follows the
-reading knows the grid alone.
+products, and a cell weighs its count over the sum of all. Version 3 is version
+2 with a mileage in every row, 0 where the written load counts; before version 3
+it is 0. Whatever follows the reading knows a grid and mileages, and no version.
 
 Two ways of reckoning ("modes"):
 
@@ -24,16 +25,18 @@ Why 30 places are good in decimal mode. Call 2^-384 one unit; every cut is
 off by less than one unit.
 - A series S_n(y) loses at most two units with each term, and what a term
   loses enters the later ones multiplied by at most y^k/k!, so the sum is off
-  by at most 2n.S_n(y) units, and by S_n(y) more because y itself is cut. No
-  exponent of an accepted sheet is above 15 in size, so S_n(y) < 2^22, and for
-  n below 2^20 the sum is off by less than 2^44 units. 1/S_n(-y) is off by no
-  more, as S_n is at least 1.
+  by at most 2n.S_n(y) units, and by S_n(y) more because y itself is cut. But
+  for eq. 12, below, no exponent of an accepted sheet is above 15 in size, so
+  S_n(y) < 2^22, and for n below 2^20 the sum is off by less than 2^44 units.
+  1/S_n(-y) is off by no more, as S_n is at least 1.
 - Vapour multiplies differences of E by at most 150.0.025.E(2.255) < 2^6 and
   takes up to 24 of them, each E being below 2^6: less than 2^62 units.
 - Breakthrough puts vapour into E. The exponent stays at or below 3 (rule 20),
   where E grows by less than 2^5 for each unit of exponent, and b.s < 1/4:
   less than 2^66 units. B has no jump at m_sat, so falling on the wrong side
   of it by a few units moves the result by as little.
+- A load from a mileage is no approximation but the very multiple of 2^-n, so
+  that it adds nothing to this: see starting_load.
 - A mass multiplies by at most 366 days, 10^7 vehicles and 20 trips < 2^37.
 So factors and masses are off by less than 2^104 units, that is 2^-280 or
 10^-84. Printed decimals are CUT after 30 places, not rounded. A decimal-mode
@@ -45,6 +48,8 @@ Commands (SEASON and ROW counted from 0, as in the call; K from 1 to 7):
   factor SHEET SEASON ROW K [--n N] [--exact]
   factors SHEET [SEASON ROW] [--n N] [--exact]
   masses SHEET [--n N] [--exact]        rows numbered from 1, as in the report
+  loads SHEET SEASON ROW [--n N] [--exact]   the load at parking start, in
+                                        grams, for a T of each mark
   e Y [--n N] [--exact]                 E(Y), Y such as -3/2 or 0.7
   root T [--n N] [--exact]              T^2.5
   weights                               the 48 weights in billionths
@@ -122,12 +127,13 @@ WEIGHTS = _weights()
 # ----------------------------------------------------------------- the sheet
 
 # Numbers as the sheet has them: temperatures, vp, tank, load and saturation
-# in tenths, trips in hundredths, shares and fill level in percent.
+# in tenths, trips in hundredths, shares and fill level in percent, mileage in
+# km.
 Season = namedtuple("Season", "days lowest highest vp")
 Row = namedtuple(
     "Row",
     "vehicle_class technology canister carburettor hot fill tank vehicles "
-    "trips minutes load saturation spare",
+    "trips minutes load saturation mileage",
 )
 # The grid has a tuple for each end hour, of the counts of its 24 durations.
 Sheet = namedtuple("Sheet", "grid seasons rows")
@@ -150,8 +156,13 @@ def _counts(data, at, many):
 
 
 def _has_grid(data):
-    """Whether the parking is a grid (version 2) or two lists (version 1)."""
-    return _u16(data, 3) == 2
+    """Whether the parking is a grid (versions 2 and 3) or two lists (1)."""
+    return _u16(data, 3) in (2, 3)
+
+
+def _has_mileage(data):
+    """Whether bytes 20 to 23 of a row are a mileage (version 3) or zero."""
+    return _u16(data, 3) == 3
 
 
 def seasons_start(data):
@@ -170,7 +181,7 @@ def row_at(data, at):
     return Row(
         *data[at:at + 6],
         _u16(data, at + 6), _u32(data, at + 8), _u16(data, at + 12), _u16(data, at + 14),
-        _u16(data, at + 16), _u16(data, at + 18), bytes(data[at + 20:at + 24]),
+        _u16(data, at + 16), _u16(data, at + 18), _u32(data, at + 20),
     )
 
 
@@ -199,7 +210,7 @@ def check(data, words=None, call=None):
         return 1, 0
     if bytes(data[0:3]) != b"EVP":
         return 2, 0
-    if _u16(data, 3) not in (1, 2):
+    if _u16(data, 3) not in (1, 2, 3):
         return 3, 3
     seasons, rows = data[5], data[6]
     if not 1 <= seasons <= 12:
@@ -231,7 +242,7 @@ def check(data, words=None, call=None):
 
     for index in range(rows):
         place = start + 8 * seasons + 24 * index
-        number = _check_row(row_at(data, place), all_seasons)
+        number = _check_row(row_at(data, place), all_seasons, _has_mileage(data))
         if number is not None:
             return number, place
 
@@ -258,7 +269,7 @@ def _check_grid(data):
     return None
 
 
-def _check_row(row, seasons):
+def _check_row(row, seasons, with_mileage):
     if table_entry(row.vehicle_class, row.technology) is None:
         return 13
     if row.canister not in (NONE, SMALL, MEDIUM, LARGE, BY_CLASS):
@@ -276,14 +287,32 @@ def _check_row(row, seasons):
         return 19
     if canister == NONE and (row.load or row.saturation):
         return 19
-    if canister != NONE:
-        for season in seasons:
-            a, b = canister_a_b(season, Fraction(season.highest, 10))
-            if a + b * CANISTER_S[canister] * Fraction(row.saturation, 10) > 3:
-                return 20
-    if row.spare != bytes(4):
+    if canister != NONE and _highest_exponent(row, seasons) > 3:
+        return 20
+    if with_mileage and _mileage_wrong(row, seasons):
+        return 25
+    if not with_mileage and row.mileage:
         return 21
     return None
+
+
+def _highest_exponent(row, seasons):
+    """a + b.s.m_sat of a row with a canister, in the season that has it highest
+    at its highest temperature."""
+    found = []
+    for season in seasons:
+        a, b = canister_a_b(season, Fraction(season.highest, 10))
+        found.append(a + b * CANISTER_S[canister_of(row)] * Fraction(row.saturation, 10))
+    return max(found)
+
+
+def _mileage_wrong(row, seasons):
+    """The conditions of number 25."""
+    if row.mileage > 1_000_000:
+        return True
+    if row.mileage == 0:
+        return False
+    return canister_of(row) == NONE or row.load > 0 or _highest_exponent(row, seasons) > 0
 
 
 def read(data):
@@ -422,6 +451,112 @@ def canister_a_b(season, T):
     return a, b
 
 
+# ---------------------------------------------------- the load from a mileage
+
+
+def driven(numbers, a, b, s, m):
+    """E((s.g + 22.92)/8.13), the kilometres of a load of m grams (eq. 12), with
+    g = m - E(a + b.s.m), what the canister keeps of it (eq. 9)."""
+    m = numbers.number(m)
+    g = m - numbers.E(numbers.number(a) + numbers.scaled(m, b * s))
+    shifted = numbers.scaled(g, s) + numbers.number(Fraction(2292, 100))
+    return numbers.E(numbers.scaled(shifted, Fraction(100, 813)))
+
+
+@functools.lru_cache(maxsize=None)
+def starting_load(a, b, s, M, m_sat, n, mode="decimal"):
+    """The smallest multiple of 2^-n gram, from 0 to m_sat, that reaches M, that
+    is whose driven() is at least M; m_sat where none does. In grams and km.
+
+    In both modes it is that multiple and no approximation. For small n and in
+    mode exact it is found as the sentence has it, by trying one multiple after
+    the other. Else the multiples are too many, and it is found between one
+    that does not reach M and one that does; that needs a + b.s.m_sat to be at
+    most 0, as it is where number 25 lets a row pass.
+    """
+    last = m_sat.numerator * 2 ** n // m_sat.denominator
+    find = _first if mode == "exact" and n <= MOST_TRIED else _between
+    k = find(a, b, s, M, last, n)
+    return m_sat if k is None else Fraction(k, 2 ** n)
+
+
+MOST_TRIED = 6  # n up to which the multiples are few enough to try each
+
+
+def _first(a, b, s, M, last, n):
+    """The first k from 0 to `last` with k/2^n reaching M, or None."""
+    numbers = ExactNumbers(n)
+    return next((k for k in range(last + 1) if driven(numbers, a, b, s, Fraction(k, 2 ** n)) >= M), None)
+
+
+# Nearer to M than so many units of mode decimal, fractions decide. With
+# a + b.s.m at most 0 the inner E is off by less than 2^44 units (head of this
+# file) and the exponent of the outer one by less than 2^43. That exponent is
+# below 22, since s.m <= -a/b <= 14.6/0.0955 < 153, and e^22 < 2^32; so the
+# outer E is off by less than 2^43.2^32, and 2^21.2^32 of its own.
+NEAR = 2 ** 80
+
+
+def _between(a, b, s, M, last, n):
+    """The same k for every n. Both ends of an interval are drawn together, the
+    lower end not reaching M and the upper one reaching it, until they are
+    neighbours: so the k that is given was seen to reach M, and k - 1 was seen
+    not to.
+
+    No smaller one reaches it then, because driven() grows with the load. E
+    grows; up to an exponent of 0 it grows by at most 1 for each 1, so that
+    E(a + b.s.m) grows by at most b.s < 1/4 a gram and g by more than 3/4.
+
+    How the next k is chosen does not matter for this. It is where the chord of
+    log(driven/M) meets 0, which is nearly a straight line; an end that stays
+    twice counts half, or it might stay for long (the Illinois rule).
+    """
+    if a + b * s * Fraction(last, 2 ** n) > 0:
+        raise ValueError("a + b.s.m_sat above 0")
+
+    def beyond(k):
+        """log(driven/M), at least 0 where k/2^n reaches M. Where the decimals
+        cannot tell, fractions do."""
+        m = Fraction(k, 2 ** n)
+        numbers = ScaledNumbers(n)
+        aim = numbers.number(M)
+        apart = driven(numbers, a, b, s, m) - aim
+        if abs(apart) < NEAR:
+            return 0.0 if driven(ExactNumbers(n), a, b, s, m) >= M else -NEAR / aim
+        return math.log1p(apart / aim)
+
+    low, high = 0, last
+    below, above = beyond(low), beyond(high)
+    if below >= 0:
+        return 0
+    if above < 0:
+        return None
+    stayed = None
+    while high - low > 1:
+        k = low + round((high - low) * (below / (below - above)))
+        k = min(max(k, low + 1), high - 1)
+        found = beyond(k)
+        if found >= 0:
+            high, above = k, found
+            below, stayed = (below / 2 if stayed == "low" else below), "low"
+        else:
+            low, below = k, found
+            above, stayed = (above / 2 if stayed == "high" else above), "high"
+    return high
+
+
+def load_of(row, season, T, n, mode):
+    """The load at parking start of a row, in grams, where the escape starts
+    from T: as written, or where there is a mileage, the load that reaches it."""
+    if row.mileage == 0:
+        return Fraction(row.load, 10)
+    a, b = canister_a_b(season, T)
+    return starting_load(a, b, CANISTER_S[canister_of(row)], row.mileage, Fraction(row.saturation, 10), n, mode)
+
+
+# ------------------------------------------------------------------ the day
+
+
 class Day:
     """A season's day of 48 marks. What depends on the season alone is
     reckoned once and kept, as every row asks for it again."""
@@ -429,6 +564,7 @@ class Day:
     def __init__(self, season, n, mode):
         self.season = season
         self.n = n
+        self.mode = mode
         self.numbers = numbers_of(mode, n)
         vp = Fraction(season.vp, 10)
         self.T = tuple(temperature(season, i) for i in range(48))
@@ -480,7 +616,7 @@ class Escape:
             a, b = canister_a_b(day.season, day.T[i])
             self.a = self.numbers.number(a)
             self.bs = b * CANISTER_S[canister_of(row)]
-            self.m1 = self.numbers.number(Fraction(row.load, 10))
+            self.m1 = self.numbers.number(load_of(row, day.season, day.T[i], day.n, day.mode))
             self.m_sat = self.numbers.number(Fraction(row.saturation, 10))
             self.lost_before = self.lost(self.m1)
 
@@ -706,7 +842,7 @@ def run(words, out=sys.stdout):
                 print(number, technology, tank, CANISTER_NAMES[canister], "#", name, file=out)
         return 0
 
-    wanted = {"check": (1,), "factor": (4,), "factors": (1, 3), "masses": (1,)}
+    wanted = {"check": (1,), "factor": (4,), "factors": (1, 3), "masses": (1,), "loads": (3,)}
     if command not in wanted or len(rest) not in wanted[command]:
         raise Misuse("command not understood: %s" % " ".join(words))
     try:
@@ -740,6 +876,11 @@ def run(words, out=sys.stdout):
             for k in range(1, 8):
                 value = shown(factor(sheet, s, r, k, n, mode), mode)
                 print("season %d row %d factor %d %s" % (s, r, k, value), file=out)
+    elif command == "loads":
+        season, row = sheet.seasons[numbers[0]], sheet.rows[numbers[1]]
+        for i in range(48):
+            value = load_of(row, season, temperature(season, i), n, mode)
+            print("mark %d %s" % (i, shown(value, "exact") if options["exact"] else cut(value)), file=out)
     else:
         for r in range(len(sheet.rows)):
             for name, value in zip(("diurnal", "soak", "running"), masses(sheet, r, n, mode)):

@@ -26,7 +26,10 @@ from itertools import chain, product
 import evaporation
 import sheets
 from inputs import TOP, answer_text, packed, serve
-from sheets import BY_CLASS, EMPTY, PAIRS, ROW, SEASON, Chance, Plan, cells_grid, chance_grid_plan, chance_plan, most
+from sheets import (
+    BY_CLASS, DRIVEN, EMPTY, PAIRS, ROW, SEASON, Chance, Plan, cells_grid, chance_grid_plan, chance_metered_plan,
+    chance_plan, metered, most,
+)
 
 TERMS = (40, 60)
 NANOGRAMS = 10 ** 9
@@ -38,6 +41,7 @@ CLEAR = Fraction(1, 10 ** 40)
 LEAST_FACTORS = 260
 LEAST_OF_A_FACTOR = 30
 LEAST_OF_GRIDS = 100  # of version 2
+LEAST_OF_MILEAGES = 150  # of rows with a mileage
 ALL = range(1, 8)
 
 # A sheet and the calls on it, each (season, row, factor).
@@ -145,6 +149,8 @@ def sample_groups():
     yield Group("region", data, [(j % 4, j, 1 + j % 7) for j in range(data[6])])
     data = (TOP / "samples" / "survey.evp").read_bytes()
     yield Group("survey", data, [(j % 2, j, k) for j in range(data[6]) for k in (1, 2 + j % 6)])
+    data = (TOP / "samples" / "odometer.evp").read_bytes()
+    yield Group("odometer", data, [(j % 2, j, k) for j in range(data[6]) for k in (1, 2 + j % 6)])
 
 
 def chance_groups():
@@ -215,6 +221,60 @@ def chance_grid_groups():
         yield Group("grid by chance, sum %d" % total, data, sorted(set(calls)))
 
 
+# ---------------------------------------------------------------- version 3
+
+# Up to 16 km an empty canister has them, from 17 km on none has.
+MILEAGES = (1, 16, 17, 1_000, 1_000_000)
+
+# Mild; cold; a day of 40 degrees, at whose cold end a canister can have a
+# mileage that it cannot have at the warm one; and heat.
+METERED_WEATHER = (
+    SEASON, {**SEASON, "lowest": -300, "highest": -250, "vp": 1100},
+    {**SEASON, "lowest": -20, "highest": 380, "vp": 450}, {**SEASON, "lowest": 420, "highest": 500, "vp": 300},
+)
+
+
+# Parkings that start and end in the cold and in the warmth of a day.
+FIVE = cells_grid({(3, 9): 2, (9, 14): 5, (24, 3): 1, (6, 19): 4, (17, 24): 3})
+
+
+def kept(canister, km):
+    """What a canister keeps of its load at a mileage (eq. 12), in tenths of a
+    gram; only to choose saturating loads by."""
+    return max(0, round(10 * (8.13 * math.log(km) - 22.92) / {1: 2, 2: 1, 3: 0.5}[canister]))
+
+
+def driven_rows(season):
+    """Each mileage in each canister: the largest that check 25 lets pass; one
+    that is full a little beyond the load that the mileage makes, so that the
+    vapour of a large tank overflows it; and one that holds nothing, or too
+    little for the mileage."""
+    vehicles = ({"class": 9, "technology": 0}, {"class": 1, "technology": 1}, {"class": 6, "technology": 0})
+    for i, (canister, km) in enumerate(product((1, 2, 3), MILEAGES)):
+        top = most(canister, season, 0)
+        of_vehicle = {**DRIVEN, **vehicles[i % 2], "canister": canister, "mileage": km, "tank": 1500, "fill": 0}
+        yield {**of_vehicle, "saturation": top}
+        yield {**of_vehicle, **vehicles[2], "saturation": min(top, kept(canister, km) + 13)}
+    yield {**DRIVEN, "class": 9, "technology": 1, "saturation": 0}
+    yield {**DRIVEN, "class": 3, "technology": 4, "saturation": 123}
+
+
+def mileage_groups():
+    """A season for each sheet, since the largest load depends on it."""
+    for season in METERED_WEATHER:
+        rows = tuple(driven_rows(season))
+        calls = [(0, j, 1 + (j + k) % 7) for j in range(len(rows)) for k in (0, 3)]
+        plan = replace(metered((season,), rows), grid=FIVE)
+        yield Group("mileages, %s" % sheets.said(season), plan.data(), calls)
+
+
+def chance_mileage_groups():
+    for seasons, rows in ((2, 5), (3, 8)):
+        plan = replace(chance_metered_plan(seasons, rows), grid=FIVE)
+        calls = [(j % seasons, j % rows, 1 + j % 7) for j in range(21)]
+        yield Group("mileages by chance", plan.data(), sorted(set(calls)))
+
+
 # ------------------------------------------------------------------ refused
 
 LARGEST = 2 ** 64 - 1
@@ -222,7 +282,7 @@ LARGEST = 2 ** 64 - 1
 
 def absent_groups():
     """A season, a row or a factor that is not there, number 23."""
-    for plan in (sheets.BASE, sheets.BASE_GRID):
+    for plan in (sheets.BASE, sheets.BASE_GRID, sheets.BASE_METERED):
         yield Group("absent", plan.data(), absent_calls(plan))
 
 
@@ -275,6 +335,8 @@ def groups():
     yield from unlisted_groups()
     yield from listed_groups()
     yield from chance_grid_groups()
+    yield from mileage_groups()
+    yield from chance_mileage_groups()
     yield from absent_groups()
     yield from refused_groups()
 
@@ -302,13 +364,47 @@ def missing(found):
         yield "not every canister code"
     if {call.number for _, call in calls} != {0, 23, *sheets.NUMBERS}:
         yield "not every number"
-    of_grids = sum(sheets.is_grid(group.data) for group, call in calls if not call.number)
+    of_grids = sum(sheets.version_of(group.data) == 2 for group, call in calls if not call.number)
     if of_grids < LEAST_OF_GRIDS:
         yield "%d factors of version 2" % of_grids
+    yield from missing_mileages([(sheet, call) for sheet, call in accepted if sheet.rows[call.row].mileage])
     calls_of = {group.data: group.calls for group in found}
     for plan in LISTED:
         if calls_of[plan.data()] != calls_of[plan.gridded().data()]:
             yield "lists and the grid of their products have other factors"
+
+
+def missing_mileages(accepted):
+    """What the factors of rows with a mileage should show and do not."""
+    if len(accepted) < LEAST_OF_MILEAGES:
+        yield "%d factors of rows with a mileage" % len(accepted)
+    rows = [sheet.rows[call.row] for sheet, call in accepted]
+    for words, seen, wanted in (
+        ("mileages", {row.mileage for row in rows}, set(MILEAGES)),
+        ("sizes", {(evaporation.is_two_wheeler(row), evaporation.canister_of(row)) for row in rows},
+         set(product((False, True), (1, 2, 3)))),
+        ("factors", {(evaporation.is_two_wheeler(sheet.rows[call.row]), call.factor) for sheet, call in accepted},
+         set(product((False, True), ALL))),
+        ("kinds of load", {kind for sheet, call in accepted for kind in kinds_of_load(sheet, call)},
+         {"empty", "between", "full", "full at some marks", "no room"}),
+    ):
+        if not wanted <= seen:
+            yield "rows with a mileage: not all %s" % words
+
+
+def kinds_of_load(sheet, call):
+    """What the loads of a row are over the marks of a day."""
+    row, season = sheet.rows[call.row], sheet.seasons[call.season]
+    full = Fraction(row.saturation, 10)
+    loads = [evaporation.load_of(row, season, evaporation.temperature(season, i), 40, "decimal") for i in (0, 14, 28)]
+    if full == 0:
+        yield "no room"
+    elif full in loads:
+        yield "full" if loads.count(full) == len(loads) else "full at some marks"
+    elif 0 in loads:
+        yield "empty"
+    else:
+        yield "between"
 
 
 def encoded(found):

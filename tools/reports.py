@@ -23,15 +23,19 @@ from itertools import chain
 
 import evaporation
 import sheets
-from factors import LISTED, TWO_ROWS, UNLISTED, few_cells, one_cell, whole
+from factors import FIVE, LISTED, METERED_WEATHER, MILEAGES, TWO_ROWS, UNLISTED, driven_rows, few_cells, one_cell, whole
 from inputs import TOP, answer_text, packed, serve
-from sheets import EMPTY, PAIRS, ROW, SEASON, Chance, Plan, cells_grid, chance_grid_plan, chance_plan, grid_of
+from sheets import (
+    EMPTY, PAIRS, ROW, SEASON, Chance, Plan, cells_grid, chance_grid_plan, chance_metered_plan, chance_plan, grid_of,
+    metered,
+)
 
 WORDS = 256  # the words of its buffer
 MILLIGRAMS = 1000
 
 LEAST_ACCEPTED = 60
 LEAST_GRIDS = 20  # of version 2
+LEAST_MILEAGES = 100  # rows with a mileage and vehicles
 MOST_AT_60 = 40  # seasons times rows up to which n = 60 is calculated too
 
 # A sheet and the words of the buffer.
@@ -56,7 +60,7 @@ def roomy(words, plan):
 
 
 def sample_cases():
-    for name in ("example", "table-3-5", "table-3-5-day", "region", "survey"):
+    for name in ("example", "table-3-5", "table-3-5-day", "region", "survey", "odometer"):
         data = (TOP / "samples" / (name + ".evp")).read_bytes()
         yield Case(name, data, length(data))
 
@@ -156,12 +160,33 @@ def chance_grid_cases():
         yield exactly("grid: sum 1000000 from cell %d on" % start, plan)
 
 
+# ------------------------------------------------------------------ version 3
+
+
+def mileage_cases():
+    """Each mileage in each canister, in a season of each kind."""
+    for i, season in enumerate(METERED_WEATHER):
+        plan = replace(metered((season,), driven_rows(season)), grid=FIVE)
+        yield (exactly, roomy)[i % 2]("mileages, %s" % sheets.said(season), whole_year(plan))
+
+
+def chance_mileage_cases():
+    """Mileages all over their range in several seasons, in whose warmest the
+    canister is full at most just. No parking of the last is without weight."""
+    for i, size in enumerate(((1, 4), (2, 6), (3, 5), (5, 7), (12, 3))):
+        plan = whole_year(replace(chance_metered_plan(*size), grid=FIVE))
+        yield (exactly, roomy)[i % 2]("mileages by chance, %s" % sheets.sized(plan), plan)
+    yield exactly("mileages by chance, all parkings", chance_metered_plan(2, 3).gridded())
+
+
 # -------------------------------------------------------------------- refused
 
 
 def short_cases():
     """Buffers of no word, one word and a word too few, number 22."""
-    for plan in (sheets.SMALLEST, sheets.BASE, sheets.LARGEST, sheets.SMALL_GRID, sheets.LARGE_GRID):
+    for plan in (
+        sheets.SMALLEST, sheets.BASE, sheets.LARGEST, sheets.SMALL_GRID, sheets.LARGE_GRID, sheets.BASE_METERED,
+    ):
         data = plan.data()
         for room in (0, 1, 6 * data[6], length(data) - 1):
             yield Case("room for %d words, %s" % (room, sheets.sized(plan)), data, room)
@@ -205,7 +230,7 @@ def vector(case):
 def all_vectors():
     groups = (
         sample_cases, chance_cases, full_cases, category_cases, limit_cases, listed_cases, cell_cases, unlisted_cases,
-        chance_grid_cases, short_cases, refused_cases,
+        chance_grid_cases, mileage_cases, chance_mileage_cases, short_cases, refused_cases,
     )
     return [vector(case) for group in groups for case in group()]
 
@@ -217,9 +242,12 @@ def missing(vectors):
         yield "%d accepted sheets" % len(accepted)
     if {v.answer[0] for v in vectors} != {0, 22, *sheets.NUMBERS}:
         yield "not every number"
-    grids = sum(sheets.is_grid(v.case.data) for v in vectors if v.rows)
+    grids = sum(sheets.version_of(v.case.data) == 2 for v in vectors if v.rows)
     if grids < LEAST_GRIDS:
         yield "%d accepted sheets of version 2" % grids
+    driven = [row for sheet in accepted for row in sheet.rows if row.mileage and row.vehicles]
+    if len(driven) < LEAST_MILEAGES or not {row.mileage for row in driven} >= set(MILEAGES):
+        yield "%d rows with a mileage, or not all mileages" % len(driven)
     rows_of = {v.case.data: v.rows for v in vectors}
     for plan in listed_plans():
         if rows_of[plan.data()] != rows_of[plan.gridded().data()]:

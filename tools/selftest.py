@@ -25,7 +25,7 @@ import evaporation as ev  # noqa: E402
 import sheet as writer  # noqa: E402
 
 SAMPLES = os.path.join(os.path.dirname(HERE), "samples")
-NAMES = ("example", "table-3-5", "table-3-5-day", "region", "survey")
+NAMES = ("example", "table-3-5", "table-3-5-day", "region", "survey", "odometer")
 MICROGRAM = Fraction(1, 10 ** 6)
 
 
@@ -135,6 +135,15 @@ def check_writer():
         ("\n".join(grid_text({}).split("\n")[:23]), "line 23: grid 24: 24 counts wanted, 0 found"),
         ("durations 1\n" + grid_text({}), "line 2: a grid stands in place of durations and hours"),
         (grid_text({}) + "hours 1", "line 25: a grid stands in place of durations and hours"),
+        # a mileage: whole kilometres, and a grid beside it
+        ("row class=1 technology=1 mileage=12000.5", "line 1: mileage: 12000.5 has a point"),
+        ("row class=1 technology=1 mileage=-1", "line 1: mileage: -1 has a sign"),
+        ("row class=1 technology=1 mileage=4294967296", "line 1: mileage: 4294967296 does not fit"),
+        ("row class=1 technology=1 mileage=84_000", "line 1: mileage: '84_000' is no number"),
+        ("row class=1 technology=1 mileage=1 mileage=1", "line 1: mileage is given twice"),
+        ("row class=1 technology=1 mileage=1 spare=00000001", "line 1: row: mileage and spare are the same bytes"),
+        (FEW_CELLS + "row class=1 technology=0\nrow class=1 technology=1 mileage=0\nrow class=1 technology=1 mileage=7",
+         "line 4: row: a mileage wants a grid in place of durations and hours"),
     )
     for text, expected in faults:
         try:
@@ -175,7 +184,7 @@ def check_grid_text():
     # faulty ones: the head says another version, and bytes that the other lacks
     for text, verdict in (
         (grid_text({(1, 1): 1}) + rest + "version 1", "refused 7 at 0 "),
-        (grid_text({(1, 1): 1}) + rest + "version 3", "refused 3 at 3 (the version is neither 1 nor 2)"),
+        (grid_text({(1, 1): 1}) + rest + "version 4", "refused 3 at 3 (the version is not 1, 2 or 3)"),
         (FEW_CELLS + rest + "version 2", "refused 7 at 0 "),
         (grid_text({}) + rest, "refused 24 at 8 (grid counts sum to 0 or above 1,000,000)"),
         (grid_text({(1, 1): 1}) + rest + rest.replace("highest=2", "highest=0"), "refused 11 at 1168 (season 2: "),
@@ -183,7 +192,7 @@ def check_grid_text():
     ):
         found = writer.verdict(writer.write(text))
         want(found.startswith(verdict), "writer: %r found, %r expected", found, verdict)
-    for version in (1, 3):
+    for version in (1, 3, 4):
         other = writer.write(grid_text({(5, 6): 1}) + rest + "version %d" % version)
         same(writer.write(writer.read(other)), other, "a grid under version %d read back" % version)
     try:
@@ -193,6 +202,41 @@ def check_grid_text():
     else:
         raise Failure("lists under version 2 were read as a grid")
     return "a text with a grid: each count at its byte, read back the same; faulty ones named"
+
+
+def check_mileage_text():
+    """Where the writer puts a mileage, which version it makes, and that it
+    reads it back."""
+    rest = grid_text({(1, 1): 1}) + "season days=1 lowest=1 highest=2 vp=60\n"
+    row = "row class=1 technology=1 saturation=45.0"
+    at = 1160 + 8
+
+    def made(*ends, more=""):
+        return writer.write(rest + "".join(row + end + "\n" for end in ends) + more)
+
+    for words, data, version, last in (
+        ("none", made(""), 2, "00000000"), ("one", made(" mileage=84000"), 3, "20480100"),
+        ("0", made(" mileage=0"), 3, "00000000"), ("the largest", made(" mileage=4294967295"), 3, "ffffffff"),
+        ("spare", made(" spare=20480100"), 2, "20480100"),
+        ("spare in version 3", made(" spare=20480100", more="version 3"), 3, "20480100"),
+        ("one in version 2", made(" mileage=84000", more="version 2"), 2, "20480100"),
+        ("none and one", made("", " mileage=84000"), 3, "00000000"),
+        ("one and none", made(" mileage=84000", " load=30.0"), 3, "20480100"),
+    ):
+        same(int.from_bytes(data[3:5], "little"), version, "version, mileage %s" % words)
+        same(data[at + 20:at + 24].hex(), last, "last bytes, mileage %s" % words)
+        same(writer.write(writer.read(data)), data, "mileage %s read back" % words)
+        same(writer.read(data).count(" mileage="), data[6] if version == 3 else 0, "mileages read back, %s" % words)
+    same(made(" spare=20480100", more="version 3"), made(" mileage=84000"), "spare as a mileage")
+    empty = writer.write(rest + "version 3\n")
+    same(writer.write(writer.read(empty)), empty, "version 3 without rows read back")
+    for data, said in (
+        (made(" mileage=84000"), "accepted"),
+        (made("", " mileage=1000001"), "refused 25 at 1192 (row 2: mileage above 1,000,000 km, or a mileage without canister"),
+        (made(" mileage=84000", more="version 2"), "refused 21 at 1168 (row 1: bytes 20 to 23"),
+    ):
+        want(writer.verdict(data).startswith(said), "writer: %r found, %r expected", writer.verdict(data), said)
+    return "a text with a mileage: its bytes and its version, read back the same"
 
 
 def check_edges():
@@ -267,7 +311,7 @@ def check_write():
         want(not os.path.exists(at("d.evp")), "a sheet of 12.000 vehicles was written")
         same(run_writer("write", at("none.txt"))[0], 2, "write of no file")
         same(run_writer("write", at("a.txt"), at("below"))[0], 2, "write to a folder")
-    same(sorted(writer.MEANINGS), [*range(1, 22), 24], "numbers with a meaning")
+    same(sorted(writer.MEANINGS), [*range(1, 22), 24, 25], "numbers with a meaning")
     return "the command: what it wrote and whether it is accepted; its text never overwritten"
 
 
@@ -342,10 +386,11 @@ def lowest_exponent(sheet, season, row):
 
 
 def check_n():
-    """n = 40 against n = 60."""
+    """n = 40 against n = 60. A mileage brings exponents of up to 13.8, where E
+    itself differs more: the load by up to 4.10^-8 g."""
     farthest = Fraction(0)
-    farthest_cold = Fraction(0)
-    count = cold = 0
+    farthest_cold = farthest_driven = Fraction(0)
+    count = cold = driven = 0
     sheets = [ev.read(sample(name, ".evp")) for name in NAMES] + spread()
     for sheet in sheets:
         for season in range(len(sheet.seasons)):
@@ -355,16 +400,20 @@ def check_n():
                 for k in range(1, 8):
                     apart = abs(ev.factor(sheet, season, row, k, 40)
                                 - ev.factor(sheet, season, row, k, 60)) / MICROGRAM
-                    want(apart <= Fraction(1, 10 ** 6),
+                    want(apart <= (Fraction(1, 20) if sheet.rows[row].mileage else Fraction(1, 10 ** 6)),
                          "n = 40 and n = 60 are %.3g micrograms apart in factor %d", float(apart), k)
-                    if lowest is not None and lowest < -13:
+                    if sheet.rows[row].mileage:
+                        driven += 1
+                        farthest_driven = max(farthest_driven, apart)
+                    elif lowest is not None and lowest < -13:
                         cold += 1
                         farthest_cold = max(farthest_cold, apart)
                     else:
                         count += 1
                         farthest = max(farthest, apart)
     return "n = 40 and 60, %d factors: at most %.1e micrograms apart; %d more with a canister " \
-        "exponent below -13: at most %.1e" % (count, float(farthest), cold, float(farthest_cold))
+        "exponent below -13: at most %.1e; %d more with a mileage: at most %.1e" % (
+            count, float(farthest), cold, float(farthest_cold), driven, float(farthest_driven))
 
 
 COLD = """
@@ -427,12 +476,27 @@ FEW_CELLS = (
 )
 
 
+# The same with a mileage: found within the canister by cars and two-wheelers of
+# each size, reached empty, and never reached.
+DRIVEN_CASES = (
+    "season days=2 lowest=5.0 highest=20.0 vp=60.0\n"
+    "row class=1 technology=1 carburettor=40 hot=30 fill=40 vehicles=7 trips=2.50 minutes=20 saturation=12.0 mileage=20",
+    "season days=2 lowest=-10.0 highest=25.0 vp=70.0\nseason days=1 lowest=35.0 highest=48.0 vp=45.6\n"
+    "row class=9 technology=0 carburettor=40 hot=30 vehicles=7 trips=2.50 minutes=20 saturation=31.0 mileage=28\n"
+    "row class=6 technology=0 canister=large tank=150.0 vehicles=7 trips=2.50 minutes=20 saturation=41.0 mileage=14\n"
+    "row class=3 technology=1 carburettor=90 hot=10 vehicles=7 trips=2.50 minutes=20 saturation=21.3 mileage=1000000\n"
+    "row class=2 technology=3 carburettor=90 hot=10 vehicles=7 trips=2.50 minutes=20 saturation=21.3 mileage=1",
+)
+
+
 def check_exact():
     near = Fraction(1, 10 ** 80)
     count = 0
     farthest = Fraction(0)
-    for case in SMALL_CASES:
-        sheet = sheet_of(FEW_CELLS + case)
+    cases = [FEW_CELLS + case for case in SMALL_CASES]
+    cases += [grid_text({(1, 14): 3, (6, 1): 2, (24, 24): 1}) + case for case in DRIVEN_CASES]
+    for case in cases:
+        sheet = sheet_of(case)
         for n in (2, 3, 4, 5):
             for row in range(len(sheet.rows)):
                 for season in range(len(sheet.seasons)):
@@ -457,6 +521,130 @@ def check_exact():
         count, float(farthest))
 
 
+def driven_canisters(count, seed):
+    """a and b at a mark, s, a mileage and an m_sat as number 25 lets them pass,
+    many of them near what the canister can have at most."""
+    draw = random.Random(seed)
+    for _ in range(count):
+        lowest, highest = sorted(draw.choice((-300, 500, draw.randint(-300, 500))) for _ in range(2))
+        season = ev.Season(1, lowest, highest, draw.choice((300, 1100, draw.randint(300, 1100))))
+        s = draw.choice(tuple(ev.CANISTER_S.values()))
+        a, b = ev.canister_a_b(season, Fraction(highest, 10))
+        top = math.floor(-10 * a / (b * s))
+        m_sat = Fraction(draw.choice((top, top, draw.randint(0, top), 0, 1)), 10)
+        T = draw.choice((Fraction(highest, 10), ev.temperature(season, draw.randrange(48))))
+        M = draw.choice((1, 16, 17, 10 ** 6, draw.randint(17, 2000), round(math.exp(draw.uniform(2.8, 13.8)))))
+        yield *ev.canister_a_b(season, T), s, M, m_sat
+
+
+def check_starting_load():
+    """Found between two ends as by trying every multiple from 0 on, which takes
+    nothing for granted; and eqs. 9 and 12 with logarithms."""
+    kinds = {"0": 0, "between": 0, "m_sat": 0}
+    for n in range(2, ev.MOST_TRIED + 1):
+        for a, b, s, M, m_sat in driven_canisters(24, n):
+            # E_n is far below e^y here; and each multiple is tried
+            M, m_sat = 1 + M % 60, min(m_sat, Fraction(241, 10))
+            tried = ev.starting_load(a, b, s, M, m_sat, n, "exact")
+            same(ev.starting_load(a, b, s, M, m_sat, n), tried, "starting load at n = %d" % n)
+            kinds["0" if tried == 0 else "m_sat" if tried == m_sat else "between"] += 1
+    want(min(kinds.values()) > 10, "starting loads of too few kinds: %r", kinds)
+    farthest = found = 0
+    for n in (40, 60):
+        for a, b, s, M, m_sat in driven_canisters(150, n):
+            m = ev.starting_load(a, b, s, M, m_sat, n)
+            kept = 8.13 * math.log(M) - 22.92
+            holds = float(s) * (float(m_sat) - math.exp(a + b * s * m_sat))
+            if M <= 16:
+                same(m, 0, "load after %d km" % M)
+            elif m == m_sat:
+                want(holds < kept + 1e-6, "a canister is full after %d km", M)
+            else:
+                want((m * 2 ** n).denominator == 1 and 0 < m < m_sat, "load after %d km", M)
+                apart = abs(float(s) * (float(m) - math.exp(a + b * s * m)) - kept)
+                want(apart < (1e-7 if n == 40 else 1e-10), "s.g is %.2g from 8.13 ln M - 22.92 at n = %d", apart, n)
+                farthest, found = max(farthest, apart), found + 1
+    want(found > 60, "%d loads between 0 and m_sat", found)
+    return "starting loads, n = 2 to %d: between two ends as by every multiple, %d of them 0, %d between, %d m_sat; " \
+        "n = 40 and 60: s.g of %d within %.0e of 8.13 ln M - 22.92" % (ev.MOST_TRIED, *kinds.values(), found, farthest)
+
+
+def check_reached():
+    """The multiple reaches M and the one before it does not, in fractions; how
+    far decimals are off; and what they cannot tell is asked of fractions."""
+    confirmed = 0
+    for n, cases in ((40, 40), (60, 12)):
+        numbers = ev.ExactNumbers(n)
+        for a, b, s, M, m_sat in driven_canisters(cases, 8):
+            m = ev.starting_load(a, b, s, M, m_sat, n)
+            last = Fraction(math.floor(m_sat * 2 ** n), 2 ** n)
+            if m == m_sat and (m != last or ev.driven(numbers, a, b, s, m) < M):
+                want(ev.driven(numbers, a, b, s, last) < M, "the last multiple reaches %d km", M)
+                continue
+            want(ev.driven(numbers, a, b, s, m) >= M, "the load does not reach %d km", M)
+            if m:
+                want(ev.driven(numbers, a, b, s, m - Fraction(1, 2 ** n)) < M, "a smaller load reaches %d km", M)
+                confirmed += 1
+    want(confirmed > 12, "%d loads confirmed", confirmed)
+    # the coldest and largest canister, full: the largest exponent of eq. 12
+    a, b = ev.canister_a_b(ev.Season(1, -300, -300, 1100), Fraction(-30))
+    s, m = Fraction(1, 2), Fraction(3057, 10)
+    exact = ev.driven(ev.ExactNumbers(40), a, b, s, m)
+    off = abs(ev.driven(ev.ScaledNumbers(40), a, b, s, m) - exact * 2 ** ev.BITS)
+    want(off < ev.NEAR / 2 ** 16, "decimals are %.2g units off", float(off))
+    # a mileage that is met exactly, and one just above it: no decimals tell
+    asked = []
+    fractions = ev.ExactNumbers
+
+    class Asked(ev.ExactNumbers):
+        def __init__(self, n):
+            asked.append(n)
+            super().__init__(n)
+    try:
+        ev.ExactNumbers = Asked
+        for k in (1, 1000, 123457):
+            m = Fraction(k, 2 ** 12)
+            met = ev.driven(fractions(12), a, b, s, m)
+            for more, expected in ((0, m), (Fraction(1, 10 ** 300), m + Fraction(1, 2 ** 12)), (-Fraction(1, 10 ** 300), m)):
+                asked.clear()
+                same(ev.starting_load(a, b, s, met + more, Fraction(100), 12), expected, "load of %d multiples" % k)
+                want(asked, "decimals told a mileage from one 10^-300 off")
+    finally:
+        ev.ExactNumbers = fractions
+    met = ev.driven(fractions(5), a, b, s, Fraction(77, 32))
+    same(ev.starting_load(a, b, s, met, Fraction(10), 5, "exact"), Fraction(77, 32), "load that meets a mileage, n = 5")
+    try:
+        ev.starting_load(a, b, s, 100, Fraction(3058, 10), 40)
+    except ValueError:
+        pass
+    else:
+        raise Failure("a canister with a + b.s.m_sat above 0 was taken")
+    return "%d starting loads at n = 40 and 60 confirmed in fractions; decimals off by %.0e of what counts as near; " \
+        "mileages met exactly are told by fractions" % (confirmed, float(off / ev.NEAR))
+
+
+def check_running_load():
+    """In running the load is that of T2: with the load of T1 written instead,
+    soak is the same and running is not."""
+    cells = grid_text({(5, 13): 1})
+    season = "season days=1 lowest=5.0 highest=45.0 vp=60.0\n"
+    row = "row class=9 technology=0 tank=150.0 saturation=%s%s\n"
+    sheet = sheet_of(cells + season + row % ("36.1", " mileage=47000"))
+    marks = ev.start_mark(13, 5), 26
+    loads = [ev.load_of(sheet.rows[0], sheet.seasons[0], ev.temperature(sheet.seasons[0], i), 40, "decimal") for i in marks]
+    want(0 < loads[0] < loads[1] < Fraction(361, 10), "loads at T1 and T2: %s", [float(x) for x in loads])
+    found = ev.factors(sheet, 0, 0)
+    kept = ev.load_of
+    try:
+        for load, as_found in zip(loads, ((1, 2, 3, 4), (5, 6, 7))):
+            ev.load_of = lambda *_: load
+            written = ev.factors(sheet, 0, 0)
+            same([k for k in range(1, 8) if written[k - 1] == found[k - 1]], list(as_found), "factors with one load")
+    finally:
+        ev.load_of = kept
+    return "the load of a two-wheeler is %.3f g at T1 and %.3f g at T2: soak has the first, running the second" % tuple(loads)
+
+
 def plain_factors(sheet, season, row):
     """The seven factors in floating point, cell by cell, straight from the
     formulas; nothing of ev but the sheet and the table is used."""
@@ -465,7 +653,7 @@ def plain_factors(sheet, season, row):
     tank = r.tank / 10 or table[0]
     s = {0: None, 1: 2.0, 2: 1.0, 3: 0.5}[table[1] if r.canister == 255 else r.canister]
     vp, low, high = place.vp / 10, place.lowest / 10, place.highest / 10
-    m1, m_sat = r.load / 10, r.saturation / 10
+    m_sat = r.saturation / 10
 
     def at(hour):
         return low + (high - low) * math.exp(-0.0247 * (hour % 24 - 14) ** 2)
@@ -482,6 +670,13 @@ def plain_factors(sheet, season, row):
             return v
         a = -11 - 0.015 * vp + 0.065 * T
         b = 0.115 - 0.00015 * vp + 0.0001 * T
+        m1 = r.load / 10
+        if r.mileage:  # m1 - e^(a + b.s.m1) is to be (8.13 ln M - 22.92)/s
+            wanted = (8.13 * math.log(r.mileage) - 22.92) / s
+            m1, above = 0.0, m_sat
+            for _ in range(60):
+                middle = (m1 + above) / 2
+                m1, above = (middle, above) if middle - math.exp(a + b * s * middle) < wanted else (m1, middle)
         m2 = m1 + v
         over = max(0.0, m2 - m_sat)
         return math.exp(a + b * s * min(m2, m_sat)) + over - math.exp(a + b * s * m1)
@@ -516,10 +711,10 @@ def plain_factors(sheet, season, row):
 def check_plain():
     farthest = 0.0
     count = 0
-    sheets = [ev.read(sample(name, ".evp")) for name in ("table-3-5-day", "region", "survey")] + spread()
+    sheets = [ev.read(sample(name, ".evp")) for name in ("table-3-5-day", "region", "survey", "odometer")] + spread()
     for sheet in sheets:
         season = len(sheet.seasons) // 2
-        for row in range(0, len(sheet.rows), 2):
+        for row in range(0, len(sheet.rows), 1 if any(r.mileage for r in sheet.rows) else 2):
             plain = plain_factors(sheet, season, row)
             for k, value in enumerate(ev.factors(sheet, season, row), 1):
                 # Weights rounded to billionths move a temperature by up to
@@ -682,7 +877,7 @@ def grid_refusals(lists):
     at = 8 + 2 * 111
     empty = [(8 + 2 * i, 0, 2) for i in range(576)]
     return [
-        (base, None), (p((3, 1, 2)), (7, 0)), (p((3, 0, 2)), (3, 3)), (p((3, 3, 2)), (3, 3)),
+        (base, None), (p((3, 1, 2)), (7, 0)), (p((3, 0, 2)), (3, 3)), (p((3, 4, 2)), (3, 3)), (p((3, 3, 2)), None),
         (p((3, 258, 2)), (3, 3)), (p((3, 513, 2)), (3, 3)),
         (base[:7], (1, 0)), (base[:8], (7, 0)), (base[:-1], (7, 0)), (base + b"\0", (7, 0)),
         (base[:len(lists)], (7, 0)), (base[:1160], (7, 0)), (p((5, 1, 1)), (7, 0)), (p((6, 1, 1)), (7, 0)),
@@ -707,6 +902,47 @@ def grid_refusals(lists):
     ]
 
 
+def mileage_refusals(lists):
+    """Cases of version 3, made of a sheet of version 1. Row 1 has a small
+    canister; in the first season, at 50.0 C and 30.0 kPa, a = -8.2 and
+    b = 0.1155, so a + b.s.m_sat turns from 0 on above 35.49 g. The second, at
+    10.0 C and 110.0 kPa, has a = -12 and b = 0.0995, and 60.30 g."""
+    grid = as_grid(lists)
+    row_0, row_1 = 1176, 1200
+    base = patched(grid, (3, 3, 2), (row_1 + 16, 0, 2), (row_1 + 18, 354, 2), (row_1 + 20, 84_000, 4))
+
+    def p(*changes):
+        return patched(base, *changes)
+
+    cold = ((1160 + 4, 100, 2), (1160 + 6, 1100, 2))  # the first season as the second
+    return [
+        (base, None), (p((3, 2, 2)), (21, row_1)), (p((3, 1, 2)), (7, 0)), (p((3, 4, 2)), (3, 3)), (p((3, 259, 2)), (3, 3)),
+        (base[:-1], (7, 0)), (base + b"\0", (7, 0)), (base[:7], (1, 0)), (base[:len(lists)], (7, 0)),
+        (p(*((8 + 2 * i, 0, 2) for i in range(576))), (24, 8)),
+        # the mileage itself
+        (p((row_1 + 20, 1_000_000, 4)), None), (p((row_1 + 20, 1_000_001, 4)), (25, row_1)), (p((row_1 + 20, 1, 4)), None),
+        (p((row_1 + 23, 1, 1)), (25, row_1)), (p((row_1 + 20, 2 ** 32 - 1, 4)), (25, row_1)), (p((row_1 + 20, 0, 4)), None),
+        # without canister, by class and written
+        (p((row_0 + 20, 1, 4)), (25, row_0)), (p((row_0 + 20, 1, 4), (row_0 + 2, 2, 1)), None),
+        (p((row_1 + 2, 0, 1), (row_1 + 18, 0, 2)), (25, row_1)),
+        (p((row_1 + 2, 0, 1), (row_1 + 18, 0, 2), (row_1 + 20, 0, 4)), None),
+        # beside a load
+        (p((row_1 + 16, 1, 2)), (25, row_1)), (p((row_1 + 16, 354, 2)), (25, row_1)),
+        (p((row_1 + 16, 354, 2), (row_1 + 20, 0, 4)), None),
+        # a + b.s.m_sat above 0, in the first season and in the second alone
+        (p((row_1 + 18, 355, 2)), (25, row_1)), (p((row_1 + 18, 355, 2), (row_1 + 20, 0, 4)), None),
+        (p((row_1 + 18, 0, 2)), None), (p((row_1 + 18, 603, 2), *cold), None), (p((row_1 + 18, 604, 2), *cold), (25, row_1)),
+        (p((row_1 + 18, 355, 2), *cold, (1168 + 4, 500, 2), (1168 + 6, 300, 2)), (25, row_1)),
+        (p((row_1 + 18, 709, 2), (row_1 + 2, 2, 1)), None), (p((row_1 + 18, 710, 2), (row_1 + 2, 2, 1)), (25, row_1)),
+        (p((row_1 + 18, 1419, 2), (row_1 + 2, 3, 1)), None), (p((row_1 + 18, 1420, 2), (row_1 + 2, 3, 1)), (25, row_1)),
+        # 25 stands behind 20 in its row and before 13 in the next
+        (p((row_1 + 18, 600, 2)), (20, row_1)), (p((row_1 + 16, 355, 2)), (19, row_1)), (p((row_1 + 2, 0, 1)), (19, row_1)),
+        (p((row_0 + 20, 1_000_001, 4), (row_1, 0, 1)), (25, row_0)), (p((row_0 + 20, 1, 4), (row_0 + 5, 101, 1)), (15, row_0)),
+        (p((row_0 + 20, 1, 4), (1168 + 6, 299, 2)), (12, 1168)), (p((row_1 + 20, 1_000_001, 4)), (25, row_1), 0),
+        (p((row_1 + 20, 1_000_001, 4)), (25, row_1), None, (9, 9, 9)), (base, (22, 0), 37), (base, (23, 0), None, (2, 0, 1)),
+    ]
+
+
 def check_refusals():
     base = writer.write(BASE)
     same(ev.check(base), None, "check of the base sheet")
@@ -718,7 +954,8 @@ def check_refusals():
         # (bytes, expected, words, call)
         (b"", (1, 0)), (base[:7], (1, 0)), (b"XXX", (1, 0)),
         (p((0, 0x65, 1)), (2, 0)), (p((2, 0, 1)), (2, 0)),
-        (p((3, 3, 2)), (3, 3)), (p((3, 257, 2)), (3, 3)), (p((3, 0, 2)), (3, 3)), (p((3, 2, 2)), (7, 0)),
+        (p((3, 4, 2)), (3, 3)), (p((3, 257, 2)), (3, 3)), (p((3, 0, 2)), (3, 3)), (p((3, 2, 2)), (7, 0)),
+        (p((3, 3, 2)), (7, 0)),
         (p((5, 0, 1)), (4, 5)), (p((5, 13, 1)), (4, 5)),
         (p((6, 0, 1)), (5, 6)), (p((6, 33, 1)), (5, 6)),
         (p((7, 1, 1)), (6, 7)),
@@ -777,8 +1014,11 @@ def check_refusals():
     # medium canister of 155.0 g stands at 3 exactly.
     equal = rule.replace("highest=30.0", "highest=0.0")
     cases += [(writer.write(equal % "155.0"), None), (writer.write(equal % "155.1"), (20, 120))]
+    # Likewise equal to 0 with a mileage, at 125.0 g.
+    driven = grid_text({(1, 1): 1}) + equal.split("\n", 2)[2] + " mileage=1000"
+    cases += [(writer.write(driven % "125.0"), None), (writer.write(driven % "125.1"), (25, 1176))]
 
-    cases += grid_refusals(base)
+    cases += grid_refusals(base) + mileage_refusals(base)
     seen = set()
     for index, (data, expected, *rest) in enumerate(cases):
         words = rest[0] if rest else None
@@ -786,8 +1026,8 @@ def check_refusals():
         same(ev.check(data, words, call), expected, "refusal case %d, counted from 0" % index)
         if expected:
             seen.add(expected[0])
-    same(sorted(seen), list(range(1, 25)), "refusal numbers met")
-    return "%d sheets and calls, each number 1 to 24 with its place, order and edges" % len(cases)
+    same(sorted(seen), list(range(1, 26)), "refusal numbers met")
+    return "%d sheets and calls, each number 1 to 25 with its place, order and edges" % len(cases)
 
 
 def check_class_table():
@@ -856,6 +1096,7 @@ CHECKS = (
     check_edges,
     check_write,
     check_grid_text,
+    check_mileage_text,
     check_p_examples,
     check_weights,
     check_class_table,
@@ -865,6 +1106,9 @@ CHECKS = (
     check_products,
     check_cells,
     check_survey,
+    check_starting_load,
+    check_reached,
+    check_running_load,
     check_plain,
     check_masses,
     check_n,

@@ -1,6 +1,7 @@
 #!/usr/bin/env python3
 """Makes a sheet from a readable text, and back. A text with two lists of
-parkings makes a sheet of version 1, one with a grid a sheet of version 2.
+parkings makes a sheet of version 1, one with a grid a sheet of version 2, and
+one with a grid and a mileage in some row a sheet of version 3.
 
   python3 tools/sheet.py write TEXT [SHEET]   SHEET is TEXT's name with .evp
                                               where none is given
@@ -23,21 +24,24 @@ The text, one record to a line, # starts a comment:
   row class=1 technology=0 canister=class carburettor=40 hot=30 fill=35
       tank=class vehicles=1000 trips=2.50 minutes=20 load=30.0 saturation=60.0
                       (all on one line)
+  row ... saturation=45.0 mileage=84000   with a grid: the load is that of the
+                      odometer, in km, and load is left out; 0 keeps the load
 
 canister is none, small, medium, large, class (by class) or a number; tank is
 class or litres. Temperatures are in degrees C, vp in kPa, shares and fill
 level in percent, load and saturation (m_sat) in grams. A row's class and
 technology must be given; canister and tank left out are by class, any other
-field left out is 0.
+field left out is 0, the mileage too where another row has one.
 
 For faulty sheets only:
 
   letters 455650      the three letters, in hexadecimal
-  version 3           the version in the head, whatever the parking is
+  version 4           the version in the head, whatever the parking is
   seasons 3           the count of seasons in the head, whatever follows
   rows 0              the count of rows in the head, whatever follows
   zero 1              byte 7
-  row ... spare=00000001   bytes 20 to 23 of a row, in hexadecimal
+  row ... spare=00000001   bytes 20 to 23 of a row, in hexadecimal; the mileage
+                      stands in them, so one of both at most
   tail 0A0B           bytes added at the end, in hexadecimal
   cut 7               only this many bytes are kept, counted from the start
 """
@@ -71,17 +75,18 @@ ROW_FIELDS = (
     ("load", 2, False, 10),
     ("saturation", 2, False, 10),
 )
+MILEAGE = ("mileage", 4, False, 1)  # behind them in version 3
 
 
 # What is wrong where a sheet stops, by number.
 MEANINGS = {
     1: "under 8 bytes",
     2: "the letters EVP are missing",
-    3: "the version is neither 1 nor 2",
+    3: "the version is not 1, 2 or 3",
     4: "seasons not 1 to 12",
     5: "rows not 1 to 32",
     6: "byte 7 is not 0",
-    7: "the length is not 104 + 8S + 24R, or in version 2 1160 + 8S + 24R",
+    7: "the length is not 104 + 8S + 24R, or in versions 2 and 3 1160 + 8S + 24R",
     8: "duration counts sum to 0 or above 1,000",
     9: "end-hour counts sum to 0 or above 1,000",
     10: "days 0, above 366, or above 366 with the seasons before",
@@ -97,6 +102,8 @@ MEANINGS = {
     20: "a + b.s.m_sat above 3 at some season's highest temperature",
     21: "bytes 20 to 23 of the row are not zero",
     24: "grid counts sum to 0 or above 1,000,000",
+    25: "mileage above 1,000,000 km, or a mileage without canister, beside a load, or with a + b.s.m_sat above 0 at some "
+        "season's highest temperature",
 }
 
 
@@ -167,10 +174,12 @@ def _season(words):
 
 
 def _row(words):
-    given = _fields(words, [field[0] for field in ROW_FIELDS] + ["spare"])
+    given = _fields(words, [field[0] for field in ROW_FIELDS] + ["mileage", "spare"])
     for name in ("class", "technology"):
         if name not in given:
             raise TextError("row: %s is missing" % name)
+    if "mileage" in given and "spare" in given:
+        raise TextError("row: mileage and spare are the same bytes, and both are given")
     record = b""
     for name, size, signed, parts in ROW_FIELDS:
         word = given.get(name, "class" if name == "canister" else "0")
@@ -179,7 +188,17 @@ def _row(words):
         if name == "tank" and word == "class":
             word = "0"
         record += _number(word, name, size, signed, parts)
+    if "mileage" in given:
+        return record + _number(given["mileage"], *MILEAGE)
     return record + _hexadecimal(given.get("spare", "00000000"), "spare", 4)
+
+
+def _version(parking, mileage):
+    """The version of a text; `mileage` is the first line with one, or None."""
+    if mileage is not None and not parking.has_grid():
+        raise TextError("line %d: row: a mileage wants a grid in place of durations and hours" % mileage)
+    version = 3 if mileage is not None else 2 if parking.has_grid() else 1
+    return version.to_bytes(2, "little")
 
 
 LISTS = ("durations", "hours")
@@ -233,6 +252,7 @@ def write(text):
     number where the text cannot be read."""
     parking = Parking()
     seasons, rows = [], []
+    mileage = None  # the first line that gives one
     single = {}  # lines that may stand once
     number = 0
     for number, line in enumerate(text.splitlines(), 1):
@@ -247,6 +267,8 @@ def write(text):
                 seasons.append(_season(rest))
             elif name == "row":
                 rows.append(_row(rest))
+                if mileage is None and any(word.startswith("mileage=") for word in rest):
+                    mileage = number
             elif name in ("letters", "version", "seasons", "rows", "zero", "tail", "cut"):
                 if name in single:
                     raise TextError("%s is given twice" % name)
@@ -266,6 +288,7 @@ def write(text):
         except TextError as error:
             raise TextError("line %d: %s" % (number, error)) from None
     counts = parking.data(number)
+    version = _version(parking, mileage)
     for name, records in (("seasons", seasons), ("rows", rows)):
         if name not in single:
             if len(records) > 255:
@@ -273,7 +296,7 @@ def write(text):
             single[name] = bytes([len(records)])
     data = (
         single.get("letters", b"EVP")
-        + single.get("version", b"\x02\x00" if parking.has_grid() else b"\x01\x00")
+        + single.get("version", version)
         + single["seasons"] + single["rows"]
         + single.get("zero", b"\x00")
         + counts + b"".join(seasons) + b"".join(rows)
@@ -312,12 +335,12 @@ def read(data):
     if data[0:3] != b"EVP":
         lines.append("letters %s" % data[0:3].hex())
     version = int.from_bytes(data[3:5], "little")
-    if version not in (1, 2):
+    if version not in (1, 2, 3) or version == 3 and not data[6]:  # no row then tells of a mileage
         lines.append("version %d" % version)
     if data[7]:
         lines.append("zero %d" % data[7])
     at = 8
-    for name in GRID if version == 2 else LISTS:
+    for name in GRID if version in (2, 3) else LISTS:
         counts = [int.from_bytes(data[at + 2 * i:at + 2 * i + 2], "little") for i in range(24)]
         lines.append("%s %s" % (name, " ".join(map(str, counts))))
         at += 48
@@ -326,8 +349,9 @@ def read(data):
         at += 8
     for _ in range(data[6]):
         spare = data[at + 20:at + 24]
-        lines.append("row " + _record(data, at, ROW_FIELDS)
-                     + (" spare=%s" % spare.hex() if any(spare) else ""))
+        fields = ROW_FIELDS + (MILEAGE,) if version == 3 else ROW_FIELDS
+        lines.append("row " + _record(data, at, fields)
+                     + (" spare=%s" % spare.hex() if version != 3 and any(spare) else ""))
         at += 24
     if data[at:]:
         lines.append("tail %s" % data[at:].hex())
@@ -343,7 +367,7 @@ def verdict(data):
     where = ""
     if 10 <= number <= 12:
         where = "season %d: " % ((place - evaporation.seasons_start(data)) // 8 + 1)
-    if 13 <= number <= 21:
+    if 13 <= number <= 21 or number == 25:
         where = "row %d: " % ((place - evaporation.seasons_start(data) - 8 * data[5]) // 24 + 1)
     return "refused %d at %d (%s%s)" % (number, place, where, MEANINGS[number])
 

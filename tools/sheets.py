@@ -6,14 +6,17 @@ evaporation.py stops them, for the program to hold the crate `sheet` against.
   python3 tools/sheets.py --check    says whether the file is up to date
   python3 tools/sheets.py --list     prints a line for each sheet
 
-The file says in four bytes how many sheets there are. Each sheet follows its
-length in two bytes, the number in one (0 where it is accepted) and the place
-in two. Every number has its lowest byte first.
+The file says in four bytes how many sheets there are. Before each sheet stand
+how many bytes follow in two bytes, how many bytes of the sheet before it the
+sheet begins with in two, the number in one (0 where it is accepted) and the
+place in two; then come the sheet's other bytes. A grid has 1152 bytes, and most
+sheets have that of the one before. Every number has its lowest byte first.
 
-Sheets of version 1 come first, those made for version 2 behind them.
+Sheets of version 1 come first, those made for version 2 behind them, then those
+for version 3.
 
 A sheet that is made for a condition or a limit carries the answer that
-document 01's table gives it. Where evaporation.py gives another the run ends,
+document 01's table and the requests' numbers give it. Where evaporation.py gives another the run ends,
 so that a slip of either does not pass unseen. Where no answer is known
 beforehand, as for damage by chance, that of evaporation.py stands.
 """
@@ -23,6 +26,7 @@ import sys
 from collections import Counter, namedtuple
 from dataclasses import dataclass, replace
 from itertools import chain, combinations, product
+from os.path import commonprefix
 
 import evaporation
 import sheet
@@ -32,15 +36,16 @@ from inputs import answer_text, packed, serve
 Case = namedtuple("Case", "words data answer")
 ACCEPTED = (0, 0)
 
-NUMBERS = (*range(1, 22), 24)  # those of a sheet; 22 and 23 are those of a call
-LEAST_SHEETS = 420
-LEAST_GRIDS = 150  # of version 2
+NUMBERS = (*range(1, 22), 24, 25)  # those of a sheet; 22 and 23 are those of a call
+VERSIONS = (1, 2, 3)
+ABSENT = {1: {24, 25}, 2: {3, 8, 9, 25}, 3: {3, 8, 9, 21}}  # what a version cannot have
+LEAST_SHEETS = {1: 420, 2: 150, 3: 150}
 LEAST_OF_A_NUMBER = 5
 
 # ------------------------------------------------------------ making a sheet
 
 SEASON_FIELDS = sheet.SEASON_FIELDS
-ROW_FIELDS = sheet.ROW_FIELDS + (("spare", 4, False, 1),)
+ROW_FIELDS = sheet.ROW_FIELDS + (sheet.MILEAGE,)
 
 BY_CLASS = 255
 
@@ -61,7 +66,7 @@ PAIRS = [(c, t) for c, (_, canisters) in CLASSES.items() for t in range(len(cani
 SEASON = {"days": 30, "lowest": 50, "highest": 200, "vp": 600}
 ROW = {
     "class": 1, "technology": 1, "canister": BY_CLASS, "carburettor": 40, "hot": 30, "fill": 35,
-    "tank": 0, "vehicles": 1000, "trips": 250, "minutes": 20, "load": 300, "saturation": 450, "spare": 0,
+    "tank": 0, "vehicles": 1000, "trips": 250, "minutes": 20, "load": 300, "saturation": 450, "mileage": 0,
 }
 EMPTY = {"load": 0, "saturation": 0}  # all that a row without canister may have
 
@@ -76,13 +81,18 @@ def counted(counts):
 
 @dataclass(frozen=True)
 class Plan:
-    """The values of a sheet, in the units of its fields: version 2 where it
-    has a grid, of 576 counts in the order of the sheet, else version 1."""
+    """The values of a sheet, in the units of its fields: version 1 with two
+    lists, version 2 with a grid, of 576 counts in the order of the sheet, and
+    version 3 where `metered` says that its rows may have a mileage."""
     seasons: tuple
     rows: tuple
     durations: tuple = tuple(range(24, 0, -1))
     hours: tuple = tuple(range(1, 25))
     grid: tuple = None
+    metered: bool = False
+
+    def version(self):
+        return 1 if self.grid is None else 3 if self.metered else 2
 
     def gridded(self):
         """The same in version 2: the grid holds the products of the lists, end
@@ -101,7 +111,7 @@ class Plan:
         return start + 8 * i if kind == "seasons" else start + 8 * len(self.seasons) + 24 * i
 
     def data(self):
-        head = b"EVP" + bytes([1 if self.grid is None else 2, 0, len(self.seasons), len(self.rows), 0])
+        head = b"EVP" + bytes([self.version(), 0, len(self.seasons), len(self.rows), 0])
         parking = counted(self.durations + self.hours if self.grid is None else self.grid)
         seasons = [record(SEASON_FIELDS, season) for season in self.seasons]
         rows = [record(ROW_FIELDS, row) for row in self.rows]
@@ -141,13 +151,14 @@ def of_record(plan, kind, i, change, number):
     return Case(words, plan.changed(kind, i, change).data(), answer)
 
 
-def is_grid(data):
-    """Whether the head says version 2."""
-    return data[3:5] == b"\2\0"
+def version_of(data):
+    """The version in the head; one that is not read counts as 1."""
+    version = int.from_bytes(data[3:5], "little")
+    return version if version in VERSIONS else 1
 
 
 def records_start(data):
-    return 1160 if is_grid(data) else 104
+    return 104 if version_of(data) == 1 else 1160
 
 
 def patched(data, at, values):
@@ -159,7 +170,7 @@ def patched(data, at, values):
 # Number, place, offset, bytes that do not pass there.
 HEAD_FAULTS = (
     (2, 0, 0, (b"\0", b"e", b"EPV", b"PVE", b"VEP")), (2, 0, 1, (b"v", b"W")), (2, 0, 2, (b"p", b"\0", b"Q")),
-    (3, 3, 3, (b"\0\0", b"\3\0", b"\0\1", b"\1\1", b"\0\2", b"\2\2", b"\xff\xff")),
+    (3, 3, 3, (b"\0\0", b"\4\0", b"\0\1", b"\1\1", b"\0\2", b"\2\2", b"\3\3", b"\xff\xff")),
     (4, 5, 5, (b"\0", b"\x0d", b"\xff")),
     (5, 6, 6, (b"\0", b"\x21", b"\xff")),
     (6, 7, 7, (b"\1", b"\x80", b"\xff")),
@@ -311,7 +322,10 @@ ROW_LIMITS = (
             {"technology": 0}, {"technology": 0, "load": 0, "saturation": 1},
         ),
     ),
-    (21, (), ({"spare": 1}, {"spare": 2 ** 8}, {"spare": 2 ** 16}, {"spare": 2 ** 31}, {"spare": 2 ** 32 - 1})),
+    (
+        21, (),
+        ({"mileage": 1}, {"mileage": 2 ** 8}, {"mileage": 2 ** 16}, {"mileage": 2 ** 31}, {"mileage": 2 ** 32 - 1}),
+    ),
 )
 LIMITS = [("seasons", *limit) for limit in SEASON_LIMITS] + [("rows", *limit) for limit in ROW_LIMITS]
 
@@ -351,13 +365,14 @@ def far_cases():
 # ----------------------------------------------- classes, canisters, check 20
 
 
-def most(canister, season):
+def most(canister, season, limit=3):
     """The largest saturating load of a canister that check 20 lets pass in a
-    season. In whole numbers, times 4,000,000, a + b.s.m <= 3 says
-    (23000 - 3 vp + 2 T).2s.m <= 56000000 + 6000 vp - 26000 T."""
+    season, or check 25 with limit 0. In whole numbers, times 4,000,000,
+    a + b.s.m <= limit says
+    (23000 - 3 vp + 2 T).2s.m <= 4000000 limit + 44000000 + 6000 vp - 26000 T."""
     T, vp = season["highest"], season["vp"]
     twice_s = {1: 4, 2: 2, 3: 1}[canister]
-    return (56_000_000 + 6_000 * vp - 26_000 * T) // ((23_000 - 3 * vp + 2 * T) * twice_s)
+    return (4_000_000 * limit + 44_000_000 + 6_000 * vp - 26_000 * T) // ((23_000 - 3 * vp + 2 * T) * twice_s)
 
 
 def class_pair(vehicle_class, technology):
@@ -420,7 +435,7 @@ def season_cases():
 SEASON_FAULTS = {10: {"days": 0}, 11: {"highest": 501}, 12: {"vp": 299}}
 ROW_FAULTS = {
     13: {"class": 0}, 14: {"canister": 4}, 15: {"fill": 101}, 16: {"vehicles": 10_000_001}, 17: {"tank": 1501},
-    18: {"minutes": 1441}, 19: {"load": 65535}, 20: {"saturation": 60000}, 21: {"spare": 1},
+    18: {"minutes": 1441}, 19: {"load": 65535}, 20: {"saturation": 60000}, 21: {"mileage": 1},
 }
 
 # The pairs of numbers of a season and of a row, the lower first.
@@ -467,7 +482,7 @@ def season_and_row_cases():
 
 # Faults of the parts that stand once, each as an edit of a sheet's bytes.
 PARTS = (
-    (2, 0, lambda data: patched(data, 2, b"Q")), (3, 3, lambda data: patched(data, 3, b"\3")),
+    (2, 0, lambda data: patched(data, 2, b"Q")), (3, 3, lambda data: patched(data, 3, b"\4")),
     (4, 5, lambda data: patched(data, 5, b"\0")), (5, 6, lambda data: patched(data, 6, b"\x21")),
     (6, 7, lambda data: patched(data, 7, b"\1")), (7, 0, lambda data: data + b"\0"),
     (8, 8, lambda data: patched(data, 8, b"\xff\xff")), (9, 56, lambda data: patched(data, 56, b"\xff\xff")),
@@ -517,17 +532,22 @@ def chance_season(chance, seasons):
     return {"days": days, "lowest": lowest, "highest": highest, "vp": chance.between(300, 1100)}
 
 
+def fitted(row):
+    """The canister of a row, as written or by class."""
+    return CLASSES[row["class"]][1][row["technology"]] if row["canister"] == BY_CLASS else row["canister"]
+
+
 def chance_row(chance, seasons):
     vehicle_class, technology = chance.one_of(PAIRS)
     code = chance.one_of((0, 1, 2, 3, BY_CLASS, BY_CLASS, BY_CLASS, BY_CLASS))
-    canister = CLASSES[vehicle_class][1][technology] if code == BY_CLASS else code
+    canister = fitted({"class": vehicle_class, "technology": technology, "canister": code})
     saturation = chance.between(0, min(most(canister, season) for season in seasons)) if canister else 0
     return {
         "class": vehicle_class, "technology": technology, "canister": code,
         "carburettor": chance.between(0, 100), "hot": chance.between(0, 100), "fill": chance.between(0, 100),
         "tank": chance.one_of((0, chance.between(1, 1500))), "vehicles": chance.between(0, 10_000_000),
         "trips": chance.between(0, 2000), "minutes": chance.between(0, 1440),
-        "load": chance.one_of((saturation, chance.between(0, saturation))), "saturation": saturation, "spare": 0,
+        "load": chance.one_of((saturation, chance.between(0, saturation))), "saturation": saturation, "mileage": 0,
     }
 
 
@@ -614,7 +634,7 @@ def odds_cases():
         data = plan.gridded().data()
         yield Case("version 1 of version 2's length, %s" % sized(plan), patched(data, 3, b"\1"), (7, 0))
         yield Case("version 2 cut to version 1's length, %s" % sized(plan), data[:len(plan.data())], (7, 0))
-    for version in (b"\0\0", b"\3\0", b"\0\2", b"\2\1", b"\2\2", b"\xff\xff"):
+    for version in (b"\0\0", b"\4\0", b"\0\2", b"\2\1", b"\2\2", b"\xff\xff"):
         data = patched(SMALL_GRID.data(), 3, version)
         yield Case("version %s of version 2's length" % version.hex(), data, (3, 3))
 
@@ -768,6 +788,191 @@ def grid_damaged_cases():
         yield Case("%s, version 2: %s" % (sized(plan), words), data, None)
 
 
+# ------------------------------------------------------------------- version 3
+
+# A row with the load of its odometer. In SEASON its a + b.s.m_sat is below 0.
+DRIVEN = {**ROW, "load": 0, "mileage": 84_000}
+WITHOUT = {**ROW, "class": 5, "technology": 2, **EMPTY}
+
+
+def metered(seasons, rows):
+    """A plan of version 3."""
+    return replace(Plan(tuple(seasons), tuple(rows)).gridded(), metered=True)
+
+
+SMALL_METERED = metered((SEASON,), (DRIVEN,))
+BASE_METERED = metered((SEASON,) * 2, (DRIVEN, ROW, WITHOUT, DRIVEN))
+
+# Mileages beside no load: bytes 20 to 23 one by one, and the limit.
+MILEAGES = (1, 16, 17, 255, 256, 65_535, 65_536, 2 ** 19, 999_999, 1_000_000)
+MILEAGES_BEYOND = (1_000_001, 2 ** 20, 2 ** 24, 2 ** 31, 2 ** 32 - 1)
+
+
+def mileage_cases():
+    """What passes or not in version 3 does not pass in version 2."""
+    for km in MILEAGES + MILEAGES_BEYOND:
+        yield of_record(SMALL_METERED, "rows", 0, {"mileage": km}, 25 if km in MILEAGES_BEYOND else 0)
+        case = of_record(replace(SMALL_METERED, metered=False), "rows", 0, {"mileage": km}, 21)
+        yield case._replace(words=case.words + ", version 2")
+
+
+MILEAGE_LIMITS = (
+    25,
+    (
+        {"mileage": 1}, {"mileage": 1_000_000}, {"saturation": 0}, {"canister": 2}, {"canister": 3},
+        {"technology": 0, "canister": 1}, {"saturation": most(1, SEASON, 0)},
+        # 0 keeps the written load, and what goes with it
+        {"mileage": 0}, {"mileage": 0, "load": 1}, {"mileage": 0, "load": 450}, {"mileage": 0, "saturation": 0},
+        {"mileage": 0, "canister": 0, **EMPTY}, {"mileage": 0, "technology": 0, **EMPTY},
+        {"mileage": 0, "saturation": most(1, SEASON, 0) + 1}, {"mileage": 0, "saturation": most(1, SEASON)},
+    ),
+    (
+        {"mileage": 1_000_001}, {"mileage": 2 ** 32 - 1}, {"mileage": 1_000_001, "technology": 0, **EMPTY},
+        {"mileage": 1, "canister": 0, **EMPTY}, {"mileage": 1, "technology": 0, **EMPTY},
+        {"mileage": 1, "load": 1}, {"mileage": 1_000_000, "load": 1}, {"load": 450},
+        {"mileage": 1, "saturation": most(1, SEASON, 0) + 1}, {"saturation": most(1, SEASON)},
+    ),
+)
+METERED_LIMITS = [limit for limit in LIMITS if limit[1] != 21] + [("rows", *MILEAGE_LIMITS)]
+
+
+def metered_record_cases():
+    """Number 25 on both sides of all its limits, outside in the first and in the
+    last row; and each other limit of a record outside, likewise."""
+    number, inside, outside = MILEAGE_LIMITS
+    yield from (of_record(BASE_METERED, "rows", 3, change, 0) for change in inside)
+    yield from (of_record(BASE_METERED, "rows", i, change, number) for change, i in product(outside, (0, 3)))
+    for kind, number, _, outside in METERED_LIMITS[:-1]:
+        last = len(getattr(BASE_METERED, kind)) - 1
+        yield of_record(BASE_METERED, kind, 0, outside[0], number)
+        yield of_record(BASE_METERED, kind, last, outside[-1], number)
+
+
+def fitted_cases():
+    """A mileage with the canister of each class and without one, by class; and
+    with one written where the class has none, and the other way round."""
+    for vehicle_class, (_, canisters) in CLASSES.items():
+        for technology in sorted({0, canisters.index(canisters[-1]), len(canisters) - 1}):
+            change = {"class": vehicle_class, "technology": technology, "saturation": 0}
+            yield of_record(SMALL_METERED, "rows", 0, change, 0 if canisters[technology] else 25)
+        yield of_record(SMALL_METERED, "rows", 0, {"class": vehicle_class, "canister": 0, "saturation": 0}, 25)
+        yield of_record(SMALL_METERED, "rows", 0, {"class": vehicle_class, "technology": 0, "canister": 3}, 0)
+
+
+def metered_saturation_cases():
+    """a + b.s.m_sat on both sides of 0, for each size in cold and heat. At
+    0.0 C and 100.0 kPa a medium canister of 125.0 g stands at 0 exactly, and
+    passes. Without a mileage all of these pass."""
+    weather = ((-300, 1100), (-300, 300), (0, 1000), (200, 600), (500, 300), (500, 1100))
+    for (highest, vp), canister, more in product(weather, (1, 2, 3), (0, 1)):
+        season = {"days": 366, "lowest": -300, "highest": highest, "vp": vp}
+        plan = SMALL_METERED.changed("seasons", 0, season)
+        row = {"canister": canister, "saturation": most(canister, season, 0) + more, "mileage": 1}
+        case = of_record(plan, "rows", 0, row, 25 * more)
+        yield case._replace(words="%s, at %s" % (case.words, said({"highest": highest, "vp": vp})))
+        if more and highest in (0, 500):
+            yield of_record(plan, "rows", 0, {**row, "mileage": 0}, 0)
+
+
+def metered_season_cases():
+    """The same where one of several seasons alone decides, in the first and in
+    the last row."""
+    hot = {"highest": 500, "vp": 300}
+    plan = metered((SEASON,) * 3, (DRIVEN, DRIVEN))
+    for i, j, more in product((0, 1, 2), (0, 1), (0, 1)):
+        # of the other row the canister is far from full
+        rows = plan.changed("rows", 1 - j, {"saturation": 100})
+        row = {"canister": 2, "saturation": most(2, hot, 0) + more}
+        case = of_record(rows.changed("seasons", i, hot), "rows", j, row, 25 * more)
+        yield case._replace(words="%s, hot in season %d" % (case.words, i + 1))
+
+
+MILEAGE_FAULTS = (
+    {"mileage": 1_000_001}, {"mileage": 1, "load": 1}, {"mileage": 1, "saturation": most(1, SEASON, 0) + 1},
+    {"mileage": 1, "canister": 0, **EMPTY},
+)
+
+
+def metered_order_cases():
+    """25 with each other number of a row: behind it in one row, and before it
+    where the other is in the next. And behind what stands before the rows."""
+    for number in range(13, 21):
+        plan = BASE_METERED.changed("rows", 0, MILEAGE_FAULTS[0])
+        case = of_record(plan, "rows", 0, ROW_FAULTS[number], number)
+        yield case._replace(words="%d and 25 in the first row" % number)
+        faulty = MILEAGE_FAULTS[number % len(MILEAGE_FAULTS)]
+        plan = BASE_METERED.changed("rows", 1, ROW_FAULTS[number])
+        case = of_record(plan, "rows", 0, faulty, 25)
+        yield case._replace(words="%s, and %d in the second row" % (case.words, number))
+    # a mileage that would stop as 25 for the same reason
+    for change, number in (({"load": 451}, 19), ({"canister": 0}, 19), ({"saturation": most(1, SEASON) + 1}, 20)):
+        yield of_record(BASE_METERED, "rows", 3, change, number)
+    for faulty in MILEAGE_FAULTS:
+        case = of_record(BASE_METERED.changed("rows", 3, MILEAGE_FAULTS[0]), "rows", 0, faulty, 25)
+        yield case._replace(words="%s, and 25 in the last row" % case.words)
+    for number, change in SEASON_FAULTS.items():
+        case = of_record(BASE_METERED.changed("rows", 0, MILEAGE_FAULTS[1]), "seasons", 1, change, number)
+        yield case._replace(words="%s, and 25 in the first row" % case.words)
+    data = BASE_METERED.changed("rows", 0, MILEAGE_FAULTS[0]).data()
+    for number, place, edit in GRID_PARTS[:7]:
+        yield Case("version 3: %d and 25" % number, edit(data), (number, place))
+
+
+def metered_form_cases():
+    """Head, length and grid of version 3, and the same bytes as another."""
+    data = SMALL_METERED.data()
+    yield from head_faults(data[:8])
+    for length in (7, 8, 104, 136, 1160, 1168, len(data) - 1):
+        answer = (1, 0) if length < 8 else (7, 0)
+        yield Case("version 3 cut to %d of %d bytes" % (length, len(data)), data[:length], answer)
+    for tail in (b"\0", record(SEASON_FIELDS, SEASON), record(ROW_FIELDS, DRIVEN)):
+        yield Case("version 3 of %d bytes and %d more" % (len(data), len(tail)), data + tail, (7, 0))
+    for counts in (b"\2\1", b"\1\2"):
+        words = "version 3, %s: the head says %d and %d" % (sized(SMALL_METERED), *counts)
+        yield Case(words, patched(data, 5, counts), (7, 0))
+    lists = SMALLEST.data()
+    yield Case("version 3 of version 1's length", patched(lists, 3, b"\3"), (7, 0))
+    yield Case("version 1 of version 3's length", patched(data, 3, b"\1"), (7, 0))
+    for version in (b"\0\0", b"\4\0", b"\5\0", b"\3\1", b"\0\3", b"\3\3", b"\3\x80"):
+        yield Case("version %s of version 3's length" % version.hex(), patched(data, 3, version), (3, 3))
+    yield Case("version 2 with a mileage", patched(BASE_METERED.data(), 3, b"\2"), (21, BASE_METERED.place("rows", 0)))
+    yield Case("version 2 as version 3", patched(BASE_GRID.data(), 3, b"\3"), ACCEPTED)
+    for words, counts, passes in GRIDS:
+        if words in ("sum 0", "sum 1 in the last", "sum 1000000 in the last", "sum 1000001 in the last"):
+            plan = replace(SMALL_METERED, grid=counts)
+            yield Case("version 3, grid: %s" % words, plan.data(), ACCEPTED if passes else (24, 8))
+
+
+def chance_metered_plan(seasons, rows):
+    """A plan by chance, whose rows with a canister have a mileage in place of
+    their load; every fourth keeps it."""
+    plan = chance_grid_plan(seasons, rows, 1_000)
+    chance = Chance("mileages of %d seasons and %d rows" % (seasons, rows))
+    for j, row in enumerate(plan.rows):
+        canister = fitted(row)
+        if canister and chance.below(4):
+            top = min(most(canister, season, 0) for season in plan.seasons)
+            saturation = chance.one_of((top, chance.between(0, top)))
+            km = chance.between(1, 10 ** chance.between(1, 6))
+            plan = plan.changed("rows", j, {"load": 0, "saturation": saturation, "mileage": km})
+    return replace(plan, metered=True)
+
+
+def metered_accepted_cases():
+    for size in ((1, 1), (2, 3), (5, 9), (1, 32), (12, 2)):
+        plan = chance_metered_plan(*size)
+        yield Case("%s: mileages by chance" % sized(plan), plan.data(), ACCEPTED)
+    yield Case("%s: version 3" % sized(BASE_METERED), BASE_METERED.data(), ACCEPTED)
+
+
+def metered_damaged_cases():
+    chance = Chance("damage of mileages")
+    for damage, _ in product((record_byte_changed, part_overwritten), range(8)):
+        plan = chance_metered_plan(2, 3)
+        words, data = damage(chance, plan.data())
+        yield Case("%s, version 3: %s" % (sized(plan), words), data, None)
+
+
 # -------------------------------------------------------------------- the file
 
 GROUPS = (
@@ -775,7 +980,9 @@ GROUPS = (
     parking_cases, limit_cases, days_cases, far_cases, class_cases, table_cases, absent_cases, saturation_cases,
     season_cases, same_record_cases, two_record_cases, season_and_row_cases, part_cases, short_cases, damaged_cases,
     odds_cases, grid_head_cases, grid_length_cases, grid_cases, grid_record_cases, grid_days_cases,
-    grid_saturation_cases, grid_part_cases, grid_accepted_cases, grid_damaged_cases,
+    grid_saturation_cases, grid_part_cases, grid_accepted_cases, grid_damaged_cases, metered_accepted_cases,
+    metered_form_cases, mileage_cases, metered_record_cases, fitted_cases, metered_saturation_cases,
+    metered_season_cases, metered_order_cases, metered_damaged_cases,
 )
 
 
@@ -800,7 +1007,7 @@ def refused_cases():
     """The first sheet for each number, of each version that can have it."""
     found = {}
     for case in all_cases():
-        found.setdefault((case.answer[0], is_grid(case.data)), case)
+        found.setdefault((case.answer[0], version_of(case.data)), case)
     return [found[key] for key in sorted(found) if key[0]]
 
 
@@ -808,7 +1015,7 @@ def end_of(case):
     """The number with "first" or "last" where the place is that of the first
     or last of several records."""
     number, place = case.answer
-    if not 10 <= number <= 21:
+    if not (10 <= number <= 21 or number == 25):
         return None
     seasons, rows = case.data[5], case.data[6]
     place -= records_start(case.data)
@@ -819,27 +1026,30 @@ def end_of(case):
 def missing(cases):
     """What the sheets as a whole should show and do not."""
     numbers = Counter(case.answer[0] for case in cases)
-    grids = [case for case in cases if is_grid(case.data)]
-    lists = [case for case in cases if not is_grid(case.data)]
-    if len(cases) < LEAST_SHEETS or len(grids) < LEAST_GRIDS:
-        yield "%d sheets, %d of them of version 2" % (len(cases), len(grids))
     for number in NUMBERS:
         if numbers[number] < LEAST_OF_A_NUMBER:
             yield "number %d: %d sheets" % (number, numbers[number])
-    for version, of_version, absent in ((1, lists, {24}), (2, grids, {3, 8, 9})):
-        if {case.answer[0] for case in of_version} != {0, *NUMBERS} - absent:
+    for version in VERSIONS:
+        of_version = [case for case in cases if version_of(case.data) == version]
+        if len(of_version) < LEAST_SHEETS[version]:
+            yield "version %d: %d sheets" % (version, len(of_version))
+        if {case.answer[0] for case in of_version} != {0, *NUMBERS} - ABSENT[version]:
             yield "version %d: not the numbers that it can have" % version
         ends = {end_of(case) for case in of_version}
-        for number in range(10, 22):
+        for number in {*range(10, 22), 25} - ABSENT[version]:
             if not {(number, "first"), (number, "last")} <= ends:
                 yield "version %d: number %d not in the first and in the last record" % (version, number)
 
 
 def encoded(cases):
     parts = [packed(4, [len(cases)])]
+    before = b""
     for case in cases:
         number, place = case.answer
-        parts += [packed(2, [len(case.data)]), packed(1, [number]), packed(2, [place]), case.data]
+        kept = len(commonprefix((before, case.data)))
+        rest = case.data[kept:]
+        parts += [packed(2, [len(rest), kept]), packed(1, [number]), packed(2, [place]), rest]
+        before = case.data
     return b"".join(parts)
 
 

@@ -1,14 +1,15 @@
--- Exact factors and masses of small sheets for small n, in grams, calculated apart from these definitions: tools/values.py
--- wrote this file from tools/evaporation.py. antt computes each value anew.
+-- Exact factors and masses of small sheets and starting loads for small n, in grams, calculated apart from these definitions:
+-- tools/values.py wrote this file from tools/evaporation.py. antt computes each value anew.
 -- Assumes nothing.
 use mathlib.Core.Bool.{Bool, true, false, _&&_}
 use mathlib.Core.List.{List, [], _∷_, map}
 use Prim.Native.Nat.{ℕ, _+_, _*_}
 use lib.Dec.{T, eqb}
-use Rattle.numbers.specs.Fraction.{Fraction, whole, _over_}
+use Rattle.numbers.specs.Fraction.{Fraction, whole, negᶠ, _over_}
 use Rattle.exact.specs.declared.Canister.the-variants.{None, Small, Medium, Large}
 use Rattle.exact.specs.declared.Season.{Season}
 use Rattle.exact.specs.declared.Row.{Row}
+use Rattle.exact.specs.Mileage.{startingLoad}
 use Rattle.exact.specs.Factors.{F1, F2, F3, F4, F5, F6, F7, factor, products}
 use Rattle.exact.specs.Masses.{diurnal, soak, running, mass}
 use Rattle.exact.proofs.Open.{definitions}
@@ -317,6 +318,78 @@ three-cells : T (same (factors 2 three-cells-cells three-cells-season three-cell
 unfolding definitions same factors masses
 three-cells = tt
 
+-- a small canister after 14 km; n = 3
+abbrev odometer-car-cells : List ℕ
+odometer-car-cells =
+    products (0 ∷ 1 ∷ 0 ∷ 0 ∷ 0 ∷ 0 ∷ 0 ∷ 0 ∷ 0 ∷ 0 ∷ 0 ∷ 0 ∷ 0 ∷ 0 ∷ 0 ∷ 0 ∷ 0 ∷ 0 ∷ 0 ∷ 0 ∷ 0 ∷ 0 ∷ 0 ∷ 0 ∷ [])
+    (0 ∷ 0 ∷ 0 ∷ 0 ∷ 0 ∷ 0 ∷ 0 ∷ 0 ∷ 0 ∷ 0 ∷ 0 ∷ 1 ∷ 0 ∷ 0 ∷ 0 ∷ 0 ∷ 0 ∷ 0 ∷ 0 ∷ 0 ∷ 0 ∷ 0 ∷ 0 ∷ 0 ∷ [])
+
+abbrev odometer-car-season : Season
+odometer-car-season = record { days = 1; lowest = 100; highest = 300; vp = 600 }
+
+abbrev odometer-car-row : Row
+odometer-car-row = record { class = 1; canister = Small; carburettor = 0; hot = 0; fill = 35; tank = 500; vehicles = 0; trips = 0; minutes = 60; load = 0; saturation = 53; mileage = 14 }
+
+odometer-car : T (same (factors 3 odometer-car-cells odometer-car-season odometer-car-row) (
+    (whole 52959065074303907084501898191554102359426409012986726772697563893806032729076737222849947047484891381731982958897443833939106643209557638951416085828324678173548064182272596810946314829871948238371117077830121 over 957784380304976723774281289107353179551494318952250476774782281993935241403024735261827349307595674443963735560689634420008766011702240665413858667951158648573385751231790433018619276418661270029843750000000000) ∷
+    (whole 14297835647633 over 156250000000000) ∷
+    (whole 1456270505725841416263519073615540073134583497135144867678417933109798829326335480431791695850272881625426289 over 3442391925509584532456140348750522100100747971561982026693081448394083423103750000000000000000000000000000000) ∷
+    (whole 1786172705232686598091006979759664921019826203511633778470168220044284678434101322466013879245065050579308763 over 860597981377396133114035087187630525025186992890495506673270362098520855775937500000000000000000000000000000) ∷
+    (whole 19041129359909 over 156250000000000) ∷
+    (whole 19041129359909 over 156250000000000) ∷
+    (whole 19041129359909 over 156250000000000) ∷
+    []))
+unfolding definitions same factors masses
+odometer-car = tt
+
+-- a two-wheeler after 30 km: its load at T2 is above that at T1; n = 3
+abbrev odometer-motorcycle-cells : List ℕ
+odometer-motorcycle-cells =
+    products (0 ∷ 0 ∷ 0 ∷ 1 ∷ 0 ∷ 0 ∷ 0 ∷ 0 ∷ 0 ∷ 0 ∷ 0 ∷ 0 ∷ 0 ∷ 0 ∷ 0 ∷ 0 ∷ 0 ∷ 0 ∷ 0 ∷ 0 ∷ 0 ∷ 0 ∷ 0 ∷ 0 ∷ [])
+    (0 ∷ 0 ∷ 0 ∷ 0 ∷ 0 ∷ 0 ∷ 0 ∷ 0 ∷ 0 ∷ 0 ∷ 0 ∷ 1 ∷ 0 ∷ 0 ∷ 0 ∷ 0 ∷ 0 ∷ 0 ∷ 0 ∷ 0 ∷ 0 ∷ 0 ∷ 0 ∷ 0 ∷ [])
+
+abbrev odometer-motorcycle-season : Season
+odometer-motorcycle-season = record { days = 1; lowest = 100; highest = 300; vp = 700 }
+
+abbrev odometer-motorcycle-row : Row
+odometer-motorcycle-row = record { class = 9; canister = Small; carburettor = 0; hot = 0; fill = 50; tank = 200; vehicles = 0; trips = 0; minutes = 45; load = 0; saturation = 70; mileage = 30 }
+
+odometer-motorcycle : T (same (factors 3 odometer-motorcycle-cells odometer-motorcycle-season odometer-motorcycle-row) (
+    (whole 3003152143519980780329012092930011199457177755199482446262306324027859484801126118084358815348976166242041492003234237 over 2435902399182514269056279652673832588809344882431672156298903654599087146384875000000000000000000000000000000000000000) ∷
+    (whole 1633937912459059699442122665864410755421468010839752670575691166909053856375700196581138636374862767954688603 over 21652465770511237947166930245989623011638621177170419167101365818658552412310000000000000000000000000000000000) ∷
+    (whole 141399121570604963647232017633737534052583848633365469914463250601847936331633843630043065606782160620948460663 over 194872191934601141524502372213906607104747590594533772503912292367926971710790000000000000000000000000000000000) ∷
+    (whole 141399121570604963647232017633737534052583848633365469914463250601847936331633843630043065606782160620948460663 over 194872191934601141524502372213906607104747590594533772503912292367926971710790000000000000000000000000000000000) ∷
+    (whole 6461618736413647582284377397175058385199406906529545043986105946192525295376116761519982897 over 56289299327937677867487020942549906677617472394007861755936506560000000000000000000000000000) ∷
+    (whole 15564646482424374662191098935361480864371112519024856741612472393452786028290105866380182897 over 22515719731175071146994808377019962671046988957603144702374602624000000000000000000000000000) ∷
+    (whole 15564646482424374662191098935361480864371112519024856741612472393452786028290105866380182897 over 22515719731175071146994808377019962671046988957603144702374602624000000000000000000000000000) ∷
+    []))
+unfolding definitions same factors masses
+odometer-motorcycle = tt
+
+-- a mileage that is never reached; m_sat is no multiple; n = 2
+abbrev odometer-never-cells : List ℕ
+odometer-never-cells =
+    products (0 ∷ 1 ∷ 0 ∷ 0 ∷ 0 ∷ 0 ∷ 0 ∷ 0 ∷ 0 ∷ 0 ∷ 0 ∷ 0 ∷ 0 ∷ 0 ∷ 0 ∷ 0 ∷ 0 ∷ 0 ∷ 0 ∷ 0 ∷ 0 ∷ 0 ∷ 0 ∷ 0 ∷ [])
+    (0 ∷ 0 ∷ 0 ∷ 0 ∷ 0 ∷ 0 ∷ 0 ∷ 0 ∷ 0 ∷ 1 ∷ 0 ∷ 0 ∷ 0 ∷ 0 ∷ 0 ∷ 0 ∷ 0 ∷ 0 ∷ 0 ∷ 0 ∷ 0 ∷ 0 ∷ 0 ∷ 0 ∷ [])
+
+abbrev odometer-never-season : Season
+odometer-never-season = record { days = 1; lowest = 50; highest = 250; vp = 700 }
+
+abbrev odometer-never-row : Row
+odometer-never-row = record { class = 2; canister = Medium; carburettor = 0; hot = 0; fill = 40; tank = 600; vehicles = 0; trips = 0; minutes = 15; load = 0; saturation = 33; mileage = 1000000 }
+
+odometer-never : T (same (factors 2 odometer-never-cells odometer-never-season odometer-never-row) (
+    (whole 66933425967357614901050059 over 48828125000000000000000000) ∷
+    (whole 358611445079 over 6250000000000) ∷
+    (whole 1179719684402423960269 over 500000000000000000000) ∷
+    (whole 399840933411727153423 over 125000000000000000000) ∷
+    (whole 19972950191 over 1000000000000) ∷
+    (whole 19972950191 over 1000000000000) ∷
+    (whole 19972950191 over 1000000000000) ∷
+    []))
+unfolding definitions same factors masses
+odometer-never = tt
+
 -- two seasons, c and p inside 0 to 100, a canister; n = 2
 abbrev year-cells : List ℕ
 year-cells =
@@ -356,3 +429,63 @@ two-wheelers : T (same (masses 2 two-wheelers-cells two-wheelers-season two-whee
     []))
 unfolding definitions same factors masses
 two-wheelers = tt
+
+-- two seasons of two-wheelers after 22 km; n = 2
+abbrev odometer-year-cells : List ℕ
+odometer-year-cells =
+    products (0 ∷ 0 ∷ 2 ∷ 0 ∷ 0 ∷ 0 ∷ 0 ∷ 0 ∷ 0 ∷ 0 ∷ 0 ∷ 0 ∷ 0 ∷ 0 ∷ 0 ∷ 0 ∷ 0 ∷ 0 ∷ 0 ∷ 0 ∷ 0 ∷ 0 ∷ 0 ∷ 0 ∷ [])
+    (0 ∷ 0 ∷ 0 ∷ 0 ∷ 0 ∷ 0 ∷ 0 ∷ 0 ∷ 0 ∷ 0 ∷ 0 ∷ 0 ∷ 2 ∷ 0 ∷ 0 ∷ 0 ∷ 0 ∷ 0 ∷ 0 ∷ 0 ∷ 0 ∷ 0 ∷ 0 ∷ 0 ∷ [])
+
+abbrev odometer-year-season : List Season
+odometer-year-season = (record { days = 200; lowest = 100; highest = 300; vp = 600 }) ∷ (record { days = 165; lowest = 65486; highest = 80; vp = 900 }) ∷ []
+
+abbrev odometer-year-row : Row
+odometer-year-row = record { class = 9; canister = Small; carburettor = 40; hot = 30; fill = 35; tank = 200; vehicles = 1000; trips = 250; minutes = 20; load = 0; saturation = 150; mileage = 22 }
+
+odometer-year : T (same (masses 2 odometer-year-cells odometer-year-season odometer-year-row) (
+    (whole 339144414009635658772652760071358792988416117832349359807934401160968503796525116823807674914714528540809398141800212095603918676698329644570128344958083997679283629018399409438820747726270910043710712302152381043289640093535287 over 13393521078250549091799006227639877547612057028270772110357303811748619329530405261346720604910290164947536169958357869507173744945863523747350173703444154637776582104558408285264152681355133752490065804209369263611250000000) ∷
+    (whole 352901126026847175453953418571568726981727628625500382956632955399686693446658438469089793380977639065330269040523506157319414184193288043071023196137274209607182989363006406677874564560761256617399570307305717598562492456270235397450121078392957239645586909577616451162641897284514945691772500000000000000000000000000 over 831761862270371304454557691106300019897174966553737856642711569238156571876967648636341727643986638873819261318847852769169896356028824629242473197895355041727408776847213159787344879933577071364739571768128228273108423824369793453482488542140686430502182418712195846653146037054306900444063943618157390899668653681) ∷
+    (whole 25583994681010690435003759216313334625579725919554919810142728474730923328009607831725695034484030193592021160548065459139878723985787524701197170086804245675305749255589310262361265861082898036114789966634763216762814082093254987436531325614437847998830871904775135510755375221340022337358325423560000000000000000000000000000 over 78986460950069186346401838807817930380109549185171446827688759484986891513847562602901143185389876999356156743353124838892744845152648511277568364628348571169819309073497398341583749344269214389507060828179944437221218067773522996315299781556328241451583605598131164483294821000897223146766171610255355857738860041692619201) ∷
+    []))
+unfolding definitions same factors masses
+odometer-year = tt
+
+-- a medium canister; n = 3
+load-medium : T (same (startingLoad 3 (whole 60) (whole 1) (whole 20) 16 (whole 12) ∷ []) ((whole 17 over 4) ∷ []))
+unfolding definitions same
+load-medium = tt
+
+-- a small canister; n = 4
+load-small : T (same (startingLoad 4 (whole 60) (whole 2) (whole 20) 39 (whole 10) ∷ []) ((whole 45 over 8) ∷ []))
+unfolding definitions same
+load-small = tt
+
+-- a large canister below 0 °C; n = 2
+load-large : T (same (startingLoad 2 (whole 60) (whole 1 over 2) (negᶠ (whole 5)) 13 (whole 35) ∷ []) ((whole 77 over 4) ∷ []))
+unfolding definitions same
+load-large = tt
+
+-- a small canister at 50 °C, where E(a + b·s·m) weighs more; n = 2
+load-hot : T (same (startingLoad 2 (whole 60) (whole 2) (whole 50) 62 (whole 38) ∷ []) ((whole 30) ∷ []))
+unfolding definitions same
+load-hot = tt
+
+-- one kilometre more than an empty canister has; n = 3
+load-slight : T (same (startingLoad 3 (whole 60) (whole 1) (whole 20) 12 (whole 12) ∷ []) ((whole 1 over 2) ∷ []))
+unfolding definitions same
+load-slight = tt
+
+-- an empty canister reaches it; n = 3
+load-empty : T (same (startingLoad 3 (whole 60) (whole 1) (whole 20) 11 (whole 12) ∷ []) ((whole 0) ∷ []))
+unfolding definitions same
+load-empty = tt
+
+-- none reaches it, and m_sat is no multiple; n = 3
+load-full : T (same (startingLoad 3 (whole 60) (whole 1) (whole 20) 1000000 (whole 121 over 10) ∷ []) ((whole 121 over 10) ∷ []))
+unfolding definitions same
+load-full = tt
+
+-- a canister that holds nothing; n = 4
+load-none : T (same (startingLoad 4 (whole 60) (whole 1) (whole 20) 100 (whole 0) ∷ []) ((whole 0) ∷ []))
+unfolding definitions same
+load-none = tt

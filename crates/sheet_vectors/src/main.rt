@@ -16,10 +16,14 @@ use vectors::tally::next;
 ghost use Prim.Native.Nat.{_+_, _≤_};
 ghost use lib.ListN.{length};
 
-// The bytes before each sheet: its length (two), a number (one) and a place (two). No list is behind it.
-const HEAD: usize = 5;
+// The bytes before each sheet: how many bytes follow (two), how many the sheet has of the one before it, in front of those (two), a number
+// (one) and a place (two). No list is behind it.
+const HEAD: usize = 7;
 
-const LAST_NUMBER: u64 = 24;
+// One byte more than the longest sheet
+const ROOM: usize = 2025;
+
+const LAST_NUMBER: u64 = 25;
 
 fn answer_of(found: Check) -> Answer {
     match found {
@@ -33,11 +37,22 @@ fn answer_of(found: Check) -> Answer {
 
 // The answer that is expected for the sheet whose head is here
 fn expected_at(s: &[u8], at: usize) -> Answer
-    requires { ⌜ at + 5 ≤ length (now s) ⌝ }
+    requires { ⌜ at + 7 ≤ length (now s) ⌝ }
 {
     Answer {
-        number: u8_at(s, at + 2),
-        place: u16_at(s, at + 3),
+        number: u8_at(s, at + 4),
+        place: u16_at(s, at + 5),
+    }
+}
+
+// Puts bytes into a sheet from a place on.
+fn put(sheet: &mut [u8], from: usize, bytes: &[u8])
+    requires { ⌜ from + length (now bytes) ≤ length (now sheet) ⌝ }
+{
+    let mut i = 0;
+    while i < bytes.len() {
+        sheet[from + i] = bytes[i];
+        i += 1;
     }
 }
 
@@ -51,9 +66,11 @@ fn print_other(position: u64, expected: Answer, found: Answer) {
     text(b"\n");
 }
 
-// A tally with one sheet more
-fn with_sheet(s: &[u8], expected: Answer, position: u64, tally: Tally) -> Tally {
-    let found = answer_of(checks::check_sheet(s));
+// A tally with one sheet more, the first so many of these bytes
+fn with_sheet(s: &[u8], count: usize, expected: Answer, position: u64, tally: Tally) -> Tally
+    requires { ⌜ count ≤ length (now s) ⌝ }
+{
+    let found = answer_of(checks::check_sheet(&s[0..count]));
     let right = found.same(expected);
     if !right {
         print_other(position, expected, found);
@@ -61,8 +78,9 @@ fn with_sheet(s: &[u8], expected: Answer, position: u64, tally: Tally) -> Tally 
     tally.with(Verdict::bare(right))
 }
 
-// The sheets of one number, up to the first that the end of the input cuts
+// The sheets of one number, up to the first that the end of the input cuts or that is too long
 fn tally_of(s: &[u8], number: u64) -> Tally {
+    let mut sheet = [0; 2025];
     let mut tally = Tally::none();
     let mut position: u64 = 0;
     let mut at = 0;
@@ -73,10 +91,16 @@ fn tally_of(s: &[u8], number: u64) -> Tally {
         if s.len() < end {
             return tally;
         }
+        let kept = u16_at(s, at + 2) as usize;
+        let count = kept + (end - start);
+        if ROOM < count {
+            return tally;
+        }
+        put(&mut sheet, kept, &s[start..end]);
         position = next(position);
         let expected = expected_at(s, at);
         if expected.number == number {
-            tally = with_sheet(&s[start..end], expected, position, tally);
+            tally = with_sheet(&sheet, count, expected, position, tally);
         }
         at = end;
     }

@@ -1,4 +1,6 @@
--- `sheet_vectors::tally_of` is safe and ends. The loop's invariant: the next head lies within the input. The measure is what is left of it.
+-- `sheet_vectors::tally_of` is safe and ends. The loop's invariant: the next head lies within the input, and the sheet keeps its room. The measure is
+-- what is left of the input.
+use mathlib.Core.Path.{_≡_}
 use Prim.Native.Nat.{_≤_, _-_}
 use borrow.Author.Needs.{needs}
 use lib.ListN.{length}
@@ -6,10 +8,10 @@ use Rattle.sheet_vectors.proofs.tally_of.Statement.{statement}
 use Rattle.sheet_vectors.proofs.tally_of.Tie as tie
 
 abbrev Inv-loop : tie.InvT-loop
-Inv-loop s number tally₀ position₀ at₀ tally position at = at ≤ length s
+Inv-loop s number sheet₀ tally₀ position₀ at₀ sheet tally position at = (at ≤ length s) × (2025 ≡ length sheet)
 
 abbrev μ-loop : tie.MeasureT-loop
-μ-loop s number tally₀ position₀ at₀ tally position at = length s - at
+μ-loop s number sheet₀ tally₀ position₀ at₀ sheet tally position at = length s - at
 
 pub tally-of-spec : {M : Type 1} → statement M
 tally-of-spec =
@@ -22,10 +24,18 @@ tally-of-spec =
     (λ c. search needs)
     (λ c κs. search needs)
     (λ c. search needs)
-    (λ c κs. search needs)
+    (λ c. search needs)
     (λ c κs. search needs)
     (λ c. search needs)
     (λ c. search needs)
+    (λ c. search needs)
+    (λ c. search needs)
+    (λ c. search needs)
+    (λ c. search needs)
+    (λ c. search needs)
+    (λ c κs. search needs)
+    (λ c κs. search needs)
+    (λ c κs. search needs)
     (λ c. search needs)
     (λ c κs. search needs)
     (λ c. search needs)
