@@ -233,7 +233,6 @@ METERED_WEATHER = (
     {**SEASON, "lowest": -20, "highest": 380, "vp": 450}, {**SEASON, "lowest": 420, "highest": 500, "vp": 300},
 )
 
-
 # Parkings that start and end in the cold and in the warmth of a day.
 FIVE = cells_grid({(3, 9): 2, (9, 14): 5, (24, 3): 1, (6, 19): 4, (17, 24): 3})
 
