@@ -1,5 +1,6 @@
-//! The time of one report of a full sheet (12 seasons, 32 rows with canister and without in turn, no empty cell): the proved call from
-//! its static library, and a plain program of the same formulas in f64. The masses of both are compared first.
+//! The time of one report of a full sheet (12 seasons, 32 rows, no empty cell): the proved call from its static library, and a plain
+//! program of the same formulas in f64. The masses of both are compared first. Four sheets: rows with canister and without in turn, none
+//! with a canister, all with a written load, and the same rows with a mileage in its place.
 use std::hint::black_box;
 
 #[repr(C)]
@@ -58,6 +59,16 @@ struct Row {
     hours: f64,
     load: f64,
     saturation: f64,
+    mileage: f64,
+}
+
+// which canisters the rows have; the last two in version 3, where a + b s m_sat is at most 0
+#[derive(Clone, Copy, PartialEq)]
+enum Canisters {
+    InTurn,
+    None,
+    Load,
+    Mileage,
 }
 
 fn u16_bytes(out: &mut Vec<u8>, x: i32) {
@@ -65,12 +76,17 @@ fn u16_bytes(out: &mut Vec<u8>, x: i32) {
 }
 
 // the sheet's bytes, and the same values in units
-fn full_sheet() -> (Vec<u8>, Vec<f64>, Vec<Season>, Vec<Row>) {
-    let mut bytes = b"EVP\x01\x00".to_vec();
-    bytes.extend_from_slice(&[SEASONS as u8, ROWS as u8, 0]);
+fn full_sheet(canisters: Canisters) -> (Vec<u8>, Vec<f64>, Vec<Season>, Vec<Row>) {
+    let grid = canisters == Canisters::Load || canisters == Canisters::Mileage;
+    let mut bytes = b"EVP".to_vec();
+    bytes.extend_from_slice(&[if grid { 3 } else { 1 }, 0, SEASONS as u8, ROWS as u8, 0]);
     let durations: Vec<i32> = (0..24).map(|i| 30 + i % 7).collect();
     let hours: Vec<i32> = (0..24).map(|i| 25 + i % 11).collect();
-    durations.iter().chain(&hours).for_each(|&c| u16_bytes(&mut bytes, c));
+    if grid {
+        (0..576).for_each(|c| u16_bytes(&mut bytes, durations[c % 24] * hours[c / 24]));
+    } else {
+        durations.iter().chain(&hours).for_each(|&c| u16_bytes(&mut bytes, c));
+    }
     let sum = (durations.iter().sum::<i32>() * hours.iter().sum::<i32>()) as f64;
     let cells = (0..576).map(|c| (durations[c % 24] * hours[c / 24]) as f64 / sum).collect();
     let mut seasons = Vec::new();
@@ -82,14 +98,20 @@ fn full_sheet() -> (Vec<u8>, Vec<f64>, Vec<Season>, Vec<Row>) {
     let mut rows = Vec::new();
     for i in 0..ROWS as i32 {
         let class = 1 + i % 9;
-        let canister = if i % 2 == 0 { 1 + i / 2 % 3 } else { 0 };
-        let saturation = [0, 500, 1000, 2000][canister as usize];
-        let load = saturation * (i % 5) / 5;
+        let canister = match canisters {
+            Canisters::InTurn => if i % 2 == 0 { 1 + i / 2 % 3 } else { 0 },
+            Canisters::None => 0,
+            Canisters::Load | Canisters::Mileage => 1 + i % 3,
+        };
+        let saturation = if grid { [0, 450, 900, 1800] } else { [0, 500, 1000, 2000] }[canister as usize];
+        let mileage: u32 = if canisters == Canisters::Mileage { 100 << (i % 12) } else { 0 };
+        let load = if mileage == 0 { saturation * (i % 5) / 5 } else { 0 };
         let (carburettor, hot, fill, tank, vehicles, trips, minutes) = (40, 30, 35 + i, 400 + 10 * i, 1000 + i, 450, 15);
         bytes.extend_from_slice(&[class as u8, 0, canister as u8, carburettor as u8, hot as u8, fill as u8]);
         u16_bytes(&mut bytes, tank);
         bytes.extend_from_slice(&(vehicles as u32).to_le_bytes());
-        [trips, minutes, load, saturation, 0, 0].iter().for_each(|&x| u16_bytes(&mut bytes, x));
+        [trips, minutes, load, saturation].iter().for_each(|&x| u16_bytes(&mut bytes, x));
+        bytes.extend_from_slice(&mileage.to_le_bytes());
         rows.push(Row {
             class: class as u8,
             size: [0.0, 2.0, 1.0, 0.5][canister as usize],
@@ -102,6 +124,7 @@ fn full_sheet() -> (Vec<u8>, Vec<f64>, Vec<Season>, Vec<Row>) {
             hours: minutes as f64 / 60.0,
             load: load as f64 / 10.0,
             saturation: saturation as f64 / 10.0,
+            mileage: mileage as f64,
         });
     }
     (bytes, cells, seasons, rows)
@@ -138,9 +161,23 @@ fn lost(row: &Row, vp: f64, t: f64, m: f64) -> f64 {
     (a + b * row.size * m.min(row.saturation)).exp() + (m - row.saturation).max(0.0)
 }
 
+// the load at parking start: written, or three of Newton's steps to m = net + E(a + b s m)
+fn start_load(row: &Row, vp: f64, t: f64, net: f64) -> f64 {
+    if row.mileage < 17.0 {
+        return row.load;
+    }
+    let b = 0.115 - 0.00015 * vp + 0.0001 * t;
+    let mut m = net.min(row.saturation);
+    for _ in 0..3 {
+        let x = lost(row, vp, t, m);
+        m = (m + (net + x - m) / (1.0 - b * row.size * x)).min(row.saturation);
+    }
+    m
+}
+
 // what escapes of vapour v: what breaks through the canister, where `first` is B at the load, or all of it
-fn escape(row: &Row, vp: f64, t: f64, first: f64, v: f64) -> f64 {
-    if row.size == 0.0 { v } else { lost(row, vp, t, row.load + v) - first }
+fn escape(row: &Row, vp: f64, t: f64, load: f64, first: f64, v: f64) -> f64 {
+    if row.size == 0.0 { v } else { lost(row, vp, t, load + v) - first }
 }
 
 // how much each mark counts, as the start of a parking (back) or as its end
@@ -160,7 +197,9 @@ fn mean_by_mark(counts: &[f64; 48], value: impl Fn(usize) -> f64) -> f64 {
 fn factors(cells: &[f64], starts: &[f64; 48], ends: &[f64; 48], season: &Season, m: &Marks, row: &Row) -> [f64; 7] {
     let vp = season.vp;
     let gain = (1.0 - row.fill) * row.tank * 0.025 * (0.0205 * vp).exp();
-    let first: [f64; 48] = std::array::from_fn(|i| if row.size == 0.0 { 0.0 } else { lost(row, vp, m.t[i], row.load) });
+    let net = if row.mileage == 0.0 { 0.0 } else { (8.13 * row.mileage.ln() - 22.92) / row.size };
+    let load: [f64; 48] = std::array::from_fn(|i| if row.size == 0.0 { 0.0 } else { start_load(row, vp, m.t[i], net) });
+    let first: [f64; 48] = std::array::from_fn(|i| if row.size == 0.0 { 0.0 } else { lost(row, vp, m.t[i], load[i]) });
     let mut diurnal = 0.0;
     for hour in 1..=24 {
         let (mut rise, mut seep) = (0.0, 0.0);
@@ -168,11 +207,11 @@ fn factors(cells: &[f64], starts: &[f64; 48], ends: &[f64; 48], season: &Season,
             let mark = start_mark(hour, d);
             rise += (m.heat[(mark + 1) % 48] - m.heat[mark]).max(0.0);
             seep += m.rate[mark];
-            diurnal += cells[24 * (hour - 1) + d - 1] * (escape(row, vp, m.t[mark], first[mark], gain * rise) + seep / 2.0);
+            diurnal += cells[24 * (hour - 1) + d - 1] * (escape(row, vp, m.t[mark], load[mark], first[mark], gain * rise) + seep / 2.0);
         }
     }
     let raised = |mark: usize, by: f64| gain * ((0.0716 * (m.t[mark] + by)).exp() - m.heat[mark]);
-    let escape_over = |back: bool, by: f64| mean_by_mark(if back { starts } else { ends }, |i| escape(row, vp, m.t[i], first[i], raised(i, by)));
+    let escape_over = |back: bool, by: f64| mean_by_mark(if back { starts } else { ends }, |i| escape(row, vp, m.t[i], load[i], first[i], raised(i, by)));
     if row.class >= 5 {
         let (soak, run) = (escape_over(true, 3.5), escape_over(false, 2.5));
         return [diurnal, escape_over(true, 1.5), soak, soak, escape_over(false, 1.0), run, run];
@@ -224,8 +263,9 @@ fn median(mut times: Vec<f64>) -> f64 {
     (times[ROUNDS / 2 - 1] + times[ROUNDS / 2]) / 2.0
 }
 
-fn main() {
-    let (sheet, cells, seasons, rows) = full_sheet();
+// microseconds of a report, ours and the plain program's
+fn report_times(canisters: Canisters, what: &str) {
+    let (sheet, cells, seasons, rows) = full_sheet(canisters);
     let mut words = [0u64; 6 * ROWS + 26];
     proved_report(&sheet, &mut words);
     let plain = plain_report(&cells, &seasons, &rows);
@@ -245,8 +285,14 @@ fn main() {
         }));
     }
     let (ours, theirs) = (median(ours), median(theirs));
-    println!("report of {} bytes, {} seasons, {} rows: median of {} rounds of {} calls", sheet.len(), SEASONS, ROWS, ROUNDS, CALLS);
-    println!("the proved call      {:8.0} us", ours);
-    println!("plain f64 in Rust    {:8.0} us", theirs);
-    println!("ours takes {:.2} times the plain program", ours / theirs);
+    println!("{:<34} {:>5} {:>8.0} {:>8.0} {:>8.2}", what, sheet.len(), ours, theirs, ours / theirs);
+}
+
+fn main() {
+    println!("one report, {} seasons, {} rows: median of {} rounds of {} calls, microseconds", SEASONS, ROWS, ROUNDS, CALLS);
+    println!("{:<34} {:>5} {:>8} {:>8} {:>8}", "rows", "bytes", "proved", "plain", "ratio");
+    report_times(Canisters::InTurn, "with canister and without in turn");
+    report_times(Canisters::None, "no canister");
+    report_times(Canisters::Load, "all with a written load");
+    report_times(Canisters::Mileage, "all with a mileage");
 }

@@ -1,8 +1,9 @@
 /* The two calls from C: reads two sample sheets of version 1, holds their reports and factors against the values below, and tries
- * refusals of each call. Then the same for the sheets of version 2 that have the products of their lists as a grid, which must
- * answer alike. Prints what it found; the exit status is 0 only where all of it is as expected.
+ * refusals of each call. Then the same for the sheets of version 2 that have the products of their lists as a grid, and for these
+ * in version 3, without a mileage, which must answer alike. Last a sample of version 3 with mileages. Prints what it found; the exit
+ * status is 0 only where all of it is as expected.
  *
- * usage: example EXAMPLE.evp TABLE-3-5-DAY.evp */
+ * usage: example EXAMPLE.evp TABLE-3-5-DAY.evp ODOMETER.evp */
 #include <inttypes.h>
 #include <stdio.h>
 #include <string.h>
@@ -156,14 +157,33 @@ static void expect_place(size_t seasons_start) {
     sheet[tank + 1] = kept;
 }
 
-/* In version 2, a grid of zeros and the other version in the head; what follows reads another sheet. */
+/* With a grid: one of zeros, and other versions in the head; what follows reads another sheet. */
 static void expect_grid_refusals(void) {
     memset(sheet + 8, 0, EVP_GRID_END - 8);
     expect_refused("a grid of zeros", EVP_GRID, 8);
     put_count(3, 1);
     expect_refused("version 1 with a grid", EVP_LENGTH, 0);
-    put_count(3, 3);
-    expect_refused("version 3", EVP_VERSION, 3);
+    put_count(3, 4);
+    expect_refused("version 4", EVP_VERSION, 3);
+}
+
+/* The first row of the odometer's sample, 236,000 km, in its first season. */
+static const uint64_t odometer_factors[7][2] = {
+    {207483, 207488}, {41035, 41039}, {58144, 58148}, {68705, 68710}, {19961, 19966}, {19961, 19966}, {19961, 19966},
+};
+
+/* A mileage: of more than 1,000,000 km, beside a load, and read as version 2. */
+static void expect_odometer(void) {
+    const size_t first_row = EVP_GRID_END + 2 * 8, load = first_row + 16, mileage = first_row + 20;
+    expect_factors(0, odometer_factors);
+    put_count(mileage + 2, 0xffff);
+    expect_refused("too many kilometres", EVP_MILEAGE, first_row);
+    put_count(mileage + 2, 0);
+    put_count(load, 1);
+    expect_refused("a mileage beside a load", EVP_MILEAGE, first_row);
+    put_count(load, 0);
+    put_count(3, 2);
+    expect_refused("a mileage in version 2", EVP_ROW_ZEROS, first_row);
 }
 
 /* The two samples: document 01's example, and three rows of Table 3-5. */
@@ -182,8 +202,8 @@ static void expect_table(size_t seasons_start) {
 }
 
 int main(int count, char **paths) {
-    if (count != 3) {
-        fprintf(stderr, "usage: example EXAMPLE.evp TABLE-3-5-DAY.evp\n");
+    if (count != 4) {
+        fprintf(stderr, "usage: example EXAMPLE.evp TABLE-3-5-DAY.evp ODOMETER.evp\n");
         return 2;
     }
     if (!read_sheet(paths[1]))
@@ -191,12 +211,19 @@ int main(int count, char **paths) {
     expect_example();
     make_grid();
     expect_example();
+    put_count(3, 3);
+    expect_example();
     if (!read_sheet(paths[2]))
         return 2;
     expect_table(EVP_LISTS_END);
     make_grid();
     expect_table(EVP_GRID_END);
+    put_count(3, 3);
+    expect_table(EVP_GRID_END);
     expect_grid_refusals();
+    if (!read_sheet(paths[3]))
+        return 2;
+    expect_odometer();
     if (mismatches != 0) {
         printf("%d mismatches\n", mismatches);
         return 1;

@@ -3,9 +3,10 @@
  * They stand in the static library target/staticlib/libevaporation.a, which `rt staticlib evaporation` makes from the proved
  * crate (x86-64 Linux); it needs only the C library. c/example.c is a program over them.
  *
- * Sheets of two versions are read, and the sheet itself says which it is: in version 1 the parking is two lists of 24 counts,
- * durations and end hours; in version 2 it is a grid of 576 counts, end hour 1 first, its 24 durations in a row. What a call
- * answers has the same form for both.
+ * Sheets of three versions are read, and the sheet itself says which it is: in version 1 the parking is two lists of 24 counts,
+ * durations and end hours; in version 2 it is a grid of 576 counts, end hour 1 first, its 24 durations in a row; in version 3,
+ * which is version 2 otherwise, the last four bytes of a row are a mileage in km, from which the canister's load follows where it
+ * is above 0. What a call answers has the same form for all.
  *
  * A sheet and a report are passed as a pointer and a number of elements. A pointer is never null, also where the number is 0,
  * and points to that many elements; `words` is aligned for uint64_t, and the bytes of sheet and words must not overlap. Those
@@ -22,11 +23,11 @@
 extern "C" {
 #endif
 
-/* The longest sheet, of version 2 with 12 seasons and 32 rows, in bytes; and its report, in words. */
+/* The longest sheet, of version 2 or 3 with 12 seasons and 32 rows, in bytes; and its report, in words. */
 #define EVP_SHEET_BYTES 2024
 #define EVP_REPORT_WORDS 218
 
-/* Where the parking ends and the seasons start, in version 1 and in version 2. A season has 8 bytes; the rows follow them. */
+/* Where the parking ends and the seasons start, in version 1 and from version 2 on. A season has 8 bytes; the rows follow them. */
 #define EVP_LISTS_END 104
 #define EVP_GRID_END 1160
 
@@ -35,16 +36,16 @@ extern "C" {
 
 /* Why a call answers nothing else. 0 stands for a sheet that is accepted. The first that applies is returned, in the order in
  * which they stand here, with its place: a byte of the head, the first byte of a list or grid, or the first byte of the season
- * or row at fault. 8 and 9 are of version 1 alone, 24 of version 2 alone. */
+ * or row at fault. 8 and 9 are of version 1 alone, 24 of versions 2 and 3; 21 of versions 1 and 2, 25 of version 3 alone. */
 enum evp_number {
     EVP_ACCEPTED = 0,
     EVP_HEAD_SHORT = 1,      /* the input has fewer than 8 bytes; place 0 */
     EVP_MARK = 2,            /* it does not start with the letters EVP; place 0 */
-    EVP_VERSION = 3,         /* the version is neither 1 nor 2; place 3 */
+    EVP_VERSION = 3,         /* the version is not 1, 2 or 3; place 3 */
     EVP_SEASONS = 4,         /* the number of seasons is not 1 to 12; place 5 */
     EVP_ROWS = 5,            /* the number of rows is not 1 to 32; place 6 */
     EVP_HEAD_ZERO = 6,       /* the last byte of the head is not zero; place 7 */
-    EVP_LENGTH = 7,          /* the length is not 104 + 8 * seasons + 24 * rows, in version 2 1160 + ..; place 0 */
+    EVP_LENGTH = 7,          /* the length is not 104 + 8 * seasons + 24 * rows, from version 2 on 1160 + ..; place 0 */
     EVP_DURATIONS = 8,       /* the 24 counts of durations do not sum to 1 to 1,000; place 8 */
     EVP_HOURS = 9,           /* the 24 counts of end hours do not sum to 1 to 1,000; place 56 */
     EVP_GRID = 24,           /* the 576 counts of the grid do not sum to 1 to 1,000,000; place 8 */
@@ -60,6 +61,8 @@ enum evp_number {
     EVP_LOAD = 19,           /* the load is above the saturating load, or one is given without a canister */
     EVP_EXPONENT = 20,       /* the saturating load is too large for the canister: its exponent is above 3 in some season */
     EVP_ROW_ZEROS = 21,      /* the last four bytes of a row are not zero */
+    EVP_MILEAGE = 25,        /* a mileage above 1,000,000 km; or one above 0 with no canister, beside a load, or where the exponent of
+                              * the saturating load is above 0 in some season */
     EVP_ROOM = 22,           /* the report call: fewer words than the report has; place 0 */
     EVP_ABSENT = 23          /* the factor call: the sheet has no such season or row, or the factor is not 1 to 7; place 0 */
 };
