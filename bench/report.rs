@@ -1,6 +1,7 @@
 //! The time of one report of a full sheet (12 seasons, 32 rows, no empty cell): the proved call from its static library, and a plain
 //! program of the same formulas in f64. The masses of both are compared first. Four sheets: rows with canister and without in turn, none
-//! with a canister, all with a written load, and the same rows with a mileage in its place.
+//! with a canister, all with a written load, and the same rows with a mileage in its place. Then sheets of version 4 with 1, 10, 100 and
+//! 1,000 rows, without canister, with a load and with a mileage in turn.
 use std::hint::black_box;
 
 #[repr(C)]
@@ -69,6 +70,8 @@ enum Canisters {
     None,
     Load,
     Mileage,
+    // version 4: none, a load and a mileage in turn
+    Three,
 }
 
 fn u16_bytes(out: &mut Vec<u8>, x: i32) {
@@ -76,10 +79,15 @@ fn u16_bytes(out: &mut Vec<u8>, x: i32) {
 }
 
 // the sheet's bytes, and the same values in units
-fn full_sheet(canisters: Canisters) -> (Vec<u8>, Vec<f64>, Vec<Season>, Vec<Row>) {
-    let grid = canisters == Canisters::Load || canisters == Canisters::Mileage;
+fn full_sheet(canisters: Canisters, count: usize) -> (Vec<u8>, Vec<f64>, Vec<Season>, Vec<Row>) {
+    let (version, grid) = match canisters {
+        Canisters::InTurn | Canisters::None => (1, false),
+        Canisters::Load | Canisters::Mileage => (3, true),
+        Canisters::Three => (4, true),
+    };
     let mut bytes = b"EVP".to_vec();
-    bytes.extend_from_slice(&[if grid { 3 } else { 1 }, 0, SEASONS as u8, ROWS as u8, 0]);
+    bytes.extend_from_slice(&[version, 0, SEASONS as u8]);
+    u16_bytes(&mut bytes, count as i32);
     let durations: Vec<i32> = (0..24).map(|i| 30 + i % 7).collect();
     let hours: Vec<i32> = (0..24).map(|i| 25 + i % 11).collect();
     if grid {
@@ -96,17 +104,19 @@ fn full_sheet(canisters: Canisters) -> (Vec<u8>, Vec<f64>, Vec<Season>, Vec<Row>
         seasons.push(Season { days: days as f64, lowest: lowest as f64 / 10.0, highest: highest as f64 / 10.0, vp: vp as f64 / 10.0 });
     }
     let mut rows = Vec::new();
-    for i in 0..ROWS as i32 {
+    for i in 0..count as i32 {
         let class = 1 + i % 9;
         let canister = match canisters {
             Canisters::InTurn => if i % 2 == 0 { 1 + i / 2 % 3 } else { 0 },
             Canisters::None => 0,
             Canisters::Load | Canisters::Mileage => 1 + i % 3,
+            Canisters::Three => if i % 3 == 0 { 0 } else { 1 + i / 3 % 3 },
         };
         let saturation = if grid { [0, 450, 900, 1800] } else { [0, 500, 1000, 2000] }[canister as usize];
-        let mileage: u32 = if canisters == Canisters::Mileage { 100 << (i % 12) } else { 0 };
+        let driven = canisters == Canisters::Mileage || canisters == Canisters::Three && i % 3 == 2;
+        let mileage: u32 = if driven { 100 << (i % 12) } else { 0 };
         let load = if mileage == 0 { saturation * (i % 5) / 5 } else { 0 };
-        let (carburettor, hot, fill, tank, vehicles, trips, minutes) = (40, 30, 35 + i, 400 + 10 * i, 1000 + i, 450, 15);
+        let (carburettor, hot, fill, tank, vehicles, trips, minutes) = (40, 30, 35 + i % 32, 400 + 10 * (i % 32), 1000 + i, 450, 15);
         bytes.extend_from_slice(&[class as u8, 0, canister as u8, carburettor as u8, hot as u8, fill as u8]);
         u16_bytes(&mut bytes, tank);
         bytes.extend_from_slice(&(vehicles as u32).to_le_bytes());
@@ -148,7 +158,8 @@ struct Marks {
 
 fn marks(season: &Season) -> Marks {
     let t = std::array::from_fn(|i| {
-        let apart = i as f64 / 2.0 - 14.0;
+        let one_way = (i as f64 / 2.0 - 14.0).abs();
+        let apart = one_way.min(24.0 - one_way);
         season.lowest + (season.highest - season.lowest) * (-0.0247 * apart * apart).exp()
     });
     Marks { t, heat: t.map(|t| (0.0716 * t).exp()), rate: t.map(|t| permeation(season.vp, t)) }
@@ -264,9 +275,9 @@ fn median(mut times: Vec<f64>) -> f64 {
 }
 
 // microseconds of a report, ours and the plain program's
-fn report_times(canisters: Canisters, what: &str) {
-    let (sheet, cells, seasons, rows) = full_sheet(canisters);
-    let mut words = [0u64; 6 * ROWS + 26];
+fn report_times(canisters: Canisters, count: usize, what: &str) {
+    let (sheet, cells, seasons, rows) = full_sheet(canisters, count);
+    let mut words = vec![0u64; 6 * count + 26];
     proved_report(&sheet, &mut words);
     let plain = plain_report(&cells, &seasons, &rows);
     for (i, mass) in plain.iter().enumerate() {
@@ -289,10 +300,13 @@ fn report_times(canisters: Canisters, what: &str) {
 }
 
 fn main() {
-    println!("one report, {} seasons, {} rows: median of {} rounds of {} calls, microseconds", SEASONS, ROWS, ROUNDS, CALLS);
+    println!("one report, {} seasons, {} rows but where said: median of {} rounds of {} calls, microseconds", SEASONS, ROWS, ROUNDS, CALLS);
     println!("{:<34} {:>5} {:>8} {:>8} {:>8}", "rows", "bytes", "proved", "plain", "ratio");
-    report_times(Canisters::InTurn, "with canister and without in turn");
-    report_times(Canisters::None, "no canister");
-    report_times(Canisters::Load, "all with a written load");
-    report_times(Canisters::Mileage, "all with a mileage");
+    report_times(Canisters::InTurn, ROWS, "with canister and without in turn");
+    report_times(Canisters::None, ROWS, "no canister");
+    report_times(Canisters::Load, ROWS, "all with a written load");
+    report_times(Canisters::Mileage, ROWS, "all with a mileage");
+    for rows in [1, 10, 100, 1000] {
+        report_times(Canisters::Three, rows, &format!("{} rows of version 4", rows));
+    }
 }

@@ -5,12 +5,14 @@ The method is Tier 3 of the guidebook (source document 001) as document 01
 settles it. This file is a second reckoning, made apart from the program, so
 that the program's lows and highs can be held against it.
 
-Sheets of three versions are read. Version 1 has two lists of counts, durations
+Sheets of four versions are read. Version 1 has two lists of counts, durations
 and end hours; version 2 has a grid of 576 counts, end hour 1 first, its 24
 durations in a row. Both are read as a grid, that of two lists being their
 products, and a cell weighs its count over the sum of all. Version 3 is version
 2 with a mileage in every row, 0 where the written load counts; before version 3
-it is 0. Whatever follows the reading knows a grid and mileages, and no version.
+it is 0. Version 4 is version 3 with up to 1,000 rows and a limit of their
+vehicles together. Whatever follows the reading knows a grid and mileages, and
+no version.
 
 Two ways of reckoning ("modes"):
 
@@ -156,13 +158,24 @@ def _counts(data, at, many):
 
 
 def _has_grid(data):
-    """Whether the parking is a grid (versions 2 and 3) or two lists (1)."""
-    return _u16(data, 3) in (2, 3)
+    """Whether the parking is a grid (versions 2 to 4) or two lists (1)."""
+    return _u16(data, 3) in (2, 3, 4)
 
 
 def _has_mileage(data):
-    """Whether bytes 20 to 23 of a row are a mileage (version 3) or zero."""
-    return _u16(data, 3) == 3
+    """Whether bytes 20 to 23 of a row are a mileage (versions 3 and 4) or zero."""
+    return _u16(data, 3) in (3, 4)
+
+
+def _has_many_rows(data):
+    """Whether bytes 6 and 7 are the count of rows (version 4), or byte 6 is it
+    and byte 7 is zero."""
+    return _u16(data, 3) == 4
+
+
+def row_count(data):
+    """The rows that the head tells of."""
+    return _u16(data, 6) if _has_many_rows(data) else data[6]
 
 
 def seasons_start(data):
@@ -210,14 +223,14 @@ def check(data, words=None, call=None):
         return 1, 0
     if bytes(data[0:3]) != b"EVP":
         return 2, 0
-    if _u16(data, 3) not in (1, 2, 3):
+    if _u16(data, 3) not in (1, 2, 3, 4):
         return 3, 3
-    seasons, rows = data[5], data[6]
+    seasons, rows = data[5], row_count(data)
     if not 1 <= seasons <= 12:
         return 4, 5
-    if not 1 <= rows <= 32:
+    if not 1 <= rows <= (1000 if _has_many_rows(data) else 32):
         return 5, 6
-    if data[7] != 0:
+    if data[7] != 0 and not _has_many_rows(data):
         return 6, 7
     start = seasons_start(data)
     if len(data) != start + 8 * seasons + 24 * rows:
@@ -240,9 +253,13 @@ def check(data, words=None, call=None):
             return 12, place
         all_seasons.append(season)
 
+    most = 100_000_000 if _has_many_rows(data) else math.inf
+    vehicles = 0
     for index in range(rows):
         place = start + 8 * seasons + 24 * index
-        number = _check_row(row_at(data, place), all_seasons, _has_mileage(data))
+        row = row_at(data, place)
+        vehicles += row.vehicles
+        number = _check_row(row, all_seasons, _has_mileage(data), vehicles > most)
         if number is not None:
             return number, place
 
@@ -269,7 +286,9 @@ def _check_grid(data):
     return None
 
 
-def _check_row(row, seasons, with_mileage):
+def _check_row(row, seasons, with_mileage, too_many):
+    """The number of the first condition that applies to a row; `too_many` says
+    whether the vehicles of the rows up to this one are beyond their limit."""
     if table_entry(row.vehicle_class, row.technology) is None:
         return 13
     if row.canister not in (NONE, SMALL, MEDIUM, LARGE, BY_CLASS):
@@ -278,6 +297,8 @@ def _check_row(row, seasons, with_mileage):
         return 15
     if row.vehicles > 10_000_000:
         return 16
+    if too_many:
+        return 26
     if row.tank > 1500:
         return 17
     if row.trips > 2000 or row.minutes > 1440:
@@ -287,7 +308,7 @@ def _check_row(row, seasons, with_mileage):
         return 19
     if canister == NONE and (row.load or row.saturation):
         return 19
-    if canister != NONE and _highest_exponent(row, seasons) > 3:
+    if canister != NONE and _highest_exponent(canister, row.saturation, tuple(seasons)) > 3:
         return 20
     if with_mileage and _mileage_wrong(row, seasons):
         return 25
@@ -296,13 +317,14 @@ def _check_row(row, seasons, with_mileage):
     return None
 
 
-def _highest_exponent(row, seasons):
-    """a + b.s.m_sat of a row with a canister, in the season that has it highest
-    at its highest temperature."""
+@functools.lru_cache(maxsize=None)
+def _highest_exponent(canister, saturation, seasons):
+    """a + b.s.m_sat of a canister, in the season that has it highest at its
+    highest temperature."""
     found = []
     for season in seasons:
         a, b = canister_a_b(season, Fraction(season.highest, 10))
-        found.append(a + b * CANISTER_S[canister_of(row)] * Fraction(row.saturation, 10))
+        found.append(a + b * CANISTER_S[canister] * Fraction(saturation, 10))
     return max(found)
 
 
@@ -312,7 +334,8 @@ def _mileage_wrong(row, seasons):
         return True
     if row.mileage == 0:
         return False
-    return canister_of(row) == NONE or row.load > 0 or _highest_exponent(row, seasons) > 0
+    canister = canister_of(row)
+    return canister == NONE or row.load > 0 or _highest_exponent(canister, row.saturation, tuple(seasons)) > 0
 
 
 def read(data):
@@ -320,7 +343,7 @@ def read(data):
     refusal = check(data)
     if refusal is not None:
         raise ValueError("refused %d at %d" % refusal)
-    start, seasons, rows = seasons_start(data), data[5], data[6]
+    start, seasons, rows = seasons_start(data), data[5], row_count(data)
     return Sheet(
         _grid(data),
         tuple(season_at(data, start + 8 * i) for i in range(seasons)),
@@ -735,6 +758,13 @@ def factors(sheet, season, row, n=40, mode="decimal"):
     return tuple(factor(sheet, season, row, k, n, mode) for k in range(1, 8))
 
 
+@functools.lru_cache(maxsize=4096)
+def _shared_factors(grid, season, row, n, mode):
+    """The seven factors of all rows that differ from this one in vehicles,
+    trips, c and p alone, which no factor depends on."""
+    return factors(Sheet(grid, (season,), (row,)), 0, 0, n, mode)
+
+
 def masses(sheet, row, n=40, mode="decimal"):
     """(diurnal, soak, running) of a row in grams, summed over the seasons."""
     record = sheet.rows[row]
@@ -744,8 +774,9 @@ def masses(sheet, row, n=40, mode="decimal"):
     diurnal = soak = running = Fraction(0)
     if record.vehicles == 0:
         return diurnal, soak, running
-    for index, season in enumerate(sheet.seasons):
-        f1, f2, f3, f4, f5, f6, f7 = factors(sheet, index, row, n, mode)
+    alike = record._replace(carburettor=0, hot=0, vehicles=0, trips=0)
+    for season in sheet.seasons:
+        f1, f2, f3, f4, f5, f6, f7 = _shared_factors(sheet.grid, season, alike, n, mode)
         many = season.days * record.vehicles
         diurnal += many * f1
         soak += many * trips * (c * (p * f4 + (1 - p) * f3) + (1 - c) * f2)

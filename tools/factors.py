@@ -28,7 +28,7 @@ import sheets
 from inputs import TOP, answer_text, packed, serve
 from sheets import (
     BY_CLASS, DRIVEN, EMPTY, PAIRS, ROW, SEASON, Chance, Plan, cells_grid, chance_grid_plan, chance_metered_plan,
-    chance_plan, metered, most,
+    chance_plan, in_turn, many, metered, most,
 )
 
 TERMS = (40, 60)
@@ -42,6 +42,7 @@ LEAST_FACTORS = 260
 LEAST_OF_A_FACTOR = 30
 LEAST_OF_GRIDS = 100  # of version 2
 LEAST_OF_MILEAGES = 150  # of rows with a mileage
+LEAST_BEYOND = 30  # of rows behind the first 32
 ALL = range(1, 8)
 
 # A sheet and the calls on it, each (season, row, factor).
@@ -151,6 +152,8 @@ def sample_groups():
     yield Group("survey", data, [(j % 2, j, k) for j in range(data[6]) for k in (1, 2 + j % 6)])
     data = (TOP / "samples" / "odometer.evp").read_bytes()
     yield Group("odometer", data, [(j % 2, j, k) for j in range(data[6]) for k in (1, 2 + j % 6)])
+    data = (TOP / "samples" / "districts.evp").read_bytes()
+    yield Group("districts", data, [(j % 4, j, 1 + j % 7) for j in range(0, sheets.rows_of(data), 13)])
 
 
 def chance_groups():
@@ -274,6 +277,21 @@ def chance_mileage_groups():
         yield Group("mileages by chance", plan.data(), sorted(set(calls)))
 
 
+# ---------------------------------------------------------------- version 4
+
+
+def many_group():
+    """Both sides of what one byte counts and of the most rows of the other
+    versions, and the last of a thousand; no row has the fill level of one that
+    a count cut to a byte would take in its place. Rows that are not there are
+    refused as 23."""
+    rows = tuple({**row, "fill": i % 97} for i, row in enumerate(in_turn(1000)))
+    calls = [(0, j, 1 + (j + k) % 7) for j in (0, 31, 32, 33, 254, 255, 256, 257, 511, 512, 768, 998, 999) for k in (0, 3)]
+    absent = [(0, 1000, 1), (0, 1001, 7), (0, 1024, 1), (0, 65_536, 1), (0, 2 ** 32 + 999, 1), (1, 999, 1), (0, 999, 8)]
+    plan = replace(many((SEASON,), rows), grid=FIVE)
+    return Group("a thousand rows", plan.data(), calls + absent)
+
+
 # ------------------------------------------------------------------ refused
 
 LARGEST = 2 ** 64 - 1
@@ -281,7 +299,7 @@ LARGEST = 2 ** 64 - 1
 
 def absent_groups():
     """A season, a row or a factor that is not there, number 23."""
-    for plan in (sheets.BASE, sheets.BASE_GRID, sheets.BASE_METERED):
+    for plan in (sheets.BASE, sheets.BASE_GRID, sheets.BASE_METERED, sheets.BASE_MANY):
         yield Group("absent", plan.data(), absent_calls(plan))
 
 
@@ -336,6 +354,7 @@ def groups():
     yield from chance_grid_groups()
     yield from mileage_groups()
     yield from chance_mileage_groups()
+    yield many_group()
     yield from absent_groups()
     yield from refused_groups()
 
@@ -366,6 +385,9 @@ def missing(found):
     of_grids = sum(sheets.version_of(group.data) == 2 for group, call in calls if not call.number)
     if of_grids < LEAST_OF_GRIDS:
         yield "%d factors of version 2" % of_grids
+    beyond = [call.row for _, call in accepted if call.row >= 32]
+    if len(beyond) < LEAST_BEYOND or not {32, 255, 256, 999} <= set(beyond):
+        yield "%d factors of rows behind the first 32, or not all rows" % len(beyond)
     yield from missing_mileages([(sheet, call) for sheet, call in accepted if sheet.rows[call.row].mileage])
     calls_of = {group.data: group.calls for group in found}
     for plan in LISTED:

@@ -26,17 +26,18 @@ import sheets
 from factors import FIVE, LISTED, METERED_WEATHER, MILEAGES, TWO_ROWS, UNLISTED, driven_rows, few_cells, one_cell, whole
 from inputs import TOP, answer_text, packed, serve
 from sheets import (
-    EMPTY, PAIRS, ROW, SEASON, Chance, Plan, cells_grid, chance_grid_plan, chance_metered_plan, chance_plan, grid_of,
-    metered,
+    DRIVEN, EMPTY, MOST_OF_ALL, MOST_OF_ROW, PAIRS, ROW, SEASON, Chance, Plan, cells_grid, chance_grid_plan,
+    chance_many_plan, chance_metered_plan, chance_plan, grid_of, in_turn, many, metered, rows_of, with_vehicles,
 )
 
-WORDS = 256  # the words of its buffer
+WORDS = 6144  # the words of its buffer
 MILLIGRAMS = 1000
 
 LEAST_ACCEPTED = 60
 LEAST_GRIDS = 20  # of version 2
 LEAST_MILEAGES = 100  # rows with a mileage and vehicles
-MOST_AT_60 = 40  # seasons times rows up to which n = 60 is calculated too
+LEAST_MANY = 8  # with more than 32 rows
+MOST_AT_60 = 40  # seasons times rows of unlike factors up to which n = 60 is calculated too
 
 # A sheet and the words of the buffer.
 Case = namedtuple("Case", "words data room")
@@ -46,7 +47,7 @@ Case = namedtuple("Case", "words data room")
 
 def length(data):
     """The words of a sheet's report."""
-    return 6 * data[6] + 26
+    return 6 * rows_of(data) + 26
 
 
 def exactly(words, plan):
@@ -60,7 +61,7 @@ def roomy(words, plan):
 
 
 def sample_cases():
-    for name in ("example", "table-3-5", "table-3-5-day", "region", "survey", "odometer"):
+    for name in ("example", "table-3-5", "table-3-5-day", "region", "survey", "odometer", "districts"):
         data = (TOP / "samples" / (name + ".evp")).read_bytes()
         yield Case(name, data, length(data))
 
@@ -179,6 +180,68 @@ def chance_mileage_cases():
     yield exactly("mileages by chance, all parkings", chance_metered_plan(2, 3).gridded())
 
 
+# ------------------------------------------------------------------ version 4
+
+# Kinds of rows; rows of one kind have the same factors, so that a thousand rows
+# are calculated as quickly as these. In HOT_AND_COLD all of them are accepted.
+HOT_AND_COLD = ({**SEASON, "days": 214, "lowest": 41, "highest": 297}, {**SEASON, "lowest": -73, "highest": 52, "vp": 880})
+KINDS = (
+    {**ROW, "technology": 0, **EMPTY}, {**ROW, "class": 2, "technology": 2}, {**DRIVEN, "class": 3, "technology": 4},
+    {**ROW, "class": 4, "technology": 3, "load": 700, "saturation": 900}, {**DRIVEN, "class": 4, "mileage": 212_000},
+    {**ROW, "class": 6, "technology": 2, **EMPTY}, {**DRIVEN, "class": 9, "mileage": 9_400, "saturation": 430},
+)
+
+
+def varied(name, count, kinds=KINDS, most=MOST_OF_ALL):
+    """So many rows of these kinds by turns that differ in what no factor
+    depends on. Their vehicles sum to `most`, what division leaves over being in
+    the last."""
+    chance = Chance(name)
+    parts = [chance.between(0, 999) for _ in range(count - 1)] + [1]
+    vehicles = [part * most // sum(parts) for part in parts]
+    vehicles[-1] += most - sum(vehicles)
+    return tuple({
+        **kinds[i % len(kinds)], "vehicles": vehicles[i], "trips": chance.between(0, 2000),
+        "carburettor": chance.between(0, 100), "hot": chance.between(0, 100),
+    } for i in range(count))
+
+
+def wide(seasons, rows):
+    """A plan of version 4 with few parkings."""
+    return replace(many(seasons, rows), grid=FIVE)
+
+
+def many_cases():
+    """More rows than other versions have, and fewer; with all the vehicles that
+    there can be together, but for the last."""
+    for i, (seasons, rows) in enumerate(((1, 33), (2, 256), (1, 1000), (2, 1))):
+        plan = wide(HOT_AND_COLD[:seasons], varied("rows of report %d" % i, rows, most=min(rows * MOST_OF_ROW, MOST_OF_ALL)))
+        yield (exactly, roomy)[i % 2]("version 4, %s" % sheets.sized(plan), whole_year(plan))
+    plan = wide(({**SEASON, "days": 30},) * 12, varied("twelve seasons", 40, KINDS[:5:2]))
+    yield exactly("version 4, %s" % sheets.sized(plan), plan)
+    yield roomy("version 4, values by chance", replace(chance_many_plan(1, 36), grid=FIVE))
+
+
+def far_cases():
+    """Vehicles in rows beyond the first 32 alone; rows of one category beyond
+    them; and the largest masses in as few rows as can have all vehicles, which
+    stand last."""
+    rows = varied("far rows", 41)
+    plan = with_vehicles(wide(HOT_AND_COLD, rows), dict.fromkeys(range(33), 0))
+    yield exactly("version 4, vehicles from row 34 on", plan)
+    for words, kind in (("cars", KINDS[2]), ("light-duty", KINDS[3]), ("two-wheelers", KINDS[6])):
+        others = [other for other in KINDS if category_of(other["class"]) != category_of(kind["class"])]
+        rows = varied("others than " + words, 33, others, 10 ** 7) + varied(words, 8, (kind,), 10 ** 7)
+        yield exactly("version 4, %s in the last rows" % words, wide(HOT_AND_COLD[:1], rows))
+    hot = {"days": 366, "lowest": -300, "highest": 500, "vp": 1100}
+    largest = {
+        **KINDS[0], "carburettor": 100, "hot": 100, "fill": 0, "tank": 1500, "vehicles": MOST_OF_ROW, "trips": 2000,
+        "minutes": 1440,
+    }
+    rows = tuple({**largest, "class": 1 + i % 8, "vehicles": MOST_OF_ROW if i >= 32 else 0} for i in range(42))
+    yield exactly("version 4, the largest masses", replace(many((hot,), rows), grid=cells_grid({(24, 14): 1})))
+
+
 # -------------------------------------------------------------------- refused
 
 
@@ -186,10 +249,15 @@ def short_cases():
     """Buffers of no word, one word and a word too few, number 22."""
     for plan in (
         sheets.SMALLEST, sheets.BASE, sheets.LARGEST, sheets.SMALL_GRID, sheets.LARGE_GRID, sheets.BASE_METERED,
+        sheets.BASE_MANY,
     ):
         data = plan.data()
-        for room in (0, 1, 6 * data[6], length(data) - 1):
+        for room in (0, 1, 6 * rows_of(data), length(data) - 1):
             yield Case("room for %d words, %s" % (room, sheets.sized(plan)), data, room)
+    # what the largest of the other versions needs; what byte 7 alone says; and a word too few
+    for rows, room in ((33, 218), (256, 26), (1000, 6025)):
+        plan = many((SEASON,), in_turn(rows))
+        yield Case("room for %d words, %s" % (room, sheets.sized(plan)), plan.data(), room)
 
 
 def refused_cases():
@@ -204,14 +272,14 @@ def refused_cases():
 Vector = namedtuple("Vector", "case answer rows")
 
 
-def category(row):
-    return 1 if row.vehicle_class <= 3 else 2 if row.vehicle_class == 4 else 3
+def category_of(vehicle_class):
+    return 1 if vehicle_class <= 3 else 2 if vehicle_class == 4 else 3
 
 
 def row_numbers(sheet, i, terms):
     row = sheet.rows[i]
-    many = row.vehicles * sum(season.days for season in sheet.seasons)
-    numbers = [category(row), many, many * row.trips // 100]
+    counted = row.vehicles * sum(season.days for season in sheet.seasons)
+    numbers = [category_of(row.vehicle_class), counted, counted * row.trips // 100]
     for values in zip(*(evaporation.masses(sheet, i, n) for n in terms)):
         ends = [whole(value * MILLIGRAMS) for value in values]
         numbers += [min(below for below, _ in ends), max(above for _, above in ends)]
@@ -223,14 +291,15 @@ def vector(case):
     if refusal is not None:
         return Vector(case, refusal, [])
     sheet = evaporation.read(case.data)
-    terms = (40, 60) if len(sheet.seasons) * len(sheet.rows) <= MOST_AT_60 else (40,)
+    unlike = {row._replace(vehicles=0, trips=0, carburettor=0, hot=0) for row in sheet.rows}
+    terms = (40, 60) if len(sheet.seasons) * len(unlike) <= MOST_AT_60 else (40,)
     return Vector(case, (0, 0), [row_numbers(sheet, i, terms) for i in range(len(sheet.rows))])
 
 
 def all_vectors():
     groups = (
         sample_cases, chance_cases, full_cases, category_cases, limit_cases, listed_cases, cell_cases, unlisted_cases,
-        chance_grid_cases, mileage_cases, chance_mileage_cases, short_cases, refused_cases,
+        chance_grid_cases, mileage_cases, chance_mileage_cases, many_cases, far_cases, short_cases, refused_cases,
     )
     return [vector(case) for group in groups for case in group()]
 
@@ -248,12 +317,17 @@ def missing(vectors):
     driven = [row for sheet in accepted for row in sheet.rows if row.mileage and row.vehicles]
     if len(driven) < LEAST_MILEAGES or not {row.mileage for row in driven} >= set(MILEAGES):
         yield "%d rows with a mileage, or not all mileages" % len(driven)
-    rows_of = {v.case.data: v.rows for v in vectors}
+    beyond = [sheet.rows[32:] for sheet in accepted if len(sheet.rows) > 32]
+    kinds = {(evaporation.canister_of(row) > 0, row.mileage > 0) for rows in beyond for row in rows if row.vehicles}
+    if len(beyond) < LEAST_MANY or len(kinds) < 3:
+        yield "%d accepted sheets with more than 32 rows, %d kinds of rows there" % (len(beyond), len(kinds))
+    found = {v.case.data: v.rows for v in vectors}
     for plan in listed_plans():
-        if rows_of[plan.data()] != rows_of[plan.gridded().data()]:
+        if found[plan.data()] != found[plan.gridded().data()]:
             yield "lists and the grid of their products have other masses"
     for words, found, wanted in (
-        ("rows", {len(sheet.rows) for sheet in accepted}, {1, 32}),
+        ("rows", {len(sheet.rows) for sheet in accepted}, {1, 32, 33, 256, 1000}),
+        ("sums of vehicles", {sum(row.vehicles for row in sheet.rows) for sheet in accepted}, {MOST_OF_ALL}),
         ("seasons", {len(sheet.seasons) for sheet in accepted}, {1, 12}),
         ("vehicles", {row.vehicles for sheet in accepted for row in sheet.rows}, {0, 1, 10_000_000}),
         ("trips", {row.trips for sheet in accepted for row in sheet.rows if row.vehicles}, {0, 2000}),

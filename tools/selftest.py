@@ -1,5 +1,5 @@
 #!/usr/bin/env python3
-"""Checks tools/evaporation.py, tools/sheet.py and the samples.
+"""Checks tools/evaporation.py, tools/sheet.py, tools/picture.py and the samples.
 
   python3 tools/selftest.py
 
@@ -16,16 +16,19 @@ import sys
 import tempfile
 import time
 from fractions import Fraction
+from xml.etree import ElementTree
 
 sys.dont_write_bytecode = True
 HERE = os.path.dirname(os.path.abspath(__file__))
 sys.path.insert(0, HERE)
 
+import districts  # noqa: E402
 import evaporation as ev  # noqa: E402
+import picture  # noqa: E402
 import sheet as writer  # noqa: E402
 
 SAMPLES = os.path.join(os.path.dirname(HERE), "samples")
-NAMES = ("example", "table-3-5", "table-3-5-day", "region", "survey", "odometer")
+NAMES = ("example", "table-3-5", "table-3-5-day", "region", "survey", "odometer", "districts")
 MICROGRAM = Fraction(1, 10 ** 6)
 
 
@@ -57,6 +60,8 @@ def sheet_of(text):
 def check_samples():
     for name in NAMES:
         text = sample(name, ".txt").decode("utf-8")
+        if name == "districts":
+            same(text, districts.text(), "text of sample districts")
         data = sample(name, ".evp")
         same(writer.write(text), data, "bytes of sample " + name)
         same(writer.write(writer.read(data)), data, "sample %s read back" % name)
@@ -144,6 +149,18 @@ def check_writer():
         ("row class=1 technology=1 mileage=1 spare=00000001", "line 1: row: mileage and spare are the same bytes"),
         (FEW_CELLS + "row class=1 technology=0\nrow class=1 technology=1 mileage=0\nrow class=1 technology=1 mileage=7",
          "line 4: row: a mileage wants a grid in place of durations and hours"),
+        # many rows: a grid beside them, and a count that the head has room for
+        (FEW_CELLS + "row class=1 technology=0\n" * 40,
+         "line 35: row: more than 32 rows want a grid in place of durations and hours"),
+        (FEW_CELLS + "row class=1 technology=0\n" * 256 + "version 1",
+         "line 259: 256 rows do not fit the head of version 1"),
+        (grid_text({}) + "row class=1 technology=0\n" * 256 + "version 3",
+         "line 281: 256 rows do not fit the head of version 3"),
+        (grid_text({}) + "row class=1 technology=0\n" * 65536, "line 65560: 65536 rows do not fit the head of version 4"),
+        (grid_text({}) + "rows 256\n\n", "line 25: 256 rows do not fit the head of version 2"),
+        ("rows 65536", "line 1: rows: 65536 does not fit"),
+        (grid_text({}) + "season days=1 lowest=1 highest=2 vp=60\n" * 256, "line 280: 256 seasons do not fit the head"),
+        (grid_text({}) + "zero 1\nversion 4\n", "line 25: zero: byte 7 of version 4 is one of the count of rows"),
     )
     for text, expected in faults:
         try:
@@ -184,7 +201,7 @@ def check_grid_text():
     # faulty ones: the head says another version, and bytes that the other lacks
     for text, verdict in (
         (grid_text({(1, 1): 1}) + rest + "version 1", "refused 7 at 0 "),
-        (grid_text({(1, 1): 1}) + rest + "version 4", "refused 3 at 3 (the version is not 1, 2 or 3)"),
+        (grid_text({(1, 1): 1}) + rest + "version 5", "refused 3 at 3 (the version is not 1 to 4)"),
         (FEW_CELLS + rest + "version 2", "refused 7 at 0 "),
         (grid_text({}) + rest, "refused 24 at 8 (grid counts sum to 0 or above 1,000,000)"),
         (grid_text({(1, 1): 1}) + rest + rest.replace("highest=2", "highest=0"), "refused 11 at 1168 (season 2: "),
@@ -192,7 +209,7 @@ def check_grid_text():
     ):
         found = writer.verdict(writer.write(text))
         want(found.startswith(verdict), "writer: %r found, %r expected", found, verdict)
-    for version in (1, 3, 4):
+    for version in (1, 3, 4, 5):
         other = writer.write(grid_text({(5, 6): 1}) + rest + "version %d" % version)
         same(writer.write(writer.read(other)), other, "a grid under version %d read back" % version)
     try:
@@ -237,6 +254,51 @@ def check_mileage_text():
     ):
         want(writer.verdict(data).startswith(said), "writer: %r found, %r expected", writer.verdict(data), said)
     return "a text with a mileage: its bytes and its version, read back the same"
+
+
+def check_many_rows_text():
+    """How many rows make a version 4, where its count stands, and that the
+    writer reads it back."""
+    start = grid_text({(1, 1): 1}) + "season days=1 lowest=1 highest=2 vp=60\n"
+    row = "row class=1 technology=0\n"
+    driven = "row class=1 technology=1 saturation=45.0 mileage=84000\n"
+    for words, data, head in (
+        ("32", writer.write(start + row * 32), "0200012000"),
+        ("32, one with a mileage", writer.write(start + driven + row * 31), "0300012000"),
+        ("33", writer.write(start + row * 33), "0400012100"),
+        ("33, the last with a mileage", writer.write(start + row * 32 + driven), "0400012100"),
+        ("255", writer.write(start + row * 255), "040001ff00"),
+        ("256", writer.write(start + row * 256), "0400010001"),
+        ("1000", writer.write(start + row * 1000), "040001e803"),
+        ("one, version 4", writer.write("version 4\n" + start + row), "0400010100"),
+        ("one with a mileage, version 4", writer.write(start + driven + "version 4"), "0400010100"),
+        ("none, version 4", writer.write(start + "version 4"), "0400010000"),
+        ("33, version 3", writer.write(start + row * 33 + "version 3"), "0300012100"),
+        ("33, version 2 and byte 7", writer.write(start + row * 33 + "version 2\nzero 1"), "0200012101"),
+        ("33, version 1", writer.write(FEW_CELLS + row * 33 + "version 1"), "0100002100"),
+        ("33, version 9", writer.write(FEW_CELLS + row * 33 + "version 9"), "0900002100"),
+    ):
+        same(data[3:8].hex(), head, "head, %s rows" % words)
+        same(writer.write(writer.read(data)), data, "%s rows read back" % words)
+        same(writer.read(data).count("row "), ev.row_count(data), "%s rows, lines read back" % words)
+    many = writer.write(start + row * 400)
+    same(len(many), 1160 + 8 + 24 * 400, "bytes of 400 rows")
+    want("version" not in writer.read(many), "400 rows: the text gives the version")
+    # a count that is not that of the records
+    said = writer.write(start + row * 33 + "rows 258")
+    same((said[6:8].hex(), len(said)), ("0201", 1160 + 8 + 24 * 33), "rows said to be 258")
+    full = start + "row class=1 technology=0 vehicles=10000000\n" * 10 + "version 4\n"
+    for text, verdict in (
+        (start + row * 33, "accepted"), (start + row * 1000, "accepted"), (full, "accepted"),
+        (start + row * 1001, "refused 5 at 6 (rows not 1 to 32, or in version 4 not 1 to 1,000)"),
+        (start + row * 33 + "version 3", "refused 5 at 6 "), (start + "version 4", "refused 5 at 6 "),
+        (start + row * 33 + "rows 34", "refused 7 at 0 "),
+        (start + row * 999 + "row class=9 technology=3", "refused 13 at 25144 (row 1000: "),
+        (full + "row class=1 technology=0 vehicles=1", "refused 26 at 1408 (row 11: more than 100,000,000 vehicles in this row"),
+    ):
+        found = writer.verdict(writer.write(text))
+        want(found.startswith(verdict), "writer: %r found, %r expected", found, verdict)
+    return "a text with more than 32 rows: its version and count, read back the same; faulty ones named"
 
 
 def check_edges():
@@ -311,7 +373,7 @@ def check_write():
         want(not os.path.exists(at("d.evp")), "a sheet of 12.000 vehicles was written")
         same(run_writer("write", at("none.txt"))[0], 2, "write of no file")
         same(run_writer("write", at("a.txt"), at("below"))[0], 2, "write to a folder")
-    same(sorted(writer.MEANINGS), [*range(1, 22), 24, 25], "numbers with a meaning")
+    same(sorted(writer.MEANINGS), [*range(1, 22), 24, 25, 26], "numbers with a meaning")
     return "the command: what it wrote and whether it is accepted; its text never overwritten"
 
 
@@ -395,7 +457,7 @@ def check_n():
     for sheet in sheets:
         for season in range(len(sheet.seasons)):
             # All rows of the samples would only repeat themselves.
-            for row in range(0, len(sheet.rows), 3 if len(sheet.rows) > 3 else 1):
+            for row in range(0, len(sheet.rows), 37 if len(sheet.rows) > 32 else 3 if len(sheet.rows) > 3 else 1):
                 lowest = lowest_exponent(sheet, season, row)
                 for k in range(1, 8):
                     apart = abs(ev.factor(sheet, season, row, k, 40)
@@ -749,6 +811,101 @@ def check_masses():
     return "masses of %d rows of the region against plain floating point; none without vehicles" % len(rows)
 
 
+def check_shared():
+    """Rows that share their factors have the masses of rows that stand alone,
+    and any field but vehicles, trips, c and p makes them rows of their own."""
+    season = "season days=9 lowest=5.0 highest=25.0 vp=70.0\n"
+    fields = {"class": 2, "technology": 3, "canister": "class", "carburettor": 40, "hot": 30, "fill": 35, "tank": "55.0",
+              "vehicles": 1000, "trips": "2.50", "minutes": 20, "load": "85.0", "saturation": "90.0", "mileage": 0}
+    changes = [{}, {"vehicles": 7}, {"trips": "2.51"}, {"carburettor": 41}, {"hot": 31}, {"class": 9, "technology": 0},
+               {"canister": "large"}, {"fill": 36}, {"tank": "55.1"}, {"minutes": 21}, {"load": "84.9"},
+               {"saturation": "86.0"}, {"load": 0, "mileage": 90000}, {"load": 0, "mileage": 200000}]
+    rows = ["row " + " ".join("%s=%s" % field for field in {**fields, **change}.items()) + "\n" for change in changes]
+    cells = grid_text({(1, 13): 5, (18, 7): 3, (24, 16): 2})
+    rows[5] = rows[5].replace("load=85.0 saturation=90.0", "load=20.0 saturation=45.0")
+    ev._shared_factors.cache_clear()
+    together = sheet_of(cells + season + "".join(rows) + "version 4")
+    found = [ev.masses(together, i) for i in range(len(rows))]
+    # the first five, which share theirs, and none of the others
+    same(ev._shared_factors.cache_info().misses, len(rows) - 4, "rows of unlike factors")
+    same(len(set(found)), len(rows), "rows of unlike masses")
+    for i, row in enumerate(rows):
+        alone = sheet_of(cells + season + row)
+        ev._shared_factors.cache_clear()
+        same(ev.masses(alone, 0), found[i], "masses of row %d alone" % i)
+        f, r = ev.factors(alone, 0, 0), alone.rows[0]
+        same(found[i][0], 9 * r.vehicles * f[0], "diurnal mass of row %d" % i)
+    return "%d rows, five of which share their factors: masses as those of rows alone" % len(rows)
+
+
+def check_districts():
+    """The sample of 300 rows: its head, its vehicles, and rows of each kind far
+    behind the first 32, against plain floating point."""
+    data = sample("districts", ".evp")
+    same((data[3:8].hex(), len(data)), ("0400042c01", 1160 + 32 + 24 * 300), "head and bytes of the districts")
+    sheet = ev.read(data)
+    same(len(sheet.rows), 300, "rows of the districts")
+    vehicles = sum(row.vehicles for row in sheet.rows)
+    want(1_500_000 < vehicles <= sum(district[2] for district in districts.DISTRICTS), "%d vehicles in the districts", vehicles)
+    kinds = {}
+    for i, row in enumerate(sheet.rows):
+        kinds[ev.canister_of(row), row.mileage > 0] = i
+    want(len(kinds) >= 6 and min(kinds.values()) > 255, "kinds of rows in the districts: %r", kinds)
+    for i in kinds.values():
+        for k, (value, plain) in enumerate(zip(ev.factors(sheet, 2, i), plain_factors(sheet, 2, i)), 1):
+            want(abs(float(value) - plain) < 1e-6 * max(1.0, plain), "row %d of the districts, factor %d", i, k)
+    # a byte more or less in the count of rows is another sheet
+    for at, value in ((6, 43), (6, 45), (7, 0), (7, 2)):
+        same(ev.check(patched(data, (at, value, 1))), (7, 0), "the districts with %d in byte %d" % (value, at))
+    same(ev.check(patched(data, (3, 3, 1))), (5, 6), "the districts as version 3")
+    return "the districts: %d rows and %d vehicles, %d kinds of rows against plain floating point" % (
+        len(sheet.rows), vehicles, len(kinds))
+
+
+def check_picture():
+    """Where the figures stand in the picture, the even line, and texts that
+    cannot be drawn."""
+    text = "# measured\ntitle Rows & time\n1 61.5\n10 440  # ten\n32 1390.25\n1000 42900\n"
+    tree = ElementTree.fromstring(picture.drawn(text))
+
+    def all_of(name):
+        return tree.findall("{http://www.w3.org/2000/svg}" + name)
+
+    # rows from 1 to 1,000 over 530 units, microseconds from 10 to 100,000 over 330
+    expected = [(80 + 530 * math.log10(n) / 3, 380 - 330 * (math.log10(us) - 1) / 4)
+                for n, us in ((1, 61.5), (10, 440), (32, 1390.25), (1000, 42900))]
+    found = [(float(dot.get("cx")), float(dot.get("cy"))) for dot in all_of("circle")]
+    want(len(found) == 4 and all(math.dist(a, b) < 0.1 for a, b in zip(found, expected)), "figures stand at %r", found)
+    even = [line for line in all_of("line") if line.get("stroke-dasharray")]
+    same(len(even), 1, "even lines")
+    ends = [float(even[0].get(name)) for name in ("x1", "y1", "x2", "y2")]
+    want(math.dist(ends, (80, 380 - 330 * (math.log10(42.9) - 1) / 4, *expected[3])) < 0.2, "the even line goes %s", ends)
+    said = [words.text for words in all_of("text")]
+    for words in ("Rows & time", "rows", "microseconds", "1", "10", "100", "1,000", "10,000", "100,000",
+                  "dashed: 42.9 microseconds for each row"):
+        want(words in said, "%r is not on the picture: %r", words, said)
+    same(said.count("1,000"), 2, "1,000 on both axes")
+    want(picture.drawn(text) != picture.drawn(text.replace("440", "550")), "a figure does not count")
+    for faulty, message in (
+        ("", "two figures wanted"), ("1 2", "two figures wanted"), ("1 2\n1 3", "line 2: rows do not go up"),
+        ("5 2\n1 3", "line 2: rows do not go up"), ("1 2\n2 x", "line 2: rows and microseconds wanted"),
+        ("1 2\n\n2", "line 3: rows and"), ("1 0\n2 1", "line 1: rows and"), ("0 1\n2 1", "line 1: rows and"),
+        ("1 2 3\n2 1", "line 1: rows and"), ("1 nan\n2 1", "line 1: rows and"), ("1.5 1\n2 1", "line 1: rows and"),
+    ):
+        try:
+            picture.drawn(faulty)
+        except picture.FigureError as error:
+            want(str(error).startswith(message), "picture: %r found, %r expected", str(error), message)
+        else:
+            raise Failure("picture: %r was drawn" % faulty)
+    # a single power of ten, and figures below 1
+    for few in ("10 3\n11 3", "1 10\n10 100", "1 0.02\n3 0.05"):
+        dots = [(float(dot.get("cx")), float(dot.get("cy"))) for dot in ElementTree.fromstring(picture.drawn(few)).iter()
+                if dot.tag.endswith("circle")]
+        want(all(80 <= x <= 610 and 50 <= y <= 380 for x, y in dots), "figures beside the picture: %r", dots)
+    return "the picture of figures: each at its place, the even line through the last; faulty texts named"
+
+
 def as_grid(data):
     """The bytes of version 2 for those of version 1: the products of the two
     lists as the grid, else the same."""
@@ -877,7 +1034,7 @@ def grid_refusals(lists):
     at = 8 + 2 * 111
     empty = [(8 + 2 * i, 0, 2) for i in range(576)]
     return [
-        (base, None), (p((3, 1, 2)), (7, 0)), (p((3, 0, 2)), (3, 3)), (p((3, 4, 2)), (3, 3)), (p((3, 3, 2)), None),
+        (base, None), (p((3, 1, 2)), (7, 0)), (p((3, 0, 2)), (3, 3)), (p((3, 5, 2)), (3, 3)), (p((3, 3, 2)), None),
         (p((3, 258, 2)), (3, 3)), (p((3, 513, 2)), (3, 3)),
         (base[:7], (1, 0)), (base[:8], (7, 0)), (base[:-1], (7, 0)), (base + b"\0", (7, 0)),
         (base[:len(lists)], (7, 0)), (base[:1160], (7, 0)), (p((5, 1, 1)), (7, 0)), (p((6, 1, 1)), (7, 0)),
@@ -916,7 +1073,7 @@ def mileage_refusals(lists):
 
     cold = ((1160 + 4, 100, 2), (1160 + 6, 1100, 2))  # the first season as the second
     return [
-        (base, None), (p((3, 2, 2)), (21, row_1)), (p((3, 1, 2)), (7, 0)), (p((3, 4, 2)), (3, 3)), (p((3, 259, 2)), (3, 3)),
+        (base, None), (p((3, 2, 2)), (21, row_1)), (p((3, 1, 2)), (7, 0)), (p((3, 5, 2)), (3, 3)), (p((3, 259, 2)), (3, 3)),
         (base[:-1], (7, 0)), (base + b"\0", (7, 0)), (base[:7], (1, 0)), (base[:len(lists)], (7, 0)),
         (p(*((8 + 2 * i, 0, 2) for i in range(576))), (24, 8)),
         # the mileage itself
@@ -943,6 +1100,55 @@ def mileage_refusals(lists):
     ]
 
 
+def many_rows_refusals(lists):
+    """Cases of version 4: sheets of 11 rows made of one of version 1, ten with
+    as many vehicles as there can be and one with none; and of 1,000 rows."""
+    grid = patched(as_grid(lists), (3, 4, 2), (6, 11, 2), (1184, 0, 4))
+    row = grid[1176:1200]  # without canister
+    base = grid[:1176] + row * 10 + grid[1200:]
+
+    def rows(count, *changes):
+        """So many rows of one vehicle each."""
+        return patched(grid[:1176] + patched(row, (8, 1, 4)) * count, (6, count, 2), *changes)
+
+    def at(i, field=0):
+        return 1176 + 24 * i + field
+
+    def p(*changes):
+        return patched(base, *changes)
+
+    full = p(*((at(i, 8), 10_000_000, 4) for i in range(10)))
+    most = rows(1000, *((at(i, 8), 10_000_000, 4) for i in range(990, 999)), (at(999, 8), 9_999_010, 4))
+    return [
+        (base, None), (full, None), (patched(full, (at(10, 8), 1, 4)), (26, at(10))),
+        (patched(full, (at(10, 8), 10_000_000, 4)), (26, at(10))), (patched(full, (at(9, 8), 9_999_999, 4)), None),
+        (patched(full, (at(9, 8), 9_999_999, 4), (at(10, 8), 1, 4)), None),
+        (patched(full, (at(9, 8), 9_999_999, 4), (at(10, 8), 2, 4)), (26, at(10))),
+        # the count of rows, and what its bytes are in the other versions
+        (rows(1), None), (rows(32), None), (rows(33), None), (rows(255), None), (rows(256), None), (rows(1000), None),
+        (rows(1001), (5, 6)), (p((6, 0, 2)), (5, 6)), (p((6, 65535, 2)), (5, 6)), (p((6, 1001, 2)), (5, 6)),
+        (p((6, 267, 2)), (7, 0)), (p((6, 256, 2)), (7, 0)), (p((6, 10, 2)), (7, 0)), (base[:8], (7, 0)), (base[:7], (1, 0)),
+        (rows(256, (3, 3, 2)), (5, 6)), (rows(257, (3, 3, 2)), (6, 7)), (rows(257, (3, 2, 2)), (6, 7)),
+        (rows(257, (3, 1, 2)), (6, 7)), (rows(33, (3, 3, 2)), (5, 6)), (rows(32, (3, 3, 2)), None), (rows(32, (3, 2, 2)), None),
+        (p((3, 3, 2)), None), (patched(full, (3, 3, 2), (at(10, 8), 10_000_000, 4)), None),
+        (p((5, 0, 1), (6, 0, 2)), (4, 5)), (p((3, 5, 2), (6, 0, 2)), (3, 3)), (base[:-1], (7, 0)), (base + b"\0", (7, 0)),
+        # 26 stands behind 16 and before 17 in its row, and before 13 in the next
+        (patched(full, (at(9, 8), 10_000_001, 4)), (16, at(9))), (patched(full, (at(10, 8), 10_000_001, 4)), (16, at(10))),
+        (patched(full, (at(10, 8), 1, 4), (at(10, 6), 1501, 2)), (26, at(10))),
+        (patched(full, (at(10, 8), 1, 4), (at(10, 5), 101, 1)), (15, at(10))),
+        (patched(full, (at(10, 8), 1, 4), (at(9, 6), 1501, 2)), (17, at(9))),
+        (patched(full, (at(10, 8), 1, 4)), (26, at(10)), 0), (patched(full, (at(10, 8), 1, 4)), (26, at(10)), None, (9, 9, 9)),
+        (most, None), (patched(most, (at(999, 8), 9_999_011, 4)), (26, at(999))),
+        (patched(most, (at(0, 8), 2, 4)), (26, at(999))), (patched(most, (at(0, 8), 2, 4), (at(999), 0, 1)), (13, at(999))),
+        (patched(most, (at(0, 8), 2, 4), (at(999, 8), 0, 4)), None),
+        # what version 3 has: a mileage, and no 21
+        (p((at(10, 16), 0, 2), (at(10, 18), 354, 2), (at(10, 20), 84_000, 4)), None),
+        (p((at(10, 20), 1, 4)), (25, at(10))), (p((at(3, 20), 1_000_001, 4)), (25, at(3))),
+        (rows(1000), (22, 0), 6025), (rows(1000), None, 6026), (rows(1000), (23, 0), None, (0, 1000, 1)),
+        (rows(1000), None, None, (1, 999, 7)), (rows(256), (22, 0), 26), (rows(256), (22, 0), 1561), (rows(256), None, 1562),
+    ]
+
+
 def check_refusals():
     base = writer.write(BASE)
     same(ev.check(base), None, "check of the base sheet")
@@ -954,8 +1160,8 @@ def check_refusals():
         # (bytes, expected, words, call)
         (b"", (1, 0)), (base[:7], (1, 0)), (b"XXX", (1, 0)),
         (p((0, 0x65, 1)), (2, 0)), (p((2, 0, 1)), (2, 0)),
-        (p((3, 4, 2)), (3, 3)), (p((3, 257, 2)), (3, 3)), (p((3, 0, 2)), (3, 3)), (p((3, 2, 2)), (7, 0)),
-        (p((3, 3, 2)), (7, 0)),
+        (p((3, 5, 2)), (3, 3)), (p((3, 257, 2)), (3, 3)), (p((3, 0, 2)), (3, 3)), (p((3, 2, 2)), (7, 0)),
+        (p((3, 3, 2)), (7, 0)), (p((3, 4, 2)), (7, 0)),
         (p((5, 0, 1)), (4, 5)), (p((5, 13, 1)), (4, 5)),
         (p((6, 0, 1)), (5, 6)), (p((6, 33, 1)), (5, 6)),
         (p((7, 1, 1)), (6, 7)),
@@ -1018,7 +1224,7 @@ def check_refusals():
     driven = grid_text({(1, 1): 1}) + equal.split("\n", 2)[2] + " mileage=1000"
     cases += [(writer.write(driven % "125.0"), None), (writer.write(driven % "125.1"), (25, 1176))]
 
-    cases += grid_refusals(base) + mileage_refusals(base)
+    cases += grid_refusals(base) + mileage_refusals(base) + many_rows_refusals(base)
     seen = set()
     for index, (data, expected, *rest) in enumerate(cases):
         words = rest[0] if rest else None
@@ -1026,8 +1232,8 @@ def check_refusals():
         same(ev.check(data, words, call), expected, "refusal case %d, counted from 0" % index)
         if expected:
             seen.add(expected[0])
-    same(sorted(seen), list(range(1, 26)), "refusal numbers met")
-    return "%d sheets and calls, each number 1 to 25 with its place, order and edges" % len(cases)
+    same(sorted(seen), list(range(1, 27)), "refusal numbers met")
+    return "%d sheets and calls, each number 1 to 26 with its place, order and edges" % len(cases)
 
 
 def check_class_table():
@@ -1097,6 +1303,7 @@ CHECKS = (
     check_write,
     check_grid_text,
     check_mileage_text,
+    check_many_rows_text,
     check_p_examples,
     check_weights,
     check_class_table,
@@ -1111,6 +1318,9 @@ CHECKS = (
     check_running_load,
     check_plain,
     check_masses,
+    check_shared,
+    check_districts,
+    check_picture,
     check_n,
     check_cold,
 )

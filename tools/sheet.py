@@ -1,7 +1,8 @@
 #!/usr/bin/env python3
 """Makes a sheet from a readable text, and back. A text with two lists of
-parkings makes a sheet of version 1, one with a grid a sheet of version 2, and
-one with a grid and a mileage in some row a sheet of version 3.
+parkings makes a sheet of version 1, one with a grid a sheet of version 2, one
+with a grid and a mileage in some row a sheet of version 3, and one with a grid
+and more than 32 rows a sheet of version 4.
 
   python3 tools/sheet.py write TEXT [SHEET]   SHEET is TEXT's name with .evp
                                               where none is given
@@ -33,13 +34,17 @@ level in percent, load and saturation (m_sat) in grams. A row's class and
 technology must be given; canister and tank left out are by class, any other
 field left out is 0, the mileage too where another row has one.
 
+The version in the head is that of the text, above; a line puts another there,
+and with it the bytes of its count of rows, one or in version 4 two:
+
+  version 4           version 4 for 32 rows or fewer too, or a faulty sheet
+
 For faulty sheets only:
 
   letters 455650      the three letters, in hexadecimal
-  version 4           the version in the head, whatever the parking is
   seasons 3           the count of seasons in the head, whatever follows
   rows 0              the count of rows in the head, whatever follows
-  zero 1              byte 7
+  zero 1              byte 7, which in version 4 is one of the count of rows
   row ... spare=00000001   bytes 20 to 23 of a row, in hexadecimal; the mileage
                       stands in them, so one of both at most
   tail 0A0B           bytes added at the end, in hexadecimal
@@ -75,18 +80,20 @@ ROW_FIELDS = (
     ("load", 2, False, 10),
     ("saturation", 2, False, 10),
 )
-MILEAGE = ("mileage", 4, False, 1)  # behind them in version 3
+MILEAGE = ("mileage", 4, False, 1)  # behind them in versions 3 and 4
+
+MOST_ROWS = 32  # up to version 3
 
 
 # What is wrong where a sheet stops, by number.
 MEANINGS = {
     1: "under 8 bytes",
     2: "the letters EVP are missing",
-    3: "the version is not 1, 2 or 3",
+    3: "the version is not 1 to 4",
     4: "seasons not 1 to 12",
-    5: "rows not 1 to 32",
+    5: "rows not 1 to 32, or in version 4 not 1 to 1,000",
     6: "byte 7 is not 0",
-    7: "the length is not 104 + 8S + 24R, or in versions 2 and 3 1160 + 8S + 24R",
+    7: "the length is not 104 + 8S + 24R, or from version 2 on 1160 + 8S + 24R",
     8: "duration counts sum to 0 or above 1,000",
     9: "end-hour counts sum to 0 or above 1,000",
     10: "days 0, above 366, or above 366 with the seasons before",
@@ -104,6 +111,7 @@ MEANINGS = {
     24: "grid counts sum to 0 or above 1,000,000",
     25: "mileage above 1,000,000 km, or a mileage without canister, beside a load, or with a + b.s.m_sat above 0 at some "
         "season's highest temperature",
+    26: "more than 100,000,000 vehicles in this row and those before it together",
 }
 
 
@@ -193,12 +201,36 @@ def _row(words):
     return record + _hexadecimal(given.get("spare", "00000000"), "spare", 4)
 
 
-def _version(parking, mileage):
-    """The version of a text; `mileage` is the first line with one, or None."""
-    if mileage is not None and not parking.has_grid():
-        raise TextError("line %d: row: a mileage wants a grid in place of durations and hours" % mileage)
-    version = 3 if mileage is not None else 2 if parking.has_grid() else 1
-    return version.to_bytes(2, "little")
+def version_of(has_grid, has_mileage, rows):
+    """The version of a text with this parking and so many rows."""
+    return 1 if not has_grid else 4 if rows > MOST_ROWS else 3 if has_mileage else 2
+
+
+def _head(single, parking, seasons, lines):
+    """The first 8 bytes. `single` has the values of the lines that may stand
+    once; `lines` the numbers of these, by name, of the "row" lines and of those
+    with a "mileage", and "last" that of the last line of the text."""
+    rows, mileages = lines["row"], lines["mileage"]
+    if mileages and not parking.has_grid():
+        raise TextError("line %d: row: a mileage wants a grid in place of durations and hours" % mileages[0])
+    if len(rows) > MOST_ROWS and not parking.has_grid() and "version" not in single:
+        raise TextError("line %d: row: more than %d rows want a grid in place of durations and hours" % (
+            rows[MOST_ROWS], MOST_ROWS))
+    version = single.get("version", version_of(parking.has_grid(), bool(mileages), len(rows)))
+    if version == 4 and "zero" in single:
+        raise TextError("line %d: zero: byte 7 of version 4 is one of the count of rows" % lines["zero"])
+
+    def count(name, found, size):
+        value = single.get(name, found)
+        if value >= 256 ** size:
+            raise TextError("line %d: %d %s do not fit the head of version %d" % (
+                lines.get(name, lines["last"]), value, name, version))
+        return value.to_bytes(size, "little")
+
+    head = single.get("letters", b"EVP") + version.to_bytes(2, "little") + count("seasons", seasons, 1)
+    if version == 4:
+        return head + count("rows", len(rows), 2)
+    return head + count("rows", len(rows), 1) + bytes([single.get("zero", 0)])
 
 
 LISTS = ("durations", "hours")
@@ -247,13 +279,29 @@ def _end_hour(words):
     return name
 
 
+def _whole(word, name, size):
+    return int.from_bytes(_number(word, name, size, False, 1), "little")
+
+
+# Lines that may stand once, and the value of each.
+SINGLE = {
+    "letters": lambda word: _hexadecimal(word, "letters", 3),
+    "version": lambda word: _whole(word, "version", 2),
+    "seasons": lambda word: _whole(word, "seasons", 1),
+    "rows": lambda word: _whole(word, "rows", 2),
+    "zero": lambda word: _whole(word, "zero", 1),
+    "tail": lambda word: _hexadecimal(word, "tail"),
+    "cut": lambda word: _whole(word, "cut", 4),
+}
+
+
 def write(text):
     """The bytes of the sheet that a text describes; TextError with the line
     number where the text cannot be read."""
     parking = Parking()
     seasons, rows = [], []
-    mileage = None  # the first line that gives one
-    single = {}  # lines that may stand once
+    single = {}
+    lines = {"row": [], "mileage": []}  # their numbers
     number = 0
     for number, line in enumerate(text.splitlines(), 1):
         words = line.partition("#")[0].split()
@@ -267,41 +315,22 @@ def write(text):
                 seasons.append(_season(rest))
             elif name == "row":
                 rows.append(_row(rest))
-                if mileage is None and any(word.startswith("mileage=") for word in rest):
-                    mileage = number
-            elif name in ("letters", "version", "seasons", "rows", "zero", "tail", "cut"):
+                lines["row"].append(number)
+                if any(word.startswith("mileage=") for word in rest):
+                    lines["mileage"].append(number)
+            elif name in SINGLE:
                 if name in single:
                     raise TextError("%s is given twice" % name)
                 if len(rest) != 1:
                     raise TextError("%s: one value wanted" % name)
-                if name == "letters":
-                    single[name] = _hexadecimal(rest[0], name, 3)
-                elif name == "tail":
-                    single[name] = _hexadecimal(rest[0], name)
-                elif name == "cut":
-                    single[name] = int.from_bytes(_number(rest[0], name, 4, False, 1), "little")
-                else:
-                    size = 2 if name == "version" else 1
-                    single[name] = _number(rest[0], name, size, False, 1)
+                single[name], lines[name] = SINGLE[name](rest[0]), number
             else:
                 raise TextError("%r: no such line" % name)
         except TextError as error:
             raise TextError("line %d: %s" % (number, error)) from None
     counts = parking.data(number)
-    version = _version(parking, mileage)
-    for name, records in (("seasons", seasons), ("rows", rows)):
-        if name not in single:
-            if len(records) > 255:
-                raise TextError("line %d: %d %s do not fit the head" % (number, len(records), name))
-            single[name] = bytes([len(records)])
-    data = (
-        single.get("letters", b"EVP")
-        + single.get("version", version)
-        + single["seasons"] + single["rows"]
-        + single.get("zero", b"\x00")
-        + counts + b"".join(seasons) + b"".join(rows)
-        + single.get("tail", b"")
-    )
+    head = _head(single, parking, len(seasons), {**lines, "last": number})
+    data = head + counts + b"".join(seasons) + b"".join(rows) + single.get("tail", b"")
     return data[:single["cut"]] if "cut" in single else data
 
 
@@ -329,29 +358,34 @@ def _record(data, at, fields):
 
 def read(data):
     """The text of a sheet's bytes; write() makes the same bytes of it."""
-    if len(data) < 8 or len(data) < evaporation.seasons_start(data) + 8 * data[5] + 24 * data[6]:
+    if len(data) < 8:
+        raise TextError("%d bytes, too few for a head" % len(data))
+    seasons, rows = data[5], evaporation.row_count(data)
+    if len(data) < evaporation.seasons_start(data) + 8 * seasons + 24 * rows:
         raise TextError("%d bytes, too few for the records its head tells of" % len(data))
+    version = int.from_bytes(data[3:5], "little")
+    has_grid, has_mileage = version in (2, 3, 4), version in (3, 4)
     lines = []
     if data[0:3] != b"EVP":
         lines.append("letters %s" % data[0:3].hex())
-    version = int.from_bytes(data[3:5], "little")
-    if version not in (1, 2, 3) or version == 3 and not data[6]:  # no row then tells of a mileage
+    # where the rest of the text makes another version, or none
+    if version != version_of(has_grid, has_mileage and rows, rows) or rows > MOST_ROWS and not has_grid:
         lines.append("version %d" % version)
-    if data[7]:
+    if version != 4 and data[7]:
         lines.append("zero %d" % data[7])
     at = 8
-    for name in GRID if version in (2, 3) else LISTS:
+    for name in GRID if has_grid else LISTS:
         counts = [int.from_bytes(data[at + 2 * i:at + 2 * i + 2], "little") for i in range(24)]
         lines.append("%s %s" % (name, " ".join(map(str, counts))))
         at += 48
-    for _ in range(data[5]):
+    for _ in range(seasons):
         lines.append("season " + _record(data, at, SEASON_FIELDS))
         at += 8
-    for _ in range(data[6]):
+    for _ in range(rows):
         spare = data[at + 20:at + 24]
-        fields = ROW_FIELDS + (MILEAGE,) if version == 3 else ROW_FIELDS
+        fields = ROW_FIELDS + (MILEAGE,) if has_mileage else ROW_FIELDS
         lines.append("row " + _record(data, at, fields)
-                     + (" spare=%s" % spare.hex() if version != 3 and any(spare) else ""))
+                     + (" spare=%s" % spare.hex() if not has_mileage and any(spare) else ""))
         at += 24
     if data[at:]:
         lines.append("tail %s" % data[at:].hex())
@@ -367,7 +401,7 @@ def verdict(data):
     where = ""
     if 10 <= number <= 12:
         where = "season %d: " % ((place - evaporation.seasons_start(data)) // 8 + 1)
-    if 13 <= number <= 21 or number == 25:
+    if 13 <= number <= 21 or number in (25, 26):
         where = "row %d: " % ((place - evaporation.seasons_start(data) - 8 * data[5]) // 24 + 1)
     return "refused %d at %d (%s%s)" % (number, place, where, MEANINGS[number])
 

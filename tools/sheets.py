@@ -7,13 +7,15 @@ evaporation.py stops them, for the program to hold the crate `sheet` against.
   python3 tools/sheets.py --list     prints a line for each sheet
 
 The file says in four bytes how many sheets there are. Before each sheet stand
-how many bytes follow in two bytes, how many bytes of the sheet before it the
-sheet begins with in two, the number in one (0 where it is accepted) and the
-place in two; then come the sheet's other bytes. A grid has 1152 bytes, and most
-sheets have that of the one before. Every number has its lowest byte first.
+how many bytes follow in two bytes, the place in the sheet where they stand in
+two, the number in one (0 where it is accepted), the place in two and the length
+of the sheet in two; then come these bytes. Elsewhere the sheet has the bytes
+that the sheets before it left at the same places, and zeros where none did: a
+thousand rows have 24,000 bytes, and most sheets differ from the one before in a
+few. Every number has its lowest byte first.
 
 Sheets of version 1 come first, those made for version 2 behind them, then those
-for version 3.
+for version 3 and for version 4.
 
 A sheet that is made for a condition or a limit carries the answer that
 document 01's table and the requests' numbers give it. Where evaporation.py gives another the run ends,
@@ -26,7 +28,6 @@ import sys
 from collections import Counter, namedtuple
 from dataclasses import dataclass, replace
 from itertools import chain, combinations, product
-from os.path import commonprefix
 
 import evaporation
 import sheet
@@ -36,11 +37,12 @@ from inputs import answer_text, packed, serve
 Case = namedtuple("Case", "words data answer")
 ACCEPTED = (0, 0)
 
-NUMBERS = (*range(1, 22), 24, 25)  # those of a sheet; 22 and 23 are those of a call
-VERSIONS = (1, 2, 3)
-ABSENT = {1: {24, 25}, 2: {3, 8, 9, 25}, 3: {3, 8, 9, 21}}  # what a version cannot have
-LEAST_SHEETS = {1: 420, 2: 150, 3: 150}
+NUMBERS = (*range(1, 22), 24, 25, 26)  # those of a sheet; 22 and 23 are those of a call
+VERSIONS = (1, 2, 3, 4)
+ABSENT = {1: {24, 25, 26}, 2: {3, 8, 9, 25, 26}, 3: {3, 8, 9, 21, 26}, 4: {3, 6, 8, 9, 21}}  # what a version cannot have
+LEAST_SHEETS = {1: 420, 2: 150, 3: 150, 4: 150}
 LEAST_OF_A_NUMBER = 5
+LONGEST = 25_257  # one byte more than the longest sheet: ROOM of the program
 
 # ------------------------------------------------------------ making a sheet
 
@@ -82,17 +84,19 @@ def counted(counts):
 @dataclass(frozen=True)
 class Plan:
     """The values of a sheet, in the units of its fields: version 1 with two
-    lists, version 2 with a grid, of 576 counts in the order of the sheet, and
-    version 3 where `metered` says that its rows may have a mileage."""
+    lists, version 2 with a grid, of 576 counts in the order of the sheet,
+    version 3 where `metered` says that its rows may have a mileage, and version
+    4 where `many` says that it may have a thousand."""
     seasons: tuple
     rows: tuple
     durations: tuple = tuple(range(24, 0, -1))
     hours: tuple = tuple(range(1, 25))
     grid: tuple = None
     metered: bool = False
+    many: bool = False
 
     def version(self):
-        return 1 if self.grid is None else 3 if self.metered else 2
+        return 1 if self.grid is None else 4 if self.many else 3 if self.metered else 2
 
     def gridded(self):
         """The same in version 2: the grid holds the products of the lists, end
@@ -111,7 +115,7 @@ class Plan:
         return start + 8 * i if kind == "seasons" else start + 8 * len(self.seasons) + 24 * i
 
     def data(self):
-        head = b"EVP" + bytes([self.version(), 0, len(self.seasons), len(self.rows), 0])
+        head = b"EVP" + bytes([self.version(), 0, len(self.seasons)]) + counted([len(self.rows)])
         parking = counted(self.durations + self.hours if self.grid is None else self.grid)
         seasons = [record(SEASON_FIELDS, season) for season in self.seasons]
         rows = [record(ROW_FIELDS, row) for row in self.rows]
@@ -157,6 +161,11 @@ def version_of(data):
     return version if version in VERSIONS else 1
 
 
+def rows_of(data):
+    """The rows that the head tells of: two bytes of version 4, or one."""
+    return int.from_bytes(data[6:8], "little") if version_of(data) == 4 else data[6]
+
+
 def records_start(data):
     return 104 if version_of(data) == 1 else 1160
 
@@ -170,7 +179,7 @@ def patched(data, at, values):
 # Number, place, offset, bytes that do not pass there.
 HEAD_FAULTS = (
     (2, 0, 0, (b"\0", b"e", b"EPV", b"PVE", b"VEP")), (2, 0, 1, (b"v", b"W")), (2, 0, 2, (b"p", b"\0", b"Q")),
-    (3, 3, 3, (b"\0\0", b"\4\0", b"\0\1", b"\1\1", b"\0\2", b"\2\2", b"\3\3", b"\xff\xff")),
+    (3, 3, 3, (b"\0\0", b"\5\0", b"\0\1", b"\1\1", b"\0\2", b"\2\2", b"\3\3", b"\xff\xff")),
     (4, 5, 5, (b"\0", b"\x0d", b"\xff")),
     (5, 6, 6, (b"\0", b"\x21", b"\xff")),
     (6, 7, 7, (b"\1", b"\x80", b"\xff")),
@@ -482,7 +491,7 @@ def season_and_row_cases():
 
 # Faults of the parts that stand once, each as an edit of a sheet's bytes.
 PARTS = (
-    (2, 0, lambda data: patched(data, 2, b"Q")), (3, 3, lambda data: patched(data, 3, b"\4")),
+    (2, 0, lambda data: patched(data, 2, b"Q")), (3, 3, lambda data: patched(data, 3, b"\5")),
     (4, 5, lambda data: patched(data, 5, b"\0")), (5, 6, lambda data: patched(data, 6, b"\x21")),
     (6, 7, lambda data: patched(data, 7, b"\1")), (7, 0, lambda data: data + b"\0"),
     (8, 8, lambda data: patched(data, 8, b"\xff\xff")), (9, 56, lambda data: patched(data, 56, b"\xff\xff")),
@@ -634,7 +643,7 @@ def odds_cases():
         data = plan.gridded().data()
         yield Case("version 1 of version 2's length, %s" % sized(plan), patched(data, 3, b"\1"), (7, 0))
         yield Case("version 2 cut to version 1's length, %s" % sized(plan), data[:len(plan.data())], (7, 0))
-    for version in (b"\0\0", b"\4\0", b"\0\2", b"\2\1", b"\2\2", b"\xff\xff"):
+    for version in (b"\0\0", b"\5\0", b"\0\2", b"\2\1", b"\2\2", b"\xff\xff"):
         data = patched(SMALL_GRID.data(), 3, version)
         yield Case("version %s of version 2's length" % version.hex(), data, (3, 3))
 
@@ -933,7 +942,7 @@ def metered_form_cases():
     lists = SMALLEST.data()
     yield Case("version 3 of version 1's length", patched(lists, 3, b"\3"), (7, 0))
     yield Case("version 1 of version 3's length", patched(data, 3, b"\1"), (7, 0))
-    for version in (b"\0\0", b"\4\0", b"\5\0", b"\3\1", b"\0\3", b"\3\3", b"\3\x80"):
+    for version in (b"\0\0", b"\5\0", b"\6\0", b"\3\1", b"\0\3", b"\3\3", b"\3\x80"):
         yield Case("version %s of version 3's length" % version.hex(), patched(data, 3, version), (3, 3))
     yield Case("version 2 with a mileage", patched(BASE_METERED.data(), 3, b"\2"), (21, BASE_METERED.place("rows", 0)))
     yield Case("version 2 as version 3", patched(BASE_GRID.data(), 3, b"\3"), ACCEPTED)
@@ -973,6 +982,263 @@ def metered_damaged_cases():
         yield Case("%s, version 3: %s" % (sized(plan), words), data, None)
 
 
+# ------------------------------------------------------------------- version 4
+
+MOST_OF_ROW, MOST_OF_ALL = 10_000_000, 100_000_000
+
+
+def in_turn(count, vehicles=1):
+    """So many rows: with a mileage, with a load and without canister."""
+    return tuple({**(DRIVEN, ROW, WITHOUT)[i % 3], "vehicles": vehicles} for i in range(count))
+
+
+def many(seasons, rows):
+    """A plan of version 4."""
+    return replace(metered(seasons, rows), many=True)
+
+
+SMALL_MANY = many((SEASON,), (DRIVEN,))
+BASE_MANY = replace(BASE_METERED, many=True)
+
+# Ten rows with all the vehicles that there can be in one of them, which are all
+# that there can be together; and two without.
+FULL_MANY = many((SEASON,), in_turn(10, MOST_OF_ROW) + in_turn(2, 0))
+
+# The count of rows: bytes 6 and 7 one by one, and the limit.
+COUNTS_OF_ROWS = (1, 2, 31, 32, 33, 255, 256, 257, 512, 999, 1000)
+COUNTS_BEYOND = (0, 1001, 1023, 1024, 1256, 1280, 2048, 8192, 32_768, 65_280, 65_535)
+
+
+def many_head_cases():
+    """Heads that nothing follows; the count of rows is looked at before the
+    length. In the other versions byte 7 is no part of it."""
+    head = SMALL_MANY.data()[:8]
+    for number, place, at, all_b in HEAD_FAULTS:
+        if number < 5:
+            yield from (Case("version 4, head: %s at byte %d" % (b.hex(), at), patched(head, at, b), (number, place)) for b in all_b)
+    for rows in COUNTS_BEYOND + COUNTS_OF_ROWS:
+        answer = (5, 6) if rows in COUNTS_BEYOND else (7, 0)
+        yield Case("version 4, head: %d rows" % rows, patched(head, 6, counted([rows])), answer)
+        for version in VERSIONS[:3]:
+            data = patched(patched(head, 3, bytes([version])), 6, counted([rows]))
+            answer = (5, 6) if not 1 <= rows % 256 <= 32 else (6, 7) if rows > 255 else (7, 0)
+            yield Case("version %d, head: %d rows in two bytes" % (version, rows), data, answer)
+    yield Case("version 4, head: 13 seasons and no row", patched(head, 5, b"\x0d\0\0"), (4, 5))
+    yield Case("version 5, head: no season and no row", patched(head, 3, b"\5\0\0\0\0"), (3, 3))
+    yield Case("version 4, head: 7 bytes", head[:7], (1, 0))
+
+
+def many_form_cases():
+    """Length and grid of version 4, and the same bytes as another version."""
+    data = SMALL_MANY.data()
+    for length in (9, 104, 136, 1160, 1168, len(data) - 24, len(data) - 1):
+        yield Case("version 4 cut to %d of %d bytes" % (length, len(data)), data[:length], (7, 0))
+    for tail in (b"\0", record(SEASON_FIELDS, SEASON), record(ROW_FIELDS, DRIVEN)):
+        yield Case("version 4 of %d bytes and %d more" % (len(data), len(tail)), data + tail, (7, 0))
+    for seasons, rows in ((2, 1), (1, 2), (1, 256), (1, 257), (1, 513), (4, 1)):
+        words = "version 4, %s: the head says %d and %d" % (sized(SMALL_MANY), seasons, rows)
+        yield Case(words, patched(data, 5, bytes([seasons]) + counted([rows])), (7, 0))
+    yield Case("version 4 of version 1's length", patched(SMALLEST.data(), 3, b"\4"), (7, 0))
+    yield Case("version 1 of version 4's length", patched(data, 3, b"\1"), (7, 0))
+    yield Case("version 2 of version 4's bytes", patched(data, 3, b"\2"), (21, SMALL_MANY.place("rows", 0)))
+    yield Case("version 3 of version 4's bytes", patched(data, 3, b"\3"), ACCEPTED)
+    for version in (b"\5\0", b"\6\0", b"\4\1", b"\0\4", b"\4\4", b"\4\x80"):
+        yield Case("version %s of version 4's length" % version.hex(), patched(data, 3, version), (3, 3))
+    for words, counts, passes in GRIDS:
+        if words in ("sum 0", "sum 1 in the last", "sum 1000000 in the last", "sum 1000001 in the last"):
+            plan = replace(SMALL_MANY, grid=counts)
+            yield Case("version 4, grid: %s" % words, plan.data(), ACCEPTED if passes else (24, 8))
+    for seasons in (0, 1, 12, 13):
+        plan = many((SEASON,) * seasons, in_turn(1))
+        yield Case("version 4, %s" % sized(plan), plan.data(), ACCEPTED if 1 <= seasons <= 12 else (4, 5))
+
+
+def many_count_cases():
+    """All the rows that the head tells of, more than that, a byte less and a
+    byte more; and the same as version 3."""
+    before = 31
+    for rows in (32, 33, 255, 256, 257, 1000, 1001):
+        plan = many((SEASON,), in_turn(rows))
+        data, words = plan.data(), "version 4, %s, " % sized(plan)
+        off = (7, 0) if rows <= 1000 else (5, 6)
+        yield Case(words + "the head says %d" % before, patched(data, 6, counted([before])), (7, 0))
+        answer = (5, 6) if not 1 <= rows % 256 <= 32 else (6, 7) if rows > 255 else ACCEPTED
+        yield Case("version 3, %s in two bytes" % sized(plan), patched(data, 3, b"\3"), answer)
+        yield Case(words + "all there", data, ACCEPTED if rows <= 1000 else off)
+        yield Case(words + "less a byte", data[:-1], off)
+        yield Case(words + "less a row", data[:-24], off)
+        yield Case(words + "and a byte", data + b"\0", off)
+        before = rows
+
+
+# With check 20 beside the others. The canister is written, as not every row has
+# one by its class.
+MANY_LIMITS = [*METERED_LIMITS, (
+    "rows", 20, ({"canister": 1, "saturation": most(1, SEASON)},), ({"canister": 1, "saturation": most(1, SEASON) + 1},),
+)]
+
+
+def many_record_cases():
+    """Each limit of a record outside in the first and in the last one, and 25
+    for all its reasons; what passes there."""
+    number, inside, outside = MILEAGE_LIMITS
+    yield from (of_record(BASE_MANY, "rows", 3, change, 0) for change in inside[:8])
+    yield from (of_record(BASE_MANY, "rows", 3, change, number) for change in outside)
+    for kind, number, inside, outside in MANY_LIMITS:
+        last = len(getattr(BASE_MANY, kind)) - 1
+        yield of_record(BASE_MANY, kind, 0, outside[0], number)
+        yield of_record(BASE_MANY, kind, last, outside[-1], number)
+        # record 1 is the last season, and a row with a load
+        yield from (of_record(BASE_MANY, kind, 1, change, 0) for change in inside[:1] if number != 25)
+
+
+def with_vehicles(plan, vehicles):
+    """The same with the vehicles of some rows changed: {row: vehicles}."""
+    for i, n in vehicles.items():
+        plan = plan.changed("rows", i, {"vehicles": n})
+    return plan
+
+
+def of_vehicles(plan, vehicles, stop=None, number=26):
+    """The sheet with these vehicles; `stop` is the row where it stops."""
+    plan = with_vehicles(plan, vehicles)
+    words = ", ".join("%d in row %d" % (n, i + 1) for i, n in vehicles.items())
+    answer = ACCEPTED if stop is None else (number, plan.place("rows", stop))
+    return Case("version %d, %s, vehicles: %s" % (plan.version(), sized(plan), words), plan.data(), answer)
+
+
+def many_vehicles_cases():
+    """The sum of vehicles on both sides of its limit, at the first row that can
+    pass it and at the next; no other version has the limit."""
+    yield of_vehicles(FULL_MANY, {10: 1}, 10)
+    yield of_vehicles(FULL_MANY, {10: 0})
+    yield of_vehicles(FULL_MANY, {11: 1}, 11)
+    yield of_vehicles(FULL_MANY, {10: 1, 11: 1}, 10)
+    yield of_vehicles(FULL_MANY, {10: MOST_OF_ROW}, 10)
+    yield of_vehicles(FULL_MANY, {10: MOST_OF_ROW + 1}, 10, 16)
+    # sums that 32 bits do not hold
+    yield of_vehicles(FULL_MANY, {10: 2 ** 32 - MOST_OF_ALL}, 10, 16)
+    yield of_vehicles(FULL_MANY, {10: 2 ** 32 - 1}, 10, 16)
+    for i in (0, 4, 9):
+        yield of_vehicles(FULL_MANY, {i: MOST_OF_ROW + 1}, i, 16)
+        yield of_vehicles(FULL_MANY, {i: MOST_OF_ROW - 1})
+        yield of_vehicles(FULL_MANY, {i: MOST_OF_ROW - 1, 10: 1})
+        yield of_vehicles(FULL_MANY, {i: MOST_OF_ROW - 1, 10: 2}, 10)
+        yield of_vehicles(FULL_MANY, {i: MOST_OF_ROW - 1, 10: 1, 11: 1}, 11)
+        yield of_vehicles(FULL_MANY, {i: 0, 10: MOST_OF_ROW})
+        yield of_vehicles(FULL_MANY, {i: 0, 10: MOST_OF_ROW, 11: 1}, 11)
+    for version in (1, 2, 3):
+        plan = plain(1, 32) if version == 1 else replace(plain(1, 32).gridded(), metered=version == 3)
+        yield of_vehicles(plan, dict.fromkeys(range(12), MOST_OF_ROW))
+        yield of_vehicles(plan, dict.fromkeys(range(32), MOST_OF_ROW))
+        yield of_vehicles(plan, {**dict.fromkeys(range(31), MOST_OF_ROW), 31: MOST_OF_ROW + 1}, 31, 16)
+    yield Case("version 3 of a full version 4", patched(with_vehicles(FULL_MANY, {10: 1}).data(), 3, b"\3"), ACCEPTED)
+    plan = replace(plain(1, 32).gridded(), metered=True, many=True)
+    yield of_vehicles(plan, dict.fromkeys(range(32), MOST_OF_ROW), 10)
+
+
+# Row 10 with one vehicle too many; FULL_MANY has a canister there.
+PAST = {"vehicles": 1}
+
+
+def many_order_cases():
+    """26 with each other number of a row: behind 13 to 16 and before the later
+    ones in one row; before all of them where they are in the next row, and
+    behind them where they are in one before. And behind what stands before the
+    rows."""
+    faults = {**{n: change for n, change in ROW_FAULTS.items() if n != 21}, 25: MILEAGE_FAULTS[0]}
+    for number, change in faults.items():
+        case = of_record(FULL_MANY, "rows", 10, {**PAST, **change}, number if number <= 16 else 26)
+        yield case._replace(words="26 and %d in row 11" % number)
+    for number, change in faults.items():
+        past = FULL_MANY.changed("rows", 10, PAST)
+        case = of_record(past.changed("rows", 11, change), "rows", 10, PAST, 26)
+        yield case._replace(words="26 in row 11 and %d in row 12" % number)
+        for i in (0, 9):
+            case = of_record(past, "rows", i, change, number)
+            yield case._replace(words="26 in row 11 and %d in row %d" % (number, i + 1))
+
+
+def vehicles_before_cases():
+    """26 behind what stands before the rows."""
+    past = FULL_MANY.changed("rows", 10, PAST)
+    for number, change in SEASON_FAULTS.items():
+        case = of_record(past, "seasons", 0, change, number)
+        yield case._replace(words="%s, and 26 in row 11" % case.words)
+    data = past.data()
+    for number, place, edit in GRID_PARTS[:7]:
+        if number not in (5, 6):
+            yield Case("version 4: %d and 26" % number, edit(data), (number, place))
+    yield Case("version 4: 5 and 26", patched(data, 6, counted([1001])), (5, 6))
+
+
+def row_faults(plan, i):
+    """Each number of a row in this one."""
+    return (of_record(plan, kind, i, outside[0], number) for kind, number, _, outside in MANY_LIMITS if kind == "rows")
+
+
+def many_far_cases():
+    """Where a count of rows in one byte, or one up to 32, would not reach."""
+    plan = many((SEASON,) * 2, in_turn(300))
+    return chain.from_iterable(row_faults(plan, i) for i in (32, 255, 256, 299))
+
+
+def many_far_vehicles_cases():
+    """Ten full rows, and the vehicle that is too many in one far behind; then
+    as many in each row as a thousand rows can have on average."""
+    plan = with_vehicles(many((SEASON,), in_turn(300, 0)), dict.fromkeys(range(10), MOST_OF_ROW))
+    yield from (of_vehicles(plan, {i: 1}, i) for i in (10, 31, 32, 33, 254, 255, 256, 257, 299))
+    plan = many((SEASON,), in_turn(1000, MOST_OF_ALL // 1000))
+    average = plan.rows[0]["vehicles"]
+    yield of_vehicles(plan, {})
+    yield of_vehicles(plan, {999: average + 1}, 999)
+    yield of_vehicles(plan, {999: average - 1})
+    yield of_vehicles(plan, {0: average + 1, 999: average - 1})
+    yield of_vehicles(plan, {0: average + 1, 999: average}, 999)
+    yield of_vehicles(plan, {0: average + 1, 999: 0})
+    yield of_vehicles(plan, {0: average + 1, 998: 2 * average, 999: 0}, 998)
+    yield of_vehicles(plan, {0: average + 1, 998: 2 * average - 1, 999: 0})
+    yield of_vehicles(plan, {0: average + 1, 998: 2 * average - 1, 999: 1}, 999)
+    yield of_vehicles(plan, {0: average + 1, 998: 2 * average - 1, 999: MOST_OF_ROW + 1}, 999, 16)
+
+
+def many_largest_cases():
+    """The longest sheet that there is, and each number of a row in the last of
+    its rows."""
+    plan = many((SEASON,) * 12, in_turn(1000, MOST_OF_ALL // 1000))
+    data = plan.data()
+    yield Case("version 4, the largest as version 3", patched(data, 3, b"\3"), (5, 6))
+    yield Case("version 4, the largest with byte 7 alone", patched(data, 6, b"\0\3"), (7, 0))
+    yield Case("version 4, the largest", data, ACCEPTED)
+    yield Case("version 4, the largest less a byte", data[:-1], (7, 0))
+    yield Case("version 4, the largest and a byte", data + b"\0", (7, 0))
+    yield from row_faults(plan, 999)
+    yield of_vehicles(plan, {999: MOST_OF_ALL // 1000 + 1}, 999)
+
+
+def chance_many_plan(seasons, rows):
+    """A plan by chance with mileages, whose vehicles together are at most what
+    they can be."""
+    plan = chance_metered_plan(seasons, rows)
+    chance = Chance("vehicles of %d seasons and %d rows" % (seasons, rows))
+    vehicles = {i: chance.between(0, min(MOST_OF_ROW, MOST_OF_ALL // rows)) for i in range(rows)}
+    return replace(with_vehicles(plan, vehicles), many=True)
+
+
+def many_accepted_cases():
+    for size in ((1, 1), (2, 3), (12, 33), (3, 100), (1, 260)):
+        plan = chance_many_plan(*size)
+        yield Case("version 4, %s: values by chance" % sized(plan), plan.data(), ACCEPTED)
+
+
+def many_damaged_cases():
+    chance = Chance("damage of many rows")
+    data = chance_many_plan(2, 40).data()
+    for damage, _ in product(DAMAGE[:-1], range(3)):
+        words, damaged = damage(chance, data)
+        yield Case("version 4, seasons 2, rows 40: %s" % words, damaged, None)
+
+
 # -------------------------------------------------------------------- the file
 
 GROUPS = (
@@ -982,7 +1248,9 @@ GROUPS = (
     odds_cases, grid_head_cases, grid_length_cases, grid_cases, grid_record_cases, grid_days_cases,
     grid_saturation_cases, grid_part_cases, grid_accepted_cases, grid_damaged_cases, metered_accepted_cases,
     metered_form_cases, mileage_cases, metered_record_cases, fitted_cases, metered_saturation_cases,
-    metered_season_cases, metered_order_cases, metered_damaged_cases,
+    metered_season_cases, metered_order_cases, metered_damaged_cases, many_head_cases, many_form_cases, many_count_cases,
+    many_record_cases, many_vehicles_cases, many_order_cases, vehicles_before_cases, many_far_cases,
+    many_far_vehicles_cases, many_largest_cases, many_accepted_cases, many_damaged_cases,
 )
 
 
@@ -1015,9 +1283,9 @@ def end_of(case):
     """The number with "first" or "last" where the place is that of the first
     or last of several records."""
     number, place = case.answer
-    if not (10 <= number <= 21 or number == 25):
+    if not (10 <= number <= 21 or number in (25, 26)):
         return None
-    seasons, rows = case.data[5], case.data[6]
+    seasons, rows = case.data[5], rows_of(case.data)
     place -= records_start(case.data)
     count, index = (seasons, place // 8) if number < 13 else (rows, (place - 8 * seasons) // 24)
     return (number, {0: "first", count - 1: "last"}.get(index)) if count > 1 else None
@@ -1036,20 +1304,31 @@ def missing(cases):
         if {case.answer[0] for case in of_version} != {0, *NUMBERS} - ABSENT[version]:
             yield "version %d: not the numbers that it can have" % version
         ends = {end_of(case) for case in of_version}
-        for number in {*range(10, 22), 25} - ABSENT[version]:
-            if not {(number, "first"), (number, "last")} <= ends:
+        for number in {*range(10, 22), 25, 26} - ABSENT[version]:
+            # ten rows at least stand before the one that takes the sum of vehicles past its limit
+            if not {(number, "first"), (number, "last")} - {(26, "first")} <= ends:
                 yield "version %d: number %d not in the first and in the last record" % (version, number)
+    if max(len(case.data) for case in cases) != LONGEST:
+        yield "no sheet of %d bytes, or a longer one" % LONGEST
+
+
+def other_part(before, data):
+    """The ends of the part outside which two byte strings are alike; beyond the
+    end of the one there are zeros."""
+    x, y = (int.from_bytes(part, "little") for part in (before, data))
+    other = x ^ y
+    return ((other & -other).bit_length() - 1) // 8 if other else 0, (other.bit_length() + 7) // 8
 
 
 def encoded(cases):
     parts = [packed(4, [len(cases)])]
-    before = b""
+    left = bytes(LONGEST)  # what the sheets so far have left at each place
     for case in cases:
         number, place = case.answer
-        kept = len(commonprefix((before, case.data)))
-        rest = case.data[kept:]
-        parts += [packed(2, [len(rest), kept]), packed(1, [number]), packed(2, [place]), rest]
-        before = case.data
+        here = case.data + left[len(case.data):]
+        start, end = other_part(left, here)
+        parts += [packed(2, [end - start, start]), packed(1, [number]), packed(2, [place, len(case.data)]), here[start:end]]
+        left = here
     return b"".join(parts)
 
 

@@ -1,12 +1,13 @@
 // Head and length: numbers 1 to 7.
 use fields::ROW_BYTES;
 use fields::SEASON_BYTES;
-use fields::limits::ROWS_LIMIT;
+use fields::has_many_rows;
 use fields::limits::SEASONS_LIMIT;
 use fields::limits::VERSION_LIMIT;
 use fields::refusal::or_else;
 use fields::refusal::outside;
 use fields::refusal::when;
+use fields::rows_most;
 use fields::rows_of;
 use fields::seasons_of;
 use fields::seasons_start;
@@ -40,19 +41,21 @@ fn mark_check(s: &[u8]) -> Check
     when(letters_missing(s), 2, 0)
 }
 
-// Numbers 3 to 6: the version, the numbers of seasons and of rows, and the zero byte.
+// Numbers 3 to 6: the version, the numbers of seasons and of rows, and the zero byte of the versions with one byte for the rows.
 fn numbers_check(s: &[u8]) -> Check
     requires { ⌜ 8 ≤ length (now s) ⌝ }
     ensures { λ r. ⌜ r ≡ numbersCheck (now (s .entry)) ⌝ }
 {
     let version = outside(1, VERSION_LIMIT, version_of(s));
     let seasons = outside(1, SEASONS_LIMIT, u8_at(s, 5));
-    let rows = outside(1, ROWS_LIMIT, u8_at(s, 6));
+    let rows = outside(1, rows_most(s), rows_of(s) as u64);
+    let byte_7 = u8_at(s, 7);
+    let wrong = !has_many_rows(s) & (byte_7 != 0);
     or_else(
         when(version, 3, 3),
         or_else(
             when(seasons, 4, 5),
-            or_else(when(rows, 5, 6), when(u8_at(s, 7) != 0, 6, 7)),
+            or_else(when(rows, 5, 6), when(wrong, 6, 7)),
         ),
     )
 }

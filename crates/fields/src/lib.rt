@@ -1,5 +1,7 @@
 // The fields of a sheet where documents 01 and 02 place them. Integers are little-endian.
 use crate::limits::COLD_LIMIT;
+use crate::limits::MANY_ROWS_LIMIT;
+use crate::limits::ROWS_LIMIT;
 use classes::canister_of;
 use classes::equipment_of;
 use classes::tank_of;
@@ -11,7 +13,7 @@ ghost use mathlib.Core.Path.{_≡_};
 ghost use Prim.Native.Nat.{_+_, _*_, _^_, _<_, _≤_};
 ghost use lib.ListN.{length};
 ghost use Rattle.sheet.specs.Integers.{u8At, u16At, u32At};
-ghost use Rattle.sheet.specs.Versions.{versionOf, hasGrid, hasMileage, seasonsStart};
+ghost use Rattle.sheet.specs.Versions.{versionOf, hasGrid, hasMileage, hasManyRows, rowsMost, seasonsStart};
 ghost use Rattle.sheet.specs.Bytes.{seasonsOf, rowsOf, countsAt, durationCounts, hourCounts, gridCounts};
 ghost use Rattle.sheet.specs.Bytes.{seasonPlace, rowPlace, seasonFrom, seasonAt, equipmentAt, canisterOf, tankOf, rowFrom, rowAt};
 ghost use Rattle.sheet.specs.Range.{warmth};
@@ -34,6 +36,8 @@ pub const GRID_START: usize = 8;
 const GRID_VERSION: u64 = 2;
 
 const MILEAGE_VERSION: u64 = 3;
+
+const MANY_ROWS_VERSION: u64 = 4;
 
 // Where the parking ends and the seasons start: after two lists, and after a grid.
 const AFTER_LISTS: usize = 104;
@@ -101,6 +105,26 @@ pub fn has_mileage(s: &[u8]) -> bool
     MILEAGE_VERSION <= version_of(s)
 }
 
+// Whether the count of rows has two bytes.
+pub fn has_many_rows(s: &[u8]) -> bool
+    requires { ⌜ 8 ≤ length (now s) ⌝ }
+    ensures { λ r. ⌜ r ≡ hasManyRows (now (s .entry)) ⌝ }
+{
+    MANY_ROWS_VERSION <= version_of(s)
+}
+
+// How many rows there may be.
+pub fn rows_most(s: &[u8]) -> u64
+    requires { ⌜ 8 ≤ length (now s) ⌝ }
+    ensures { λ r. ⌜ r ≡ rowsMost (now (s .entry)) ⌝ }
+{
+    if has_many_rows(s) {
+        MANY_ROWS_LIMIT
+    } else {
+        ROWS_LIMIT
+    }
+}
+
 // Where the seasons start.
 pub fn seasons_start(s: &[u8]) -> usize
     requires { ⌜ 8 ≤ length (now s) ⌝ }
@@ -120,9 +144,13 @@ pub fn seasons_of(s: &[u8]) -> usize
 // How many rows the head gives.
 pub fn rows_of(s: &[u8]) -> usize
     requires { ⌜ 8 ≤ length (now s) ⌝ }
-    ensures { λ r. ⌜ (r ≡ rowsOf (now (s .entry))) × (r < 256) ⌝ }
+    ensures { λ r. ⌜ (r ≡ rowsOf (now (s .entry))) × (r < 65536) ⌝ }
 {
-    wide(s[6]) as usize
+    if has_many_rows(s) {
+        u16_at(s, 6) as usize
+    } else {
+        u8_at(s, 6) as usize
+    }
 }
 
 // The list of counts that starts at p.
@@ -241,7 +269,7 @@ fn tank_at(s: &[u8], p: usize) -> u64
 // The row that starts at p.
 fn row_from(s: &[u8], p: usize) -> Row
     requires { ⌜ p + 24 ≤ length (now s) ⌝ }
-    ensures { λ r. ⌜ (r ≡ rowFrom (now (s .entry)) p) × (r .saturation < 65536) ⌝ }
+    ensures { λ r. ⌜ (r ≡ rowFrom (now (s .entry)) p) × (r .saturation < 65536) × (r .vehicles < 2 ^ 32) ⌝ }
 {
     Row {
         class: u8_at(s, p),
@@ -270,7 +298,15 @@ pub fn row_place(s: &[u8], i: usize) -> usize
 // Row i, counted from 0.
 pub fn row_at(s: &[u8], i: usize) -> Row
     requires { ⌜ rowPlace (now s) i + 24 ≤ length (now s) ⌝ }
-    ensures { λ r. ⌜ (r ≡ rowAt (now (s .entry)) i) × (r .saturation < 65536) ⌝ }
+    ensures { λ r. ⌜ (r ≡ rowAt (now (s .entry)) i) × (r .saturation < 65536) × (r .vehicles < 2 ^ 32) ⌝ }
 {
     row_from(s, row_place(s, i))
+}
+
+// The vehicles of row i.
+pub fn vehicles_of(s: &[u8], i: usize) -> u64
+    requires { ⌜ rowPlace (now s) i + 24 ≤ length (now s) ⌝ }
+    ensures { λ r. ⌜ (r ≡ (rowAt (now (s .entry)) i) .vehicles) × (r < 2 ^ 32) ⌝ }
+{
+    u32_at(s, row_place(s, i) + 8)
 }

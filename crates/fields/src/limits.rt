@@ -1,11 +1,14 @@
 // The limits of a sheet, each named once for the code; sheet/specs/Limits.antt names them for the definitions.
 
 // The versions that are read, from 1 on.
-pub const VERSION_LIMIT: u64 = 3;
+pub const VERSION_LIMIT: u64 = 4;
 
 pub const SEASONS_LIMIT: u64 = 12;
 
 pub const ROWS_LIMIT: u64 = 32;
+
+// From version 4 on.
+pub const MANY_ROWS_LIMIT: u64 = 1000;
 
 // The sum of each list of counts, at least 1.
 pub const COUNTS_LIMIT: u64 = 1000;
@@ -32,6 +35,9 @@ pub const PERCENT_LIMIT: u64 = 100;
 pub const TANK_LIMIT: u64 = 1500;
 
 pub const VEHICLES_LIMIT: u64 = 10000000;
+
+// Of all rows together, from version 4 on.
+pub const FLEET_LIMIT: u64 = 100000000;
 
 // Hundredths of a trip a day.
 pub const TRIPS_LIMIT: u64 = 2000;

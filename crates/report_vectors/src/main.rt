@@ -25,14 +25,14 @@ ghost use Prim.Native.Nat.{_+_, _/_, _<_, _≤_};
 ghost use lib.ListN.{length};
 
 // The words of the buffer
-const WORDS: usize = 256;
+const WORDS: usize = 6144;
 
 // The bytes before each sheet, five numbers of two: its length and rows, the words of the buffer, and the number and place at which it is
 // refused, both 0 where it is accepted
 const HEAD: usize = 10;
 
 // The bytes of as many rows as a sheet can have
-const ROWS: usize = 2304;
+const ROWS: usize = 72000;
 
 // What is looked at in one pass: the bands of mass 0, 1 or 2, the sums of the accepted sheets, or the refusals
 const SUMS: usize = 3;
@@ -48,7 +48,7 @@ struct Head {
 
 fn head_at(s: &[u8], at: usize) -> Head
     requires { ⌜ at + 10 ≤ length (now s) ⌝ }
-    ensures { λ r. ⌜ r .room ≤ 256 ⌝ }
+    ensures { λ r. ⌜ r .room ≤ 6144 ⌝ }
 {
     Head {
         room: smaller(u16_at(s, at + 4) as usize, WORDS),
@@ -59,14 +59,14 @@ fn head_at(s: &[u8], at: usize) -> Head
 
 // A tally with one band more
 fn with_band(
-    words: &[u64; 256],
+    words: &[u64; 6144],
     rows: &[u8],
     row: usize,
     mass: usize,
     sheet: u64,
     tally: Tally,
 ) -> Tally
-    requires { ⌜ (length (now rows) ≤ 2304) × (row < length (now rows) / 72) × (mass ≤ 2) ⌝ }
+    requires { ⌜ (length (now rows) ≤ 72000) × (row < length (now rows) / 72) × (mass ≤ 2) ⌝ }
 {
     let at = 6 * row + 2 * mass;
     let low = words[at];
@@ -80,8 +80,8 @@ fn with_band(
 }
 
 // The bands of one mass of a sheet's rows
-fn with_bands(words: &[u64; 256], rows: &[u8], mass: usize, sheet: u64, before: Tally) -> Tally
-    requires { ⌜ (length (now rows) ≤ 2304) × (mass ≤ 2) ⌝ }
+fn with_bands(words: &[u64; 6144], rows: &[u8], mass: usize, sheet: u64, before: Tally) -> Tally
+    requires { ⌜ (length (now rows) ≤ 72000) × (mass ≤ 2) ⌝ }
 {
     let mut tally = before;
     let mut row = 0;
@@ -118,10 +118,10 @@ fn answers(found: Check, head: Head) -> bool {
 
 // A tally with one sheet more: all its bands of one mass, its sums or its refusal
 fn with_sheet(s: &[u8], rows: &[u8], head: Head, pass: usize, sheet: u64, tally: Tally) -> Tally
-    requires { ⌜ (head .room ≤ 256) × (length (now rows) ≤ 2304) × (pass ≤ 4) ⌝ }
+    requires { ⌜ (head .room ≤ 6144) × (length (now rows) ≤ 72000) × (pass ≤ 4) ⌝ }
 {
     let room = head.room;
-    let mut words = [OLD; 256];
+    let mut words = [OLD; 6144];
     let right = answers(report_into(s, room, &mut words), head);
     if pass == REFUSALS {
         return with_verdict(right & kept(&words, 0), sheet, tally);

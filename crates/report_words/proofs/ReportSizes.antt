@@ -2,30 +2,22 @@
 -- Assumes nothing.
 use mathlib.Core.Bool.{Bool}
 use mathlib.Core.List.{List}
-use Prim.Native.Nat.{ℕ, _*_, _^_, _≤_, _<_}
-use native.Mathlib.Nat.{mul-le-mul-right}
+use Prim.Native.Nat.{ℕ, _^_, _≤_, _<_}
 use native.Mathlib.Omega.{arith}
-use Rattle.numbers.proofs.Lists.{sum-le}
-use Rattle.sheet.specs.Limits.{rowsLimit, vehiclesLimit}
-use Rattle.sheet.specs.Bytes.{rowsOf, rowAt}
+use Rattle.sheet.specs.Bytes.{rowsOf}
+use Rattle.sheet.proofs.Fleet.{vehicles-most}
 use Rattle.sheet.proofs.Accepted.{Bytes, Accepted}
 use Rattle.report_words.specs.Report.{subtotal, grandTotal}
-use Rattle.report_words.proofs.SumSizes.{vehiclesBefore, subtotal-most, grand-total-most, sums-fit}
+use Rattle.report_words.proofs.SumSizes.{subtotal-most, grand-total-most, sums-fit}
 use Rattle.report_words.proofs.AcceptedRange.{row-sized}
 
 module _ {s : List ℕ} (bytes : Bytes s) (a : Accepted s) where
-  -- the vehicles of the first n rows
-  vehicles-most : (n : ℕ) → n ≤ rowsOf s → vehiclesBefore s n ≤ rowsLimit * vehiclesLimit
-  vehicles-most n h =
-      let rows : n ≤ rowsLimit = omega (arith, a .rows-most) in
-      omega (arith, sum-le (λ (i : ℕ). (rowAt s i) .vehicles) vehiclesLimit n (λ i l. a .row i (omega arith) .vehicles-most), mul-le-mul-right vehiclesLimit rows)
-
   -- a sum over the first rows
   pub subtotal-fits : (category : ℕ → Bool) (n j : ℕ) → n ≤ rowsOf s → subtotal s category n j < 2 ^ 64
   subtotal-fits category n j h =
-      omega (arith, subtotal-most s category n j (λ i l. row-sized bytes a (omega arith)), sums-fit (vehicles-most n h))
+      omega (arith, subtotal-most s category n j (λ i l. row-sized bytes a (omega arith)), sums-fit (vehicles-most a n h))
 
   -- the grand total
   pub grand-total-fits : (j : ℕ) → grandTotal s j < 2 ^ 64
   grand-total-fits j =
-      omega (arith, grand-total-most s j (λ i l. row-sized bytes a l), sums-fit (vehicles-most (rowsOf s) (omega arith)))
+      omega (arith, grand-total-most s j (λ i l. row-sized bytes a l), sums-fit (vehicles-most a (rowsOf s) (omega arith)))

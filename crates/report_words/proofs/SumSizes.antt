@@ -4,15 +4,11 @@ use mathlib.Core.Bool.{Bool, true, false}
 use mathlib.Core.List.{List}
 use Prim.Native.Nat.{ℕ, suc, zero, _+_, _*_, _^_, _≤_, _<_}
 use native.Mathlib.Omega.{arith}
-use Rattle.numbers.specs.Lists.{sum}
 use Rattle.sheet.specs.Limits.{rowsLimit, vehiclesLimit}
 use Rattle.sheet.specs.Bytes.{rowsOf, cellsOf, seasonList, rowAt}
+use Rattle.sheet.specs.Sheet.{vehiclesBefore}
 use Rattle.masses.proofs.MassSizes.{vehicleMost, RowSized, word-most}
 use Rattle.report_words.specs.Report.{wordsOf, counted, subtotal, grandTotal, anyClass}
-
--- the vehicles of the first n rows
-abbrev pub vehiclesBefore : List ℕ → ℕ → ℕ
-vehiclesBefore s = sum (λ (i : ℕ). (rowAt s i) .vehicles)
 
 -- a word that counts or not
 counted-most : (b : Bool) {word most : ℕ} → word ≤ most → counted b word ≤ most
@@ -23,7 +19,7 @@ counted-most false h = omega arith
 -- a word summed over the rows of a category
 pub subtotal-most : (s : List ℕ) (category : ℕ → Bool) (n j : ℕ) → ((i : ℕ) → i < n → RowSized (cellsOf s) (seasonList s) (rowAt s i))
     → subtotal s category n j ≤ vehicleMost * vehiclesBefore s n
-unfolding subtotal wordsOf sum
+unfolding subtotal wordsOf vehiclesBefore
 subtotal-most s category zero j r = omega arith
 subtotal-most s category (suc n) j r =
     omega (arith, subtotal-most s category n j (λ i l. r i (omega arith)), counted-most (category ((rowAt s n) .class)) (word-most (r n (omega arith)) j))

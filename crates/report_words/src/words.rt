@@ -4,7 +4,7 @@ use crate::year::clear;
 use fields::row_place;
 use fields::rows_of;
 use fields::u8_at;
-use fields::u32_at;
+use fields::vehicles_of;
 ghost use mathlib.Core.Path.{_≡_};
 ghost use Prim.Native.Nat.{_+_, _*_, _/_, _^_, _≤_, _<_};
 ghost use lib.ListN.{length, getD, take};
@@ -22,19 +22,12 @@ const MILLIGRAM: u64 = 1000000000;
 // How many words a row has, and a category.
 const SIX: usize = 6;
 
-// What stands of a row in the sheet: its class and its vehicles.
+// The class of a row.
 fn class_of(s: &[u8], i: usize) -> u64
     requires { ⌜ rowPlace (now s) i + 24 ≤ length (now s) ⌝ }
     ensures { λ r. ⌜ r ≡ (rowAt (now (s .entry)) i) .class ⌝ }
 {
     u8_at(s, row_place(s, i))
-}
-
-fn vehicles_of(s: &[u8], i: usize) -> u64
-    requires { ⌜ rowPlace (now s) i + 24 ≤ length (now s) ⌝ }
-    ensures { λ r. ⌜ r ≡ (rowAt (now (s .entry)) i) .vehicles ⌝ }
-{
-    u32_at(s, row_place(s, i) + 8)
 }
 
 // A year's figure of one vehicle, for all vehicles, in milligrams, with what is to be added before it is cut. In parts,

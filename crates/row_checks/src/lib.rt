@@ -1,11 +1,13 @@
-// Each row: numbers 13 to 21, and 25.
+// Each row: numbers 13 to 21, 25 and 26.
 use classes::halves;
 use exact::Canister;
 use exact::Equipment;
 use exact::Row;
 use exact::Season;
 use fields::equipment_at;
+use fields::has_many_rows;
 use fields::has_mileage;
+use fields::limits::FLEET_LIMIT;
 use fields::limits::MILEAGE_LIMIT;
 use fields::limits::MINUTES_LIMIT;
 use fields::limits::PERCENT_LIMIT;
@@ -21,20 +23,21 @@ use fields::season_at;
 use fields::seasons_of;
 use fields::u8_at;
 use fields::u16_at;
+use fields::vehicles_of;
 use fields::warmth;
 use sheet::Check;
 ghost use mathlib.Core.Bool.{not, _||_, _&&_};
 ghost use mathlib.Core.Path.{_≡_};
-ghost use Prim.Native.Nat.{ℕ, _+_, _<_, _≤_};
+ghost use Prim.Native.Nat.{ℕ, _+_, _^_, _<_, _≤_};
 ghost use lib.Dec.{ltb, eqb};
 ghost use lib.ListN.{length};
-ghost use Rattle.sheet.specs.Limits.{vehiclesLimit, tankLimit, tripsLimit, minutesLimit};
+ghost use Rattle.sheet.specs.Limits.{vehiclesLimit, fleetLimit, tankLimit, tripsLimit, minutesLimit};
 ghost use Rattle.sheet.specs.Integers.{u8At, u16At};
-ghost use Rattle.sheet.specs.Versions.{hasMileage};
+ghost use Rattle.sheet.specs.Versions.{hasMileage, hasManyRows};
 ghost use Rattle.sheet.specs.Bytes.{seasonsOf, rowsOf, rowPlace, equipmentAt};
 ghost use Rattle.sheet.specs.Check.{refuse, _then_, each};
 ghost use Rattle.sheet.specs.Sheet.{isAbsent, codeWrong, percentWrong, loadWrong};
-ghost use Rattle.sheet.specs.Sheet.{saturationAbove, someSeason, noCanister, mileageWrong, rowCheck};
+ghost use Rattle.sheet.specs.Sheet.{saturationAbove, someSeason, noCanister, mileageWrong, vehiclesBefore, rowCheck};
 ghost use Rattle.sheet.specs.Range.{SeasonInRange};
 ghost use Rattle.row_checks.specs.Passed.{SeasonsPassed};
 
@@ -149,22 +152,33 @@ fn class_check(s: &[u8], row: Row, p: usize) -> Check
     )
 }
 
-// Numbers 16 to 18.
+// Numbers 16 and 26, after so many vehicles in the rows before.
+fn fleet_check(s: &[u8], vehicles: u64, before: u64, p: usize) -> Check
+    requires { ⌜ (8 ≤ length (now s)) × (vehicles < 2 ^ 32) × (before < 2 ^ 62) ⌝ }
+    ensures { λ r. ⌜ r ≡ (
+        refuse (ltb vehiclesLimit vehicles) 16 p then
+        refuse (hasManyRows (now (s .entry)) && ltb fleetLimit (before + vehicles)) 26 p) ⌝ }
+{
+    let place = p as u64;
+    let exceeded = has_many_rows(s) & (FLEET_LIMIT < before + vehicles);
+    or_else(
+        when(VEHICLES_LIMIT < vehicles, 16, place),
+        when(exceeded, 26, place),
+    )
+}
+
+// Numbers 17 and 18.
 fn use_check(s: &[u8], row: Row, p: usize) -> Check
     requires { ⌜ p + 24 ≤ length (now s) ⌝ }
     ensures { λ r. ⌜ r ≡ (
-        refuse (ltb vehiclesLimit (row .vehicles)) 16 p then
         refuse (ltb tankLimit (u16At (now (s .entry)) (p + 6))) 17 p then
         refuse (ltb tripsLimit (row .trips) || ltb minutesLimit (row .minutes)) 18 p) ⌝ }
 {
     let place = p as u64;
     let driving = (TRIPS_LIMIT < row.trips) | (MINUTES_LIMIT < row.minutes);
     or_else(
-        when(VEHICLES_LIMIT < row.vehicles, 16, place),
-        or_else(
-            when(TANK_LIMIT < u16_at(s, p + 6), 17, place),
-            when(driving, 18, place),
-        ),
+        when(TANK_LIMIT < u16_at(s, p + 6), 17, place),
+        when(driving, 18, place),
     )
 }
 
@@ -198,15 +212,18 @@ fn mileage_check(s: &[u8], row: Row, p: usize) -> Check
     when(row.mileage != 0, 21, place)
 }
 
-// Row i.
-fn row_check(s: &[u8], i: usize) -> Check
-    requires { ⌜ SeasonsPassed (now s) × (rowPlace (now s) i + 24 ≤ length (now s)) ⌝ }
+// Row i, after so many vehicles in the rows before.
+fn row_check(s: &[u8], i: usize, before: u64) -> Check
+    requires { ⌜ SeasonsPassed (now s) × (rowPlace (now s) i + 24 ≤ length (now s)) × (before ≡ vehiclesBefore (now s) i) × (before < 2 ^ 62) ⌝ }
     ensures { λ r. ⌜ r ≡ rowCheck (now (s .entry)) i ⌝ }
 {
     let row = row_at(s, i);
     let p = row_place(s, i);
+    let class = class_check(s, row, p);
+    let fleet = fleet_check(s, row.vehicles, before, p);
+    let early = or_else(class, or_else(fleet, use_check(s, row, p)));
     or_else(
-        or_else(class_check(s, row, p), use_check(s, row, p)),
+        early,
         or_else(load_check(s, row, p), mileage_check(s, row, p)),
     )
 }
@@ -217,12 +234,14 @@ pub fn rows_check(s: &[u8]) -> Check
     ensures { λ r. ⌜ r ≡ each (rowCheck (now (s .entry))) (rowsOf (now (s .entry))) ⌝ }
 {
     let n = rows_of(s);
+    let mut before: u64 = 0;
     let mut i: usize = 0;
     while i < n {
-        let one = row_check(s, i);
+        let one = row_check(s, i, before);
         if let Check::Refused(number, place) = one {
             return Check::Refused(number, place);
         }
+        before += vehicles_of(s, i);
         i += 1;
     }
     Check::Pass

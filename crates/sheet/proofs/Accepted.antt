@@ -12,11 +12,11 @@ use Rattle.exact.specs.declared.Equipment.the-variants.{Absent}
 use Rattle.exact.specs.Classes.{equipment}
 use Rattle.exact.specs.Factors.{total}
 use Rattle.sheet.specs.declared.Check.the-variants.{Pass}
-use Rattle.sheet.specs.Limits.{versionLimit, seasonsLimit, rowsLimit, countsLimit, gridLimit, daysLimit, vpLeast, vpLimit, percentLimit, tankLimit, vehiclesLimit, tripsLimit, minutesLimit}
+use Rattle.sheet.specs.Limits.{versionLimit, seasonsLimit, countsLimit, gridLimit, daysLimit, vpLeast, vpLimit, percentLimit, tankLimit, vehiclesLimit, fleetLimit, tripsLimit, minutesLimit}
 use Rattle.sheet.specs.Integers.{u8At, u16At}
-use Rattle.sheet.specs.Versions.{versionOf, seasonsStart}
+use Rattle.sheet.specs.Versions.{versionOf, rowsMost, seasonsStart}
 use Rattle.sheet.specs.Bytes.{seasonsOf, rowsOf, durationCounts, hourCounts, gridCounts, seasonPlace, rowPlace, seasonFrom, seasonAt, rowFrom, rowAt, equipmentAt, tankOf}
-use Rattle.sheet.specs.Sheet.{daysBefore, sheetCheck}
+use Rattle.sheet.specs.Sheet.{daysBefore, vehiclesBefore, sheetCheck}
 use Rattle.sheet.specs.Range.{SeasonInRange}
 use Rattle.sheet.specs.Demands.{Met}
 use Rattle.sheet.proofs.Equipment.{equipment-tank, equipment-class}
@@ -47,6 +47,7 @@ pub record AcceptedRow (s : List ℕ) (i : ℕ) : Type 0 where
   pub hot-most : (rowAt s i) .hot ≤ percentLimit
   pub fill-most : (rowAt s i) .fill ≤ percentLimit
   pub vehicles-most : (rowAt s i) .vehicles ≤ vehiclesLimit
+  pub fleet-most : 4 ≤ versionOf s → vehiclesBefore s (suc i) ≤ fleetLimit
   pub tank-least : 1 ≤ (rowAt s i) .tank
   pub tank-most : (rowAt s i) .tank ≤ tankLimit
   pub trips-most : (rowAt s i) .trips ≤ tripsLimit
@@ -65,7 +66,7 @@ pub record Accepted (s : List ℕ) : Type 0 where
   pub seasons-least : 1 ≤ seasonsOf s
   pub seasons-most : seasonsOf s ≤ seasonsLimit
   pub rows-least : 1 ≤ rowsOf s
-  pub rows-most : rowsOf s ≤ rowsLimit
+  pub rows-most : rowsOf s ≤ rowsMost s
   pub durations : versionOf s < 2 → (1 ≤ total (durationCounts s)) × (total (durationCounts s) ≤ countsLimit)
   pub hours : versionOf s < 2 → (1 ≤ total (hourCounts s)) × (total (hourCounts s) ≤ countsLimit)
   pub grid : 2 ≤ versionOf s → (1 ≤ total (gridCounts s)) × (total (gridCounts s) ≤ gridLimit)
@@ -95,9 +96,9 @@ unfolding tankOf
 tank-between zero class technology n h = let (low, high) = equipment-tank class technology n in (omega arith, omega arith)
 tank-between (suc tenths) class technology n h = (omega arith, h)
 
-row-accepted : (s : List ℕ) (i : ℕ) → Met (rowDemands s i) → AcceptedRow s i
-unfolding rowAt rowFrom equipmentAt
-row-accepted s i (present, (code, (((carburettor, hot), fill), (vehicles, (tank, ((trips, minutes), ((load, none), (exponent, (bytes, mileage))))))))) =
+pub row-accepted : (s : List ℕ) (i : ℕ) → Met (rowDemands s i) → AcceptedRow s i
+unfolding rowAt rowFrom equipmentAt vehiclesBefore
+row-accepted s i (present, (code, (((carburettor, hot), fill), (vehicles, (fleet, (tank, ((trips, minutes), ((load, none), (exponent, (bytes, mileage)))))))))) =
     let (tank-least, tank-most) = tank-between (u16At s (rowPlace s i + 6)) (u8At s (rowPlace s i)) (u8At s (rowPlace s i + 1)) present tank in
     let (class-least, class-most) = equipment-class (u8At s (rowPlace s i)) (u8At s (rowPlace s i + 1)) present in
     record {
@@ -109,6 +110,7 @@ row-accepted s i (present, (code, (((carburettor, hot), fill), (vehicles, (tank,
       hot-most = hot;
       fill-most = fill;
       vehicles-most = vehicles;
+      fleet-most = fleet;
       tank-least = tank-least;
       tank-most = tank-most;
       trips-most = trips;

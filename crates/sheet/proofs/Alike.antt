@@ -20,10 +20,10 @@ use Rattle.exact.specs.declared.Row.{Row}
 use Rattle.sheet.specs.declared.Check.{Check}
 use Rattle.sheet.specs.Limits.{tankLimit}
 use Rattle.sheet.specs.Integers.{u8At, u16At}
-use Rattle.sheet.specs.Versions.{versionOf, hasGrid, seasonsStart}
+use Rattle.sheet.specs.Versions.{versionOf, hasGrid, rowsMost, seasonsStart}
 use Rattle.sheet.specs.Bytes.{seasonsOf, rowsOf, durationCounts, hourCounts, gridCounts, cellsOf, seasonPlace, rowPlace, seasonAt, seasonsFrom, seasonList, rowFrom, rowAt, equipmentAt, fittedCanister, fittedTank, writtenCanister, canisterOf, tankOf}
 use Rattle.sheet.specs.Check.{each}
-use Rattle.sheet.specs.Sheet.{lettersMissing, markCheck, numbersCheck, headCheck, lengthCheck, parkingCheck, daysBefore, seasonCheck, codeWrong, saturationAbove, someSeason, mileageWrong, rowCheck, sheetCheck}
+use Rattle.sheet.specs.Sheet.{lettersMissing, markCheck, numbersCheck, headCheck, lengthCheck, parkingCheck, daysBefore, vehiclesBefore, seasonCheck, codeWrong, saturationAbove, someSeason, mileageWrong, rowCheck, sheetCheck}
 use Rattle.sheet.proofs.Versions.{start-grid, start-between, start-same}
 use Rattle.sheet.proofs.Equipment.{equipment-tank}
 use Rattle.sheet.proofs.Local.{Same, byte-at, word-at, season-same, equipment-same, row-counts, row-same, counts-same}
@@ -149,7 +149,12 @@ module _ (s s' : List ℕ) (i : ℕ) (c : Canister) (t : ℕ) (fitted : equipmen
   seasons = head-byte 5 (omega arith)
 
   rows : rowsOf s' ≡ rowsOf s
-  rows = head-byte 6 (omega arith)
+  unfolding rowsOf
+  rows = cc (version, head-byte 6 (omega arith), head-byte 7 (omega arith))
+
+  rows-most : rowsMost s' ≡ rowsMost s
+  unfolding rowsMost
+  rows-most = cc (version)
 
   -- each season,
   season : (j : ℕ) → j < seasonsOf s → seasonAt s' j ≡ seasonAt s j
@@ -177,7 +182,7 @@ module _ (s s' : List ℕ) (i : ℕ) (c : Canister) (t : ℕ) (fitted : equipmen
   -- the head passes or is refused alike,
   head : headCheck s' ≡ headCheck s
   unfolding headCheck markCheck numbersCheck lettersMissing
-  head = cc (w .same-length, head-byte 0 (omega arith), head-byte 1 (omega arith), head-byte 2 (omega arith), version, seasons, rows, head-byte 7 (omega arith))
+  head = cc (w .same-length, head-byte 0 (omega arith), head-byte 1 (omega arith), head-byte 2 (omega arith), version, seasons, rows, rows-most, head-byte 7 (omega arith))
 
   -- the parking counts are the same,
   durations : durationCounts s' ≡ durationCounts s
@@ -224,6 +229,12 @@ module _ (s s' : List ℕ) (i : ℕ) (c : Canister) (t : ℕ) (fitted : equipmen
   unfolding rowAt
   row j = rw (start, seasons) (row-alike j .row)
 
+  -- and so are the vehicles before it,
+  vehicles : (n : ℕ) → vehiclesBefore s' n ≡ vehiclesBefore s n
+  unfolding vehiclesBefore
+  vehicles zero = refl
+  vehicles (suc n) = cc (vehicles n, row n)
+
   -- and it passes or is refused alike.
   mileage : (r : Row) → mileageWrong s' r ≡ mileageWrong s r
   unfolding mileageWrong
@@ -233,7 +244,7 @@ module _ (s s' : List ℕ) (i : ℕ) (c : Canister) (t : ℕ) (fitted : equipmen
   unfolding rowCheck
   row-check j =
       let r = row-alike j in
-      cc (start, seasons, version, row j, some (saturationAbove 3 ((rowAt s j) .canister) ((rowAt s j) .saturation)) (seasonsOf s) (omega arith), mileage (rowAt s j))
+      rw (start, seasons, version, row j, vehicles j, r .equipment, r .code, r .limit, mileage (rowAt s j), some (saturationAbove 3 ((rowAt s j) .canister) ((rowAt s j) .saturation)) (seasonsOf s) (omega arith))
 
   -- accepted or refused alike, with the same values
   pub alike : Alike s s'

@@ -1,4 +1,4 @@
--- "Where a sheet stops", numbers 1 to 21, 24 and 25 as demands in plain arithmetic, each with its place: a sheet is accepted
+-- "Where a sheet stops", numbers 1 to 21 and 24 to 26 as demands in plain arithmetic, each with its place: a sheet is accepted
 -- where all are met, and else the first that is not met gives the number and the place.
 -- Assumes nothing.
 use mathlib.Core.Bool.{Bool, true, false}
@@ -20,9 +20,9 @@ use Rattle.exact.specs.Canister.{size}
 use Rattle.exact.specs.Factors.{total}
 use Rattle.sheet.specs.declared.Check.the-variants.{Pass, Refused}
 use Rattle.sheet.specs.Integers.{u8At, u16At}
-use Rattle.sheet.specs.Versions.{versionOf, seasonsStart}
+use Rattle.sheet.specs.Versions.{versionOf, rowsMost, seasonsStart}
 use Rattle.sheet.specs.Bytes.{seasonsOf, rowsOf, durationCounts, hourCounts, gridCounts, rowPlace, seasonAt, rowAt, equipmentAt}
-use Rattle.sheet.specs.Sheet.{outside, lettersMissing, markCheck, numbersCheck, headCheck, lengthCheck, parkingCheck, daysBefore, temperaturesWrong, seasonCheck, isAbsent, codeWrong, percentWrong, loadWrong, exponentAbove, saturationAbove, someSeason, noCanister, mileageWrong, rowCheck, sheetCheck}
+use Rattle.sheet.specs.Sheet.{outside, lettersMissing, markCheck, numbersCheck, headCheck, lengthCheck, parkingCheck, daysBefore, vehiclesBefore, temperaturesWrong, seasonCheck, isAbsent, codeWrong, percentWrong, loadWrong, exponentAbove, saturationAbove, someSeason, noCanister, mileageWrong, rowCheck, sheetCheck}
 use Rattle.sheet.specs.Check.{numberOf, placeOf}
 use Rattle.sheet.specs.Demands.{Met, FirstUnmet, Says, markDemands, numbersDemands, headDemands, lengthDemand, parkingDemands, seasonDemands, exponentAt, ExponentMost, MileageRight, rowDemands, demands}
 use Rattle.sheet.proofs.Checks.{Tests, Judges, numbers, among, number-among, Once, Unmet, unmet, Broken, broken, met-passes, says, true-is-not-false, below-suc, judges-refuse, judges-then, judges-each, _⊳_, ltb-tests, ||-tests, &&-tests, tests-as, not-tests, eqb-shows, ≤-shows, &&-shows, leb-shows, not-leb-shows, guarded}
@@ -45,7 +45,7 @@ numbers-judged s =
     outside-tests _ _ _ ⊳
     outside-tests _ _ _ ⊳
     outside-tests _ _ _ ⊳
-    judges-refuse (not-tests (eqb-shows _ _))
+    judges-refuse (guarded (not-leb-shows _ _) (not-tests (eqb-shows _ _)))
 
 -- headCheck
 pub head-judged : (s : List ℕ) → Judges (headCheck s) (headDemands s)
@@ -142,6 +142,7 @@ row-judged s i =
     code-tests _ ⊳
     ||-tests (||-tests (ltb-tests _ _) (ltb-tests _ _)) (ltb-tests _ _) ⊳
     ltb-tests _ _ ⊳
+    guarded (leb-shows _ _) (ltb-tests _ _) ⊳
     ltb-tests _ _ ⊳
     ||-tests (ltb-tests _ _) (ltb-tests _ _) ⊳
     load-tests _ _ _ ⊳
@@ -169,7 +170,7 @@ once s = (
     (
       refl,
       (refl, tt, (refl, tt, tt)),
-      (refl, (λ i. (refl, (refl, tt, (refl, tt, tt)))), (λ i. (refl, (refl, tt, (refl, tt, (refl, tt, (refl, tt, (refl, tt, (refl, tt, (refl, tt, (refl, tt, (refl, tt, tt)))))))))))),
+      (refl, (λ i. (refl, (refl, tt, (refl, tt, tt)))), (λ i. (refl, (refl, tt, (refl, tt, (refl, tt, (refl, tt, (refl, tt, (refl, tt, (refl, tt, (refl, tt, (refl, tt, (refl, tt, tt))))))))))))),
     ),
   ),
 )
@@ -207,10 +208,10 @@ NotInRow s p A = (i : ℕ) × (i < rowsOf s) × ((p ≡ seasonsStart s + 8 * sea
 pub record Conditions (s : List ℕ) (p : ℕ) : Type 0 where
   pub short : sheetCheck s ≡ Refused 1 p → (p ≡ 0) × ¬ (8 ≤ length s)
   pub mark : sheetCheck s ≡ Refused 2 p → (p ≡ 0) × ¬ (((u8At s 0 ≡ 0x45) × (u8At s 1 ≡ 0x56)) × (u8At s 2 ≡ 0x50))
-  pub version : sheetCheck s ≡ Refused 3 p → (p ≡ 3) × ¬ ((1 ≤ u16At s 3) × (u16At s 3 ≤ 3))
+  pub version : sheetCheck s ≡ Refused 3 p → (p ≡ 3) × ¬ ((1 ≤ u16At s 3) × (u16At s 3 ≤ 4))
   pub seasons : sheetCheck s ≡ Refused 4 p → (p ≡ 5) × ¬ ((1 ≤ u8At s 5) × (u8At s 5 ≤ 12))
-  pub rows : sheetCheck s ≡ Refused 5 p → (p ≡ 6) × ¬ ((1 ≤ u8At s 6) × (u8At s 6 ≤ 32))
-  pub byte-7 : sheetCheck s ≡ Refused 6 p → (p ≡ 7) × ¬ (u8At s 7 ≡ 0)
+  pub rows : sheetCheck s ≡ Refused 5 p → (p ≡ 6) × ¬ ((1 ≤ rowsOf s) × (rowsOf s ≤ rowsMost s))
+  pub byte-7 : sheetCheck s ≡ Refused 6 p → (p ≡ 7) × ¬ (versionOf s < 4 → u8At s 7 ≡ 0)
   pub length-wrong : sheetCheck s ≡ Refused 7 p → (p ≡ 0) × ¬ (length s ≡ seasonsStart s + 8 * seasonsOf s + 24 * rowsOf s)
   pub durations : sheetCheck s ≡ Refused 8 p → (p ≡ 8) × ¬ (versionOf s < 2 → (1 ≤ total (durationCounts s)) × (total (durationCounts s) ≤ 1000))
   pub hours : sheetCheck s ≡ Refused 9 p → (p ≡ 56) × ¬ (versionOf s < 2 → (1 ≤ total (hourCounts s)) × (total (hourCounts s) ≤ 1000))
@@ -224,6 +225,9 @@ pub record Conditions (s : List ℕ) (p : ℕ) : Type 0 where
   pub canister-code : sheetCheck s ≡ Refused 14 p → NotInRow s p (λ (row : Row) (place : ℕ). (u8At s (place + 2) ≤ 3) ⊎ (u8At s (place + 2) ≡ 255))
   pub percents : sheetCheck s ≡ Refused 15 p → NotInRow s p (λ (row : Row) (place : ℕ). ((row .carburettor ≤ 100) × (row .hot ≤ 100)) × (row .fill ≤ 100))
   pub vehicles : sheetCheck s ≡ Refused 16 p → NotInRow s p (λ (row : Row) (place : ℕ). row .vehicles ≤ 10000000)
+  pub fleet : sheetCheck s ≡ Refused 26 p
+      → (i : ℕ) × (i < rowsOf s) × ((p ≡ seasonsStart s + 8 * seasonsOf s + 24 * i)
+      × ¬ (4 ≤ versionOf s → vehiclesBefore s i + (rowAt s i) .vehicles ≤ 100000000))
   pub tank : sheetCheck s ≡ Refused 17 p → NotInRow s p (λ (row : Row) (place : ℕ). u16At s (place + 6) ≤ 1500)
   pub trips-minutes : sheetCheck s ≡ Refused 18 p → NotInRow s p (λ (row : Row) (place : ℕ). (row .trips ≤ 2000) × (row .minutes ≤ 1440))
   pub loads : sheetCheck s ≡ Refused 19 p → NotInRow s p (λ (row : Row) (place : ℕ). (row .load ≤ row .saturation) × (row .canister ≡ None → row .saturation ≡ 0))
@@ -256,6 +260,7 @@ conditions s p =
       canister-code = only 14;
       percents = only 15;
       vehicles = only 16;
+      fleet = only 26;
       tank = only 17;
       trips-minutes = only 18;
       loads = only 19;

@@ -2,7 +2,7 @@
 -- said of such sheets is said of some.
 -- Assumes nothing.
 use mathlib.Core.List.{List, [], _∷_, _++_}
-use mathlib.Core.Path.{_≡_, refl, _∙_}
+use mathlib.Core.Path.{_≡_, refl, _∙_, sym}
 use Prim.Native.Nat.{ℕ, suc, zero, _+_, _*_, _/_, _%_, _≤_, _<_}
 use native.Mathlib.Omega.{arith}
 use lib.ListN.{length, getD, drop, length-append, length-drop}
@@ -13,6 +13,7 @@ use Rattle.sheet.specs.Integers.{u8At}
 use Rattle.sheet.specs.Versions.{versionOf}
 use Rattle.sheet.specs.Bytes.{countsAt, durationCounts, hourCounts, gridCounts}
 use Rattle.sheet.specs.SameGrid.{GridOf}
+use Rattle.sheet.proofs.Versions.{rows-few}
 use Rattle.sheet.proofs.Local.{Same, counts-same}
 use Rattle.sheet.proofs.Counts.{counts-length}
 use Rattle.sheet.proofs.Accepted.{Bytes}
@@ -84,7 +85,7 @@ grid-made s version h = record {
   letter-1 = refl;
   letter-2 = refl;
   seasons = refl;
-  rows = refl;
+  rows = rows-few (withGrid s) refl ∙ sym (rows-few s (rw version));
   byte-7 = refl;
   products-are =
       counts-same 8 0 576 (after-head s 1152) ∙

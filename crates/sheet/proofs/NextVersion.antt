@@ -1,22 +1,23 @@
 -- An accepted version 2 sheet is accepted in version 3 too, with the same values; and so are a row's values in any version 3 sheet of the
 -- same parking and seasons.
 -- Assumes nothing.
-use mathlib.Core.Bool.{true}
+use mathlib.Core.Bool.{true, false}
 use mathlib.Core.List.{List}
 use mathlib.Core.Path.{_≡_, refl, sym, _∙_}
 use Prim.Native.Nat.{ℕ, suc, zero, _+_, _*_, _≤_, _<_}
 use native.Mathlib.Omega.{arith}
 use Rattle.sheet.specs.declared.Check.the-variants.{Pass}
 use Rattle.sheet.specs.Integers.{u8At, u16At}
-use Rattle.sheet.specs.Versions.{versionOf, hasGrid, seasonsStart}
+use Rattle.sheet.specs.Versions.{versionOf, hasGrid, hasManyRows, seasonsStart}
 use Rattle.sheet.specs.Bytes.{seasonsOf, rowsOf, gridCounts, cellsOf, seasonPlace, rowPlace, seasonAt, seasonsFrom, seasonList, rowAt}
 use Rattle.sheet.specs.Sheet.{daysBefore, sheetCheck}
 use Rattle.sheet.specs.Demands.{Met, headDemands, rowDemands}
 use Rattle.sheet.specs.NextVersion.{NextVersion, SameRow}
-use Rattle.sheet.proofs.Versions.{start-grid, cells-grid}
+use Rattle.sheet.proofs.Versions.{rows-few, most-few, start-grid, cells-grid}
 use Rattle.sheet.proofs.Conditions.{sheet-judged, met-accepted}
-use Rattle.sheet.proofs.Accepted.{accepted}
-use Rattle.sheet.proofs.Local.{Same, byte-at, word-at, season-same, equipment-same, row-same, counts-same}
+use Rattle.sheet.proofs.Accepted.{row-accepted, accepted}
+use Rattle.sheet.proofs.Local.{Same, season-same, row-same, counts-same}
+use Rattle.sheet.proofs.RowDemands.{row-met}
 use Rattle.sheet.proofs.Alike.{Alike}
 
 -- Two sheets with a grid and with the same bytes from the parking to the last season.
@@ -78,8 +79,14 @@ module _ {s t : List ℕ} (next : NextVersion s t) where
   seasons : seasonsOf t ≡ seasonsOf s
   seasons = next .after 0
 
+  few-s : hasManyRows s ≡ false
+  few-s = rw (next .old)
+
+  few-t : hasManyRows t ≡ false
+  few-t = rw (next .new)
+
   rows : rowsOf t ≡ rowsOf s
-  rows = next .after 1
+  rows = rows-few t few-t ∙ next .after 1 ∙ sym (rows-few s few-s)
 
   same-before-rows : Kept s t
   same-before-rows = record {
@@ -125,41 +132,19 @@ module _ {s t : List ℕ} (next : NextVersion s t) where
     ),
     (
       (omega (arith, next .new), omega (arith, next .new)),
-      (rw seasons season-count, (rw rows row-count, next .after 2 ∙ zero-byte)),
+      (rw seasons season-count, ((omega (arith, rows, row-count .0), omega (arith, rows, row-count .1, most-few t few-t, most-few s few-s)), λ _. next .after 2 ∙ zero-byte (omega (arith, next .old)))),
     ),
   )
 
   -- and on each row.
-  row-met : (i : ℕ) → Met (rowDemands s i) → Met (rowDemands t i)
-  row-met i (present, (code, (percents, (vehicles, (tank, (driving, (load, (exponent, (zero-bytes, mileage))))))))) =
-      let h = row-bytes i in
-      let at-2 : u8At t (rowPlace t i + 2) ≡ u8At s (rowPlace s i + 2) = byte-at h 2 _ _ refl refl (omega arith) in
-      let at-6 : u16At t (rowPlace t i + 6) ≡ u16At s (rowPlace s i + 6) = word-at h 6 _ _ refl refl (omega arith) in
-      let none : (rowAt s i) .mileage ≡ 0 = zero-bytes (omega (arith, next .old)) in (
-        rw (equipment-same h (omega arith)) present,
-        (
-          rw at-2 code,
-          (
-            rw (row i) percents,
-            (
-              rw (row i) vehicles,
-              (
-                omega (arith, at-6),
-                (
-                  rw (row i) driving,
-                  (
-                    rw (row i) load,
-                    (
-                      (λ j l. rw (row i, season j (omega (arith, seasons))) (exponent j (omega (arith, seasons)))),
-                      ((λ old. absurd (omega (arith, next .new))), (λ _. rw (row i) (omega (arith, none), λ km. absurd (omega (arith, none))))),
-                    ),
-                  ),
-                ),
-              ),
-            ),
-          ),
-        ),
-      )
+  rows-met : (i : ℕ) → Met (rowDemands s i) → Met (rowDemands t i)
+  rows-met i met =
+      let none : (rowAt s i) .mileage ≡ 0 = row-accepted s i met .no-mileage (omega (arith, next .old)) in
+      row-met (record { bytes = row-bytes i; seasons = seasons; season = season }) (record {
+        fleet = λ many. absurd (omega (arith, next .new));
+        bytes = λ old. absurd (omega (arith, next .new));
+        mileage = λ _. rw (row i) (omega (arith, none), λ km. absurd (omega (arith, none)));
+      }) met
 
   -- So t is accepted where s is.
   pub next-accepted : sheetCheck s ≡ Pass → sheetCheck t ≡ Pass
@@ -181,7 +166,7 @@ module _ {s t : List ℕ} (next : NextVersion s t) where
               (λ j l.
                   let in-s : j < seasonsOf s = omega (arith, seasons) in
                   rw (days j (omega arith), season j in-s) (season-demands j in-s)),
-              (λ i l. row-met i (row-demands i (omega (arith, rows)))),
+              (λ i l. rows-met i (row-demands i (omega (arith, rows)))),
             ),
           ),
         ),

@@ -17,9 +17,11 @@ use Rattle.sheet.specs.Bytes.{seasonsOf, durationCounts, hourCounts, gri
 use Rattle.sheet.specs.Sheet.{daysBefore, sheetCheck}
 use Rattle.sheet.specs.Demands.{Met, markDemands, numbersDemands, seasonDemands, rowDemands}
 use Rattle.sheet.specs.SameGrid.{GridOf}
-use Rattle.sheet.proofs.Versions.{start-grid, start-lists, cells-grid, cells-lists}
+use Rattle.sheet.proofs.Versions.{most-few, start-grid, start-lists, cells-grid, cells-lists}
 use Rattle.sheet.proofs.Conditions.{sheet-judged, met-accepted}
-use Rattle.sheet.proofs.Local.{Same, byte-at, word-at, season-same, equipment-same, row-same}
+use Rattle.sheet.proofs.Accepted.{row-accepted}
+use Rattle.sheet.proofs.Local.{Same, season-same, row-same}
+use Rattle.sheet.proofs.RowDemands.{RowKept, row-met}
 use Rattle.sheet.proofs.Alike.{Alike}
 
 module _ {s t : List ℕ} (g : GridOf s t) where
@@ -84,8 +86,16 @@ module _ {s t : List ℕ} (g : GridOf s t) where
   mark-met (long, ((e, v), p)) = (omega (arith, g .length-is), ((g .letter-0 ∙ e, g .letter-1 ∙ v), g .letter-2 ∙ p))
 
   numbers-met : Met (numbersDemands s) → Met (numbersDemands t)
-  numbers-met (version, (seasons, (rows, zero-byte))) =
-      ((omega (arith, g .grid), omega (arith, g .grid)), (rw (g .seasons) seasons, (rw (g .rows) rows, g .byte-7 ∙ zero-byte)))
+  numbers-met (version, (seasons, (rows, zero-byte))) = (
+    (omega (arith, g .grid), omega (arith, g .grid)),
+    (
+      rw (g .seasons) seasons,
+      (
+        (omega (arith, g .rows, rows .0), omega (arith, g .rows, rows .1, most-few t (rw (g .grid)), most-few s (rw (g .lists)))),
+        λ _. g .byte-7 ∙ zero-byte (omega (arith, g .lists)),
+      ),
+    ),
+  )
 
   -- on the grid,
   grid-met : (1 ≤ total (durationCounts s)) × (total (durationCounts s) ≤ countsLimit) → (1 ≤ total (hourCounts s)) × (total (hourCounts s) ≤ countsLimit)
@@ -97,32 +107,16 @@ module _ {s t : List ℕ} (g : GridOf s t) where
   season-met j met = rw (days j, season j) met
 
   -- and on each row.
-  row-met : (i : ℕ) → Met (rowDemands s i) → Met (rowDemands t i)
-  row-met i (present, (code, (percents, (vehicles, (tank, (driving, (load, (exponent, (bytes, mileage))))))))) =
-      let h = row-bytes i in
-      let at-2 : u8At t (rowPlace t i + 2) ≡ u8At s (rowPlace s i + 2) = byte-at h 2 _ _ refl refl (omega arith) in
-      let at-6 : u16At t (rowPlace t i + 6) ≡ u16At s (rowPlace s i + 6) = word-at h 6 _ _ refl refl (omega arith) in (
-        rw (equipment-same h (omega arith)) present,
-        (
-          rw at-2 code,
-          (
-            rw (row i) percents,
-            (
-              rw (row i) vehicles,
-              (
-                omega (arith, at-6),
-                (
-                  rw (row i) driving,
-                  (
-                    rw (row i) load,
-                    ((λ j l. rw (row i, season j) (exponent j (omega (arith, g .seasons)))), ((λ _. rw (row i) (bytes (omega (arith, g .lists)))), (λ new. absurd (omega (arith, g .grid))))),
-                  ),
-                ),
-              ),
-            ),
-          ),
-        ),
-      )
+  kept : (i : ℕ) → RowKept s t i
+  kept i = record { bytes = row-bytes i; seasons = g .seasons; season = λ j _. season j }
+
+  rows-met : (i : ℕ) → Met (rowDemands s i) → Met (rowDemands t i)
+  rows-met i met =
+      row-met (kept i) (record {
+        fleet = λ new. absurd (omega (arith, g .grid));
+        bytes = λ _. rw (row i) (row-accepted s i met .no-mileage (omega (arith, g .lists)));
+        mileage = λ new. absurd (omega (arith, g .grid));
+      }) met
 
   -- So t is accepted where s is.
   pub grid-accepted : sheetCheck s ≡ Pass → sheetCheck t ≡ Pass
@@ -135,7 +129,7 @@ module _ {s t : List ℕ} (g : GridOf s t) where
           omega (arith, long, start-s, start-t, g .length-is, g .seasons, g .rows),
           (
             ((λ old. absurd (omega (arith, g .grid))), ((λ old. absurd (omega (arith, g .grid))), (λ _. grid-met (durations lists) (hours lists)))),
-            ((λ j l. season-met j (seasons j (omega (arith, g .seasons)))), (λ i l. row-met i (rows i (omega (arith, g .rows))))),
+            ((λ j l. season-met j (seasons j (omega (arith, g .seasons)))), (λ i l. rows-met i (rows i (omega (arith, g .rows))))),
           ),
         ),
       )

@@ -17,11 +17,11 @@ unfolding _then_
 then-assoc Pass c d = refl
 then-assoc (Refused number place) c d = refl
 
--- two groups of three and two of two are ten in a row
-pub regroup : (c₁ c₂ c₃ c₄ c₅ c₆ c₇ c₈ c₉ d : Check) {x : Check}
-    → x ≡ (((c₁ then c₂ then c₃) then (c₄ then c₅ then c₆)) then (c₇ then c₈) then c₉ then d)
-    → x ≡ (c₁ then c₂ then c₃ then c₄ then c₅ then c₆ then c₇ then c₈ then c₉ then d)
-regroup c₁ c₂ c₃ c₄ c₅ c₆ c₇ c₈ c₉ d h = h ∙ simp then-assoc
+-- a group of three and four of two are eleven in a row
+pub regroup : (c₁ c₂ c₃ c₄ c₅ c₆ c₇ c₈ c₉ d e : Check) {x : Check}
+    → x ≡ (((c₁ then c₂ then c₃) then (c₄ then c₅) then c₆ then c₇) then (c₈ then c₉) then d then e)
+    → x ≡ (c₁ then c₂ then c₃ then c₄ then c₅ then c₆ then c₇ then c₈ then c₉ then d then e)
+regroup c₁ c₂ c₃ c₄ c₅ c₆ c₇ c₈ c₉ d e h = h ∙ simp then-assoc
 
 -- nothing after a check
 then-pass-right : (c : Check) → c ≡ (c then Pass)

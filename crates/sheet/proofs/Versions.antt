@@ -7,8 +7,10 @@ use Prim.Native.Nat.{ℕ, _≤_, _<_}
 use native.Mathlib.Omega.{arith}
 use borrow.Author.Tests.{leb-true, leb-false}
 use Rattle.exact.specs.Factors.{products}
-use Rattle.sheet.specs.Versions.{versionOf, hasGrid, seasonsStart}
-use Rattle.sheet.specs.Bytes.{durationCounts, hourCounts, gridCounts, cellsOf}
+use Rattle.sheet.specs.Limits.{rowsLimit, manyRowsLimit}
+use Rattle.sheet.specs.Integers.{u8At, u16At}
+use Rattle.sheet.specs.Versions.{versionOf, hasGrid, hasManyRows, rowsMost, seasonsStart}
+use Rattle.sheet.specs.Bytes.{rowsOf, durationCounts, hourCounts, gridCounts, cellsOf}
 
 -- the version of a sheet with a grid, and of one without
 pub grid-version : (s : List ℕ) → hasGrid s ≡ true → 2 ≤ versionOf s
@@ -16,6 +18,31 @@ grid-version s h = leb-true 2 (versionOf s) h
 
 pub lists-version : (s : List ℕ) → hasGrid s ≡ false → versionOf s < 2
 lists-version s h = leb-false 2 (versionOf s) h
+
+-- how many rows, and how many at most
+pub rows-many : (s : List ℕ) → hasManyRows s ≡ true → rowsOf s ≡ u16At s 6
+unfolding rowsOf
+rows-many s h = rw (rowsOf, h) refl
+
+pub rows-few : (s : List ℕ) → hasManyRows s ≡ false → rowsOf s ≡ u8At s 6
+unfolding rowsOf
+rows-few s h = rw (rowsOf, h) refl
+
+pub most-many : (s : List ℕ) → hasManyRows s ≡ true → rowsMost s ≡ manyRowsLimit
+unfolding rowsMost
+most-many s h = rw (rowsMost, h) refl
+
+pub most-few : (s : List ℕ) → hasManyRows s ≡ false → rowsMost s ≡ rowsLimit
+unfolding rowsMost
+most-few s h = rw (rowsMost, h) refl
+
+-- a thousand in every version
+pub rows-limit : (s : List ℕ) → rowsMost s ≤ manyRowsLimit
+rows-limit s = go (hasManyRows s) refl
+  where
+    go : (b : Bool) → hasManyRows s ≡ b → rowsMost s ≤ manyRowsLimit
+    go true h = omega (arith, most-many s h)
+    go false h = omega (arith, most-few s h)
 
 -- where the seasons start
 pub start-grid : (s : List ℕ) → hasGrid s ≡ true → seasonsStart s ≡ 1160

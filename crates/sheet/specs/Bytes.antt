@@ -12,14 +12,14 @@ use Rattle.exact.specs.declared.Row.{Row}
 use Rattle.exact.specs.Classes.{equipment}
 use Rattle.exact.specs.Factors.{products}
 use Rattle.sheet.specs.Integers.{u8At, u16At, u32At}
-use Rattle.sheet.specs.Versions.{hasGrid, seasonsStart}
+use Rattle.sheet.specs.Versions.{hasGrid, hasManyRows, seasonsStart}
 
 -- "Head, 8 bytes: letters EVP (hexadecimal 45 56 50); u16 version 1; u8 seasons S, 1 to 12; u8 rows R, 1 to 32; a zero byte."
 abbrev pub seasonsOf : List ℕ → ℕ
 seasonsOf s = u8At s 5
 
-abbrev pub rowsOf : List ℕ → ℕ
-rowsOf s = u8At s 6
+unfoldable pub rowsOf : List ℕ → ℕ
+rowsOf s = elim (hasManyRows s) [ true ↦ u16At s 6 | false ↦ u8At s 6 ]
 
 -- n u16 counts from place i on
 unfoldable pub countsAt : List ℕ → ℕ → ℕ → List ℕ

@@ -13,12 +13,12 @@ use Rattle.exact.specs.declared.Row.{Row}
 use Rattle.exact.specs.Day.{signedTenths}
 use Rattle.exact.specs.Canister.{a, b, size}
 use Rattle.exact.specs.Factors.{total}
-use Rattle.sheet.specs.Limits.{versionLimit, seasonsLimit, rowsLimit, countsLimit, gridLimit, daysLimit, coldLimit, warmLimit}
-use Rattle.sheet.specs.Limits.{vpLeast, vpLimit, percentLimit, tankLimit, vehiclesLimit, tripsLimit, minutesLimit, mileageLimit}
+use Rattle.sheet.specs.Limits.{versionLimit, seasonsLimit, countsLimit, gridLimit, daysLimit, coldLimit, warmLimit}
+use Rattle.sheet.specs.Limits.{vpLeast, vpLimit, percentLimit, tankLimit, vehiclesLimit, fleetLimit, tripsLimit, minutesLimit, mileageLimit}
 use Rattle.sheet.specs.Integers.{u8At, u16At}
-use Rattle.sheet.specs.Versions.{versionOf, seasonsStart}
+use Rattle.sheet.specs.Versions.{versionOf, rowsMost, seasonsStart}
 use Rattle.sheet.specs.Bytes.{seasonsOf, rowsOf, durationCounts, hourCounts, gridCounts, seasonPlace, rowPlace, seasonAt, rowAt, equipmentAt}
-use Rattle.sheet.specs.Sheet.{daysBefore}
+use Rattle.sheet.specs.Sheet.{daysBefore, vehiclesBefore}
 
 -- Demands in their order: one with its number and place, one after another, and those on records 0, 1, .. n − 1.
 infixr 5 _next_
@@ -50,13 +50,13 @@ markDemands s =
     demand 1 0 (8 ≤ length s) next
     demand 2 0 (((u8At s 0 ≡ 0x45) × (u8At s 1 ≡ 0x56)) × (u8At s 2 ≡ 0x50))
 
--- Head | 3 version; 4 S; 5 R; 6 byte 7 | 3; 5; 6; 7
+-- Head | 3 version; 4 S; 5 R; 6 byte 7 | 3; 5; 6; 7; in version 4 "check 6 falls away"
 abbrev pub numbersDemands : List ℕ → Demands
 numbersDemands s =
     demand 3 3 ((1 ≤ versionOf s) × (versionOf s ≤ versionLimit)) next
     demand 4 5 ((1 ≤ seasonsOf s) × (seasonsOf s ≤ seasonsLimit)) next
-    demand 5 6 ((1 ≤ rowsOf s) × (rowsOf s ≤ rowsLimit)) next
-    demand 6 7 (u8At s 7 ≡ 0)
+    demand 5 6 ((1 ≤ rowsOf s) × (rowsOf s ≤ rowsMost s)) next
+    demand 6 7 (versionOf s < 4 → u8At s 7 ≡ 0)
 
 -- Head: the mark, then the numbers
 abbrev pub headDemands : List ℕ → Demands
@@ -105,7 +105,8 @@ MileageRight s row =
 
 -- Each row | 13 class and technology not in the table; 14 canister code; 15 a percent; 16 vehicles; 17 tank; 18 trips or
 -- minutes; 19 load above m_sat, or a load or m_sat with no canister; 20 in some season, at its highest temperature,
--- a + b·s·m_sat above 3; 21 bytes 20 to 23 | record start; from version 3 on "25, in place of 21"
+-- a + b·s·m_sat above 3; 21 bytes 20 to 23 | record start; from version 3 on "25, in place of 21"; in version 4 "26, that sum exceeded, at
+-- the row where it happens, right after 16"
 abbrev pub rowDemands : List ℕ → ℕ → Demands
 rowDemands s i =
     let row = rowAt s i in
@@ -115,6 +116,7 @@ rowDemands s i =
     demand 14 place ((code ≤ 3) ⊎ (code ≡ 255)) next
     demand 15 place (((row .carburettor ≤ percentLimit) × (row .hot ≤ percentLimit)) × (row .fill ≤ percentLimit)) next
     demand 16 place (row .vehicles ≤ vehiclesLimit) next
+    demand 26 place (4 ≤ versionOf s → vehiclesBefore s i + row .vehicles ≤ fleetLimit) next
     demand 17 place (u16At s (place + 6) ≤ tankLimit) next
     demand 18 place ((row .trips ≤ tripsLimit) × (row .minutes ≤ minutesLimit)) next
     demand 19 place ((row .load ≤ row .saturation) × (row .canister ≡ None → row .saturation ≡ 0)) next

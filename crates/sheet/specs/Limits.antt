@@ -4,7 +4,7 @@ use Prim.Native.Nat.{ℕ}
 
 -- the versions that are read, from 1 on
 abbrev pub versionLimit : ℕ
-versionLimit = 3
+versionLimit = 4
 
 -- "u8 seasons S, 1 to 12; u8 rows R, 1 to 32"
 abbrev pub seasonsLimit : ℕ
@@ -12,6 +12,10 @@ seasonsLimit = 12
 
 abbrev pub rowsLimit : ℕ
 rowsLimit = 32
+
+-- version 4: "a u16 row count of 1 to 1,000"
+abbrev pub manyRowsLimit : ℕ
+manyRowsLimit = 1000
 
 -- "Each list sums to 1 to 1,000."
 abbrev pub countsLimit : ℕ
@@ -50,6 +54,10 @@ tankLimit = 1500
 -- "vehicles, at most 10,000,000"
 abbrev pub vehiclesLimit : ℕ
 vehiclesLimit = 10000000
+
+-- version 4: "the vehicles of all rows together are at most 100,000,000"
+abbrev pub fleetLimit : ℕ
+fleetLimit = 100000000
 
 -- "trips a day in hundredths, at most 2000"
 abbrev pub tripsLimit : ℕ

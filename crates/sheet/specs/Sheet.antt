@@ -1,4 +1,4 @@
--- "Where a sheet stops": the table of document 01, numbers 1 to 21, with numbers 24 and 25 of document 02. Definitions only.
+-- "Where a sheet stops": the table of document 01, numbers 1 to 21, with numbers 24 to 26 of document 02. Definitions only.
 use mathlib.Core.Bool.{Bool, true, false, not, _&&_, _||_}
 use mathlib.Core.List.{List}
 use Prim.Native.Nat.{ℕ, suc, zero, _+_, _*_}
@@ -15,10 +15,10 @@ use Rattle.exact.specs.Day.{signedTenths}
 use Rattle.exact.specs.Canister.{a, b, size}
 use Rattle.exact.specs.Factors.{total}
 use Rattle.sheet.specs.declared.Check.{Check}
-use Rattle.sheet.specs.Limits.{versionLimit, seasonsLimit, rowsLimit, countsLimit, gridLimit, daysLimit, coldLimit, warmLimit}
-use Rattle.sheet.specs.Limits.{vpLeast, vpLimit, percentLimit, tankLimit, vehiclesLimit, tripsLimit, minutesLimit, mileageLimit}
+use Rattle.sheet.specs.Limits.{versionLimit, seasonsLimit, countsLimit, gridLimit, daysLimit, coldLimit, warmLimit}
+use Rattle.sheet.specs.Limits.{vpLeast, vpLimit, percentLimit, tankLimit, vehiclesLimit, fleetLimit, tripsLimit, minutesLimit, mileageLimit}
 use Rattle.sheet.specs.Integers.{u8At, u16At}
-use Rattle.sheet.specs.Versions.{versionOf, hasGrid, hasMileage, seasonsStart}
+use Rattle.sheet.specs.Versions.{versionOf, hasGrid, hasMileage, hasManyRows, rowsMost, seasonsStart}
 use Rattle.sheet.specs.Bytes.{seasonsOf, rowsOf, durationCounts, hourCounts, gridCounts, seasonPlace, rowPlace, seasonAt, rowAt, equipmentAt}
 use Rattle.sheet.specs.Check.{refuse, _then_, each}
 
@@ -36,13 +36,13 @@ markCheck s =
     refuse (ltb (length s) 8) 1 0 then
     refuse (lettersMissing s) 2 0
 
--- Head | 3 version; 4 S; 5 R; 6 byte 7 | 3; 5; 6; 7
+-- Head | 3 version; 4 S; 5 R; 6 byte 7 | 3; 5; 6; 7; in version 4 "check 6 falls away"
 unfoldable pub numbersCheck : List ℕ → Check
 numbersCheck s =
     refuse (outside 1 versionLimit (versionOf s)) 3 3 then
     refuse (outside 1 seasonsLimit (seasonsOf s)) 4 5 then
-    refuse (outside 1 rowsLimit (rowsOf s)) 5 6 then
-    refuse (not (eqb (u8At s 7) 0)) 6 7
+    refuse (outside 1 (rowsMost s) (rowsOf s)) 5 6 then
+    refuse (not (hasManyRows s) && not (eqb (u8At s 7) 0)) 6 7
 
 -- Head: the mark, then the numbers
 unfoldable pub headCheck : List ℕ → Check
@@ -80,6 +80,11 @@ seasonCheck s i =
     refuse (outside 1 daysLimit (season .days) || ltb daysLimit (daysBefore s i + season .days)) 10 place then
     refuse (temperaturesWrong season) 11 place then
     refuse (outside vpLeast vpLimit (season .vp)) 12 place
+
+-- the vehicles of the first i rows
+unfoldable pub vehiclesBefore : List ℕ → ℕ → ℕ
+vehiclesBefore s zero = 0
+vehiclesBefore s (suc i) = vehiclesBefore s i + (rowAt s i) .vehicles
 
 -- "class and technology not in the table"
 unfoldable pub isAbsent : Equipment → Bool
@@ -137,7 +142,8 @@ mileageWrong s row =
 
 -- Each row | 13 class and technology not in the table; 14 canister code; 15 a percent; 16 vehicles; 17 tank; 18 trips or
 -- minutes; 19 load above m_sat, or a load or m_sat with no canister; 20 in some season, at its highest temperature,
--- a + b·s·m_sat above 3; 21 bytes 20 to 23 | record start; from version 3 on "25, in place of 21"
+-- a + b·s·m_sat above 3; 21 bytes 20 to 23 | record start; from version 3 on "25, in place of 21"; in version 4 "26, that sum exceeded, at
+-- the row where it happens, right after 16"
 unfoldable pub rowCheck : List ℕ → ℕ → Check
 rowCheck s i =
     let row = rowAt s i in
@@ -146,6 +152,7 @@ rowCheck s i =
     refuse (codeWrong (u8At s (place + 2))) 14 place then
     refuse (percentWrong row) 15 place then
     refuse (ltb vehiclesLimit (row .vehicles)) 16 place then
+    refuse (hasManyRows s && ltb fleetLimit (vehiclesBefore s i + row .vehicles)) 26 place then
     refuse (ltb tankLimit (u16At s (place + 6))) 17 place then
     refuse (ltb tripsLimit (row .trips) || ltb minutesLimit (row .minutes)) 18 place then
     refuse (loadWrong (row .canister) (row .load) (row .saturation)) 19 place then

@@ -16,14 +16,14 @@ use vectors::tally::next;
 ghost use Prim.Native.Nat.{_+_, _≤_};
 ghost use lib.ListN.{length};
 
-// The bytes before each sheet: how many bytes follow (two), how many the sheet has of the one before it, in front of those (two), a number
-// (one) and a place (two). No list is behind it.
-const HEAD: usize = 7;
+// The bytes before each sheet: how many bytes follow (two), the place in the sheet where they stand (two), a number (one), a place (two) and
+// the length of the sheet (two). Elsewhere the sheet has the bytes that the sheets before it left there, at first zeros. No list is behind it.
+const HEAD: usize = 9;
 
 // One byte more than the longest sheet
-const ROOM: usize = 2025;
+const ROOM: usize = 25257;
 
-const LAST_NUMBER: u64 = 25;
+const LAST_NUMBER: u64 = 26;
 
 fn answer_of(found: Check) -> Answer {
     match found {
@@ -37,7 +37,7 @@ fn answer_of(found: Check) -> Answer {
 
 // The answer that is expected for the sheet whose head is here
 fn expected_at(s: &[u8], at: usize) -> Answer
-    requires { ⌜ at + 7 ≤ length (now s) ⌝ }
+    requires { ⌜ at + 9 ≤ length (now s) ⌝ }
 {
     Answer {
         number: u8_at(s, at + 4),
@@ -80,7 +80,7 @@ fn with_sheet(s: &[u8], count: usize, expected: Answer, position: u64, tally: Ta
 
 // The sheets of one number, up to the first that the end of the input cuts or that is too long
 fn tally_of(s: &[u8], number: u64) -> Tally {
-    let mut sheet = [0; 2025];
+    let mut sheet = [0; 25257];
     let mut tally = Tally::none();
     let mut position: u64 = 0;
     let mut at = 0;
@@ -91,12 +91,15 @@ fn tally_of(s: &[u8], number: u64) -> Tally {
         if s.len() < end {
             return tally;
         }
-        let kept = u16_at(s, at + 2) as usize;
-        let count = kept + (end - start);
+        let from = u16_at(s, at + 2) as usize;
+        let count = u16_at(s, at + 7) as usize;
+        if ROOM < from + (end - start) {
+            return tally;
+        }
         if ROOM < count {
             return tally;
         }
-        put(&mut sheet, kept, &s[start..end]);
+        put(&mut sheet, from, &s[start..end]);
         position = next(position);
         let expected = expected_at(s, at);
         if expected.number == number {

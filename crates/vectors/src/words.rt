@@ -7,13 +7,13 @@ ghost use lib.ListN.{length};
 // What the buffer holds before a call, larger than any mass
 pub const OLD: u64 = 17361641481138401520;
 
-const WORDS: usize = 256;
+const WORDS: usize = 6144;
 
 // The words of the subtotals, six each for cars, light-duty, two-wheelers and all rows
 const SUMS: usize = 24;
 
 // Whether the words from here on are as they were
-pub fn kept(words: &[u64; 256], from: usize) -> bool {
+pub fn kept(words: &[u64; 6144], from: usize) -> bool {
     let mut i = from;
     while i < WORDS {
         if words[i] != OLD {
@@ -32,8 +32,8 @@ fn counts(category: u64, subtotal: usize) -> bool
 }
 
 // The sum of word j of the rows that count in a subtotal
-fn sum_of(words: &[u64; 256], rows: &[u8], subtotal: usize, j: usize) -> u64
-    requires { ⌜ (length (now rows) ≤ 2304) × (subtotal < 4) × (j < 6) ⌝ }
+fn sum_of(words: &[u64; 6144], rows: &[u8], subtotal: usize, j: usize) -> u64
+    requires { ⌜ (length (now rows) ≤ 72000) × (subtotal < 4) × (j < 6) ⌝ }
 {
     let mut sum: u64 = 0;
     let mut i = 0;
@@ -47,8 +47,8 @@ fn sum_of(words: &[u64; 256], rows: &[u8], subtotal: usize, j: usize) -> u64
 }
 
 // Whether the subtotals are the sums of the rows' words
-fn subtotals_right(words: &[u64; 256], rows: &[u8]) -> bool
-    requires { ⌜ length (now rows) ≤ 2304 ⌝ }
+fn subtotals_right(words: &[u64; 6144], rows: &[u8]) -> bool
+    requires { ⌜ length (now rows) ≤ 72000 ⌝ }
 {
     let at = 6 * (rows.len() / ROW);
     let mut k = 0;
@@ -62,16 +62,16 @@ fn subtotals_right(words: &[u64; 256], rows: &[u8]) -> bool
 }
 
 // Whether a grand total is the sum of three of the words for all rows
-fn total_right(words: &[u64; 256], all: usize) -> bool
-    requires { ⌜ all ≤ 211 ⌝ }
+fn total_right(words: &[u64; 6144], all: usize) -> bool
+    requires { ⌜ all ≤ 6019 ⌝ }
 {
     let two = std::num::wrapping_add_u64(words[all], words[all + 2]);
     words[all + 6] == std::num::wrapping_add_u64(two, words[all + 4])
 }
 
 // Whether the subtotals and totals are the sums of the rows' words, and the words beyond the report as they were
-pub fn sums_right(words: &[u64; 256], rows: &[u8]) -> bool
-    requires { ⌜ length (now rows) ≤ 2304 ⌝ }
+pub fn sums_right(words: &[u64; 6144], rows: &[u8]) -> bool
+    requires { ⌜ length (now rows) ≤ 72000 ⌝ }
 {
     let all = 6 * (rows.len() / ROW) + 18;
     let totals = total_right(words, all) & total_right(words, all + 1);

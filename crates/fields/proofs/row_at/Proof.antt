@@ -7,7 +7,7 @@ use Rattle.fields.proofs.row_at.Tie as tie
 
 returns : tie.Need-returns
 unfolding rowAt
-returns c = (rw (← c .before .row-place .ensures) (c .row-from .ensures .0), search needs)
+returns c = (rw (← c .before .row-place .ensures) (c .row-from .ensures .0), search needs, search needs)
 
 pub row-at-spec : {M : Type 1} → statement M
 row-at-spec =

@@ -23,6 +23,7 @@ returns c = (
     c .before .before .before .before .before .before .before .before .before .before .before .u8-at .ensures .0,
   ),
   search needs,
+  search needs,
 )
 
 pub row-from-spec : {M : Type 1} → statement M

@@ -1,4 +1,4 @@
--- `row_checks::row_check` meets its contract: two groups of three and two of two.
+-- `row_checks::row_check` meets its contract: a group of three and four of two.
 -- Assumes nothing.
 use borrow.Author.Needs.{needs}
 use Rattle.sheet.specs.Sheet.{rowCheck}
@@ -9,23 +9,29 @@ use Rattle.row_checks.proofs.row_check.Tie as tie
 returns : tie.Need-returns
 unfolding rowCheck
 returns c =
-    let made = c .before .before .before .before in
-    regroup _ _ _ _ _ _ _ _ _ _ (rw (
-      c .or-else3 .ensures,
-      c .before .or-else2 .ensures,
+    let early = c .before .before .before .before in
+    let parts = early .before .before in
+    regroup _ _ _ _ _ _ _ _ _ _ _ (rw (
+      c .or-else4 .ensures,
+      c .before .or-else3 .ensures,
       c .before .before .mileage-check .ensures,
       c .before .before .before .load-check .ensures,
-      made .or-else .ensures,
-      made .before .use-check .ensures,
-      made .before .before .class-check .ensures,
-      made .before .before .before .row-place .ensures,
-      made .before .before .before .before .row-at .ensures .0,
+      early .or-else2 .ensures,
+      early .before .or-else .ensures,
+      parts .use-check .ensures,
+      parts .before .fleet-check .ensures,
+      parts .before .before .class-check .ensures,
+      parts .before .before .before .row-place .ensures,
+      parts .before .before .before .before .row-at .ensures .0,
+      parts .before .before .before .before .before .before .pre .2,
     ))
 
 pub row-check-spec : {M : Type 1} → statement M
 row-check-spec =
     tie.close
     (tie.spec
+    (λ c κs. search needs)
+    (λ c κs. search needs)
     (λ c κs. search needs)
     (λ c κs. search needs)
     (λ c κs. search needs)

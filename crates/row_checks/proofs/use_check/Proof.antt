@@ -7,21 +7,17 @@ use Rattle.row_checks.proofs.use_check.Tie as tie
 returns : tie.Need-returns
 returns c =
     rw (
-      c .or-else2 .ensures,
-      c .before .or-else .ensures,
-      c .before .before .when3 .ensures,
-      c .before .before .before .when2 .ensures,
-      c .before .before .before .before .u16-at .ensures .0,
-      c .before .before .before .before .before .when .ensures,
+      c .or-else .ensures,
+      c .before .when2 .ensures,
+      c .before .before .when .ensures,
+      c .before .before .before .u16-at .ensures .0,
     )
 
 pub use-check-spec : {M : Type 1} → statement M
 use-check-spec =
     tie.close
     (tie.spec
-    (λ c κs. search needs)
     (λ c. search needs)
-    (λ c κs. search needs)
     (λ c κs. search needs)
     (λ c κs. search needs)
     (λ c κs. search needs)

@@ -5,10 +5,10 @@ use Rattle.sheet_vectors.proofs.report_numbers.Statement.{statement}
 use Rattle.sheet_vectors.proofs.report_numbers.Tie as tie
 
 abbrev Inv-loop : tie.InvT-loop
-Inv-loop s all₀ n₀ all n = n ≤ 26
+Inv-loop s all₀ n₀ all n = n ≤ 27
 
 abbrev μ-loop : tie.MeasureT-loop
-μ-loop s all₀ n₀ all n = 26 - n
+μ-loop s all₀ n₀ all n = 27 - n
 
 pub report-numbers-spec : {M : Type 1} → statement M
 report-numbers-spec =

@@ -8,7 +8,7 @@ use Rattle.sheet_vectors.proofs.tally_of.Statement.{statement}
 use Rattle.sheet_vectors.proofs.tally_of.Tie as tie
 
 abbrev Inv-loop : tie.InvT-loop
-Inv-loop s number sheet₀ tally₀ position₀ at₀ sheet tally position at = (at ≤ length s) × (2025 ≡ length sheet)
+Inv-loop s number sheet₀ tally₀ position₀ at₀ sheet tally position at = (at ≤ length s) × (25257 ≡ length sheet)
 
 abbrev μ-loop : tie.MeasureT-loop
 μ-loop s number sheet₀ tally₀ position₀ at₀ sheet tally position at = length s - at
@@ -26,6 +26,9 @@ tally-of-spec =
     (λ c. search needs)
     (λ c. search needs)
     (λ c κs. search needs)
+    (λ c. search needs)
+    (λ c κs. search needs)
+    (λ c. search needs)
     (λ c. search needs)
     (λ c. search needs)
     (λ c. search needs)

@@ -44,7 +44,7 @@ milligrams-requires c κs =
     let bytes : Bytes s = record { byte = λ k. known .before .shared-slice-known .given k .fits } in
     let a = accepted s (known .before .before .pre .0) in (
       rw (figure in-loop) (omega (arith, year-word-most bytes a (seasonsOf s) (in-loop .before .loop .k) (omega arith) (omega arith), year-fits)),
-      omega (arith, a .row _ (row in-loop) .vehicles-most, c .vehicles-of .ensures),
+      omega (arith, a .row _ (row in-loop) .vehicles-most, c .vehicles-of .ensures .0),
       omega arith,
     )
 
@@ -53,7 +53,7 @@ loop-again c =
     let in-loop = c .before .before .before in
     let l = in-loop .before .loop in
     let s = in-loop .before .before .before .before .before .args .s .now in
-    let word : c .milligrams .result ≡ reportWord s (l .k) = c .milligrams .ensures ∙ rw (figure in-loop, c .before .vehicles-of .ensures) (report-from-year s (l .k) (omega arith)) in
+    let word : c .milligrams .result ≡ reportWord s (l .k) = c .milligrams .ensures ∙ rw (figure in-loop, c .before .vehicles-of .ensures .0) (report-from-year s (l .k) (omega arith)) in
     (search needs, simp length-set (l .inv .1), rw (l .inv .2) (filled-more _ _ (l .k) (omega arith) word))
 
 returns : tie.Need-returns Inv-loop μ-loop

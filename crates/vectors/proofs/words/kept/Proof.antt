@@ -8,7 +8,7 @@ abbrev Inv-loop : tie.InvT-loop
 Inv-loop words from i₀ i = i ≤ i
 
 abbrev μ-loop : tie.MeasureT-loop
-μ-loop words from i₀ i = 256 - i
+μ-loop words from i₀ i = 6144 - i
 
 pub kept-spec : {M : Type 1} → statement M
 kept-spec =
