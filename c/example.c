@@ -1,6 +1,6 @@
-/* The two calls from C: reads two sample sheets of version 1, holds their reports and factors against the values below, and tries
- * refusals of each call. Then the same for the sheets of version 2 that have the products of their lists as a grid, and for these
- * in version 3, without a mileage, which must answer alike. Last a sample of version 3 with mileages. Prints what it found; the exit
+/* The calls from C: reads two sample sheets of version 1, holds their reports and factors against the values below, and the text of
+ * the first against document 01's lines, and tries refusals of each call. Then the same for the sheets of version 2 that have the products of their lists as a grid, and for these
+ * in versions 3 and 4, without a mileage, which must answer alike. Last a sample of version 3 with mileages. Prints what it found; the exit
  * status is 0 only where all of it is as expected.
  *
  * usage: example EXAMPLE.evp TABLE-3-5-DAY.evp ODOMETER.evp */
@@ -102,6 +102,37 @@ static const uint64_t table_factors[7][2] = {
     {127906, 127910},   {1840815, 1840819}, {10061793, 10061798},
 };
 
+/* Document 01's example, as it is printed: 108 bytes. */
+static const char example_text[] = "EVP 1 rows 1\nrow 1 0 0 0 0 0 0\ncars 0 0 0 0 0 0\nlight 0 0 0 0 0 0\ntwo 0 0 0 0 0 0\n"
+                                   "all 0 0 0 0 0 0\ntotal 0 0\n";
+static const char short_text[] = "refused 22 at 0\n";
+
+#define EXAMPLE_TEXT (sizeof example_text - 1)
+
+/* The text of the sheet in a buffer of this many bytes: written where it fits, all bytes beyond it as they were. */
+static void expect_text(const char *expected, size_t words_count, size_t text_bytes) {
+    uint8_t text[EXAMPLE_TEXT + 1];
+    size_t length = strlen(expected), written = length <= text_bytes ? length : 0;
+    memset(text, 'U', sizeof text);
+    expect("length of the text", evp_text(sheet, sheet_bytes, words, words_count, text, text_bytes), length);
+    expect("the bytes of the text", (uint64_t)memcmp(text, expected, written), 0);
+    for (size_t i = written; i < sizeof text; i++)
+        expect("a byte beyond the text", text[i], 'U');
+}
+
+/* With a byte to spare, with room for no byte more, with a byte too few; and with a word too few. */
+static void expect_example_text(void) {
+    expect("length of the example", EXAMPLE_TEXT, 108);
+    clear_words();
+    expect_text(example_text, EVP_WORDS_OF(1), EXAMPLE_TEXT + 1);
+    expect_text(example_text, EVP_WORDS_OF(1), EXAMPLE_TEXT);
+    expect_text(example_text, EVP_WORDS_OF(1), EXAMPLE_TEXT - 1);
+    for (size_t i = 0; i < EVP_WORDS_OF(1); i++)
+        expect("a word of the text's report", words[i], example_words[i]);
+    expect_untouched(EVP_WORDS_OF(1));
+    expect_text(short_text, EVP_WORDS_OF(1) - 1, EXAMPLE_TEXT);
+}
+
 static void put_count(size_t at, uint64_t count) {
     sheet[at] = (uint8_t)(count % 256);
     sheet[at + 1] = (uint8_t)(count / 256);
@@ -157,14 +188,22 @@ static void expect_place(size_t seasons_start) {
     sheet[tank + 1] = kept;
 }
 
+/* The byte after the count of rows: a zero byte up to version 3, in version 4 the count's upper byte. */
+static void expect_row_count(uint64_t version, uint64_t number, uint64_t place) {
+    expect("version", count_at(3), version);
+    sheet[7] = 1;
+    expect_refused("byte 7", number, place);
+    sheet[7] = 0;
+}
+
 /* With a grid: one of zeros, and other versions in the head; what follows reads another sheet. */
 static void expect_grid_refusals(void) {
     memset(sheet + 8, 0, EVP_GRID_END - 8);
     expect_refused("a grid of zeros", EVP_GRID, 8);
     put_count(3, 1);
     expect_refused("version 1 with a grid", EVP_LENGTH, 0);
-    put_count(3, 4);
-    expect_refused("version 4", EVP_VERSION, 3);
+    put_count(3, 5);
+    expect_refused("version 5", EVP_VERSION, 3);
 }
 
 /* The first row of the odometer's sample, 236,000 km, in its first season. */
@@ -209,9 +248,12 @@ int main(int count, char **paths) {
     if (!read_sheet(paths[1]))
         return 2;
     expect_example();
+    expect_example_text();
     make_grid();
     expect_example();
     put_count(3, 3);
+    expect_example();
+    put_count(3, 4);
     expect_example();
     if (!read_sheet(paths[2]))
         return 2;
@@ -220,6 +262,10 @@ int main(int count, char **paths) {
     expect_table(EVP_GRID_END);
     put_count(3, 3);
     expect_table(EVP_GRID_END);
+    expect_row_count(3, EVP_HEAD_ZERO, 7);
+    put_count(3, 4);
+    expect_table(EVP_GRID_END);
+    expect_row_count(4, EVP_LENGTH, 0);
     expect_grid_refusals();
     if (!read_sheet(paths[3]))
         return 2;
@@ -228,6 +274,6 @@ int main(int count, char **paths) {
         printf("%d mismatches\n", mismatches);
         return 1;
     }
-    printf("both calls answer C as expected\n");
+    printf("the three calls answer C as expected\n");
     return 0;
 }

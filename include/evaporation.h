@@ -1,17 +1,18 @@
-/* The two calls of the evaporation workbook for a program in C: the report of a sheet, and one emission factor.
+/* The calls of the evaporation workbook for a program in C: the report of a sheet, in words or as a text, and one emission factor.
  *
  * They stand in the static library target/staticlib/libevaporation.a, which `rt staticlib evaporation` makes from the proved
  * crate (x86-64 Linux); it needs only the C library. c/example.c is a program over them.
  *
- * Sheets of three versions are read, and the sheet itself says which it is: in version 1 the parking is two lists of 24 counts,
+ * Sheets of four versions are read, and the sheet itself says which it is: in version 1 the parking is two lists of 24 counts,
  * durations and end hours; in version 2 it is a grid of 576 counts, end hour 1 first, its 24 durations in a row; in version 3,
  * which is version 2 otherwise, the last four bytes of a row are a mileage in km, from which the canister's load follows where it
- * is above 0. What a call answers has the same form for all.
+ * is above 0; in version 4, which is version 3 otherwise, bytes 6 and 7 of the head count the rows. What a call answers has the
+ * same form for all.
  *
- * A sheet and a report are passed as a pointer and a number of elements. A pointer is never null, also where the number is 0,
- * and points to that many elements; `words` is aligned for uint64_t, and the bytes of sheet and words must not overlap. Those
- * of the sheet are not written. Neither call keeps a pointer, takes memory, reads or writes a file or holds state: two threads
- * may call at once with words of their own.
+ * A sheet, words and a text are passed as a pointer and a number of elements. A pointer is never null, also where the number is 0,
+ * and points to that many elements; `words` is aligned for uint64_t, and the bytes of sheet, words and text must not overlap. Those
+ * of the sheet are not written. No call keeps a pointer, takes memory, reads or writes a file or holds state: two threads may call
+ * at once with words and a text of their own.
  */
 #ifndef EVAPORATION_H
 #define EVAPORATION_H
@@ -23,9 +24,9 @@
 extern "C" {
 #endif
 
-/* The longest sheet, of version 2 or 3 with 12 seasons and 32 rows, in bytes; and its report, in words. */
-#define EVP_SHEET_BYTES 2024
-#define EVP_REPORT_WORDS 218
+/* The longest sheet, of version 4 with 12 seasons and 1,000 rows, in bytes; and its report, in words. */
+#define EVP_SHEET_BYTES 25256
+#define EVP_REPORT_WORDS 6026
 
 /* Where the parking ends and the seasons start, in version 1 and from version 2 on. A season has 8 bytes; the rows follow them. */
 #define EVP_LISTS_END 104
@@ -34,16 +35,20 @@ extern "C" {
 /* The words of the report of a sheet with this many rows. */
 #define EVP_WORDS_OF(rows) (6 * (size_t)(rows) + 26)
 
+/* No text is longer, in bytes: 151 for each of 1,000 rows, and 622. */
+#define EVP_TEXT_BYTES 151622
+
 /* Why a call answers nothing else. 0 stands for a sheet that is accepted. The first that applies is returned, in the order in
  * which they stand here, with its place: a byte of the head, the first byte of a list or grid, or the first byte of the season
- * or row at fault. 8 and 9 are of version 1 alone, 24 of versions 2 and 3; 21 of versions 1 and 2, 25 of version 3 alone. */
+ * or row at fault. 8 and 9 are of version 1 alone, 24 from version 2 on; 21 of versions 1 and 2, 25 from version 3 on; 6 of versions 1
+ * to 3, 26 of version 4. */
 enum evp_number {
     EVP_ACCEPTED = 0,
     EVP_HEAD_SHORT = 1,      /* the input has fewer than 8 bytes; place 0 */
     EVP_MARK = 2,            /* it does not start with the letters EVP; place 0 */
-    EVP_VERSION = 3,         /* the version is not 1, 2 or 3; place 3 */
+    EVP_VERSION = 3,         /* the version is not 1 to 4; place 3 */
     EVP_SEASONS = 4,         /* the number of seasons is not 1 to 12; place 5 */
-    EVP_ROWS = 5,            /* the number of rows is not 1 to 32; place 6 */
+    EVP_ROWS = 5,            /* the number of rows is not 1 to 32, in version 4 not 1 to 1,000; place 6 */
     EVP_HEAD_ZERO = 6,       /* the last byte of the head is not zero; place 7 */
     EVP_LENGTH = 7,          /* the length is not 104 + 8 * seasons + 24 * rows, from version 2 on 1160 + ..; place 0 */
     EVP_DURATIONS = 8,       /* the 24 counts of durations do not sum to 1 to 1,000; place 8 */
@@ -56,6 +61,7 @@ enum evp_number {
     EVP_CANISTER = 14,       /* the canister code is none of 0, 1, 2, 3 and 255 */
     EVP_PERCENT = 15,        /* a share or the fill level is above 100 percent */
     EVP_VEHICLES = 16,       /* there are more than 10,000,000 vehicles */
+    EVP_FLEET = 26,          /* with those of the rows before there are more than 100,000,000 */
     EVP_TANK = 17,           /* the tank is above 150.0 litres */
     EVP_TRIPS = 18,          /* more than 20.00 trips a day, or more than 1,440 minutes a trip */
     EVP_LOAD = 19,           /* the load is above the saturating load, or one is given without a canister */
@@ -87,6 +93,13 @@ struct evp_factor_band {
  * diurnal low and high, soak low and high, running low and high; six words likewise for cars, for light-duty vehicles, for
  * two-wheelers and for all rows; low and high of the grand total. Refused: all words keep what they had. */
 struct evp_check evp_report(const uint8_t *sheet, size_t sheet_bytes, uint64_t *words, size_t words_count);
+
+/* The report as the lines that the program `report` prints, or the one line `refused N at P`; each line ends with a line feed, and
+ * nothing stands behind the last. Answers the length of the text in bytes, at most EVP_TEXT_BYTES. Where this is at most
+ * text_bytes the text is written, and the bytes beyond it keep what they had; where it is more all bytes keep what they had, and
+ * the call can be repeated with as many. The words are lent for the report and left as evp_report leaves them: with too few the
+ * text is `refused 22 at 0`. */
+size_t evp_text(const uint8_t *sheet, size_t sheet_bytes, uint64_t *words, size_t words_count, uint8_t *text, size_t text_bytes);
 
 /* One factor of a season and a row, both counted from 0. 1 is diurnal (a day); hot soak (a parking): 2 injection, 3 carburettor
  * warm, 4 carburettor hot; running (a trip): 5 injection, 6 carburettor warm, 7 carburettor hot. */

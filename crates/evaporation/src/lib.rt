@@ -1,9 +1,10 @@
-// The two calls for a program in another language. A slice is passed as a pointer and a length.
+// The calls for a program in another language. A slice is passed as a pointer and a length.
 use inventory::FactorAnswer;
 use sheet::Check;
 ghost use mathlib.Core.Path.{_≡_};
 ghost use Rattle.inventory.specs.FactorCall.{factorAnswer};
 ghost use Rattle.inventory.specs.ReportCall.{reportCheck};
+ghost use Rattle.printout.specs.Text.{TextAnswer};
 ghost use Rattle.evaporation.specs.Export.{checkNumbers, factorNumbers, ReportNumbers, FactorNumbers};
 
 // A refusal's number and place; number 0 where the sheet is accepted.
@@ -67,4 +68,12 @@ pub extern "C" fn evp_report(sheet: &[u8], words: &mut [u64]) -> EvpCheck
     ensures { λ r. ⌜ ReportNumbers (now (sheet .entry)) (now (words .entry)) (now (words .exit)) r ⌝ }
 {
     check_numbers(inventory::report(sheet, words))
+}
+
+// The report as a text. It answers the length of the text, which is written only where it fits.
+#[no_mangle]
+pub extern "C" fn evp_text(sheet: &[u8], words: &mut [u64], text: &mut [u8]) -> usize
+    ensures { λ r. ⌜ TextAnswer (now (sheet .entry)) (now (words .entry)) (now (words .exit)) (now (text .entry)) (now (text .exit)) r ⌝ }
+{
+    printout::report_text(sheet, words, text)
 }

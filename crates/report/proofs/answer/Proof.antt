@@ -1,22 +1,29 @@
--- `report::answer` is safe and ends: the report is printed where the call says that the sheet is accepted.
+-- `report::answer` is safe and ends, and what it hands on to be written is the text.
 -- Assumes nothing.
-use mathlib.Core.Path.{sym, _∙_}
+use mathlib.Core.Path.{_≡_, sym, _∙_, ap}
+use native.Mathlib.Omega.{arith}
 use borrow.Author.Needs.{needs}
+use lib.ListN.{length}
+use Rattle.printout.proofs.SheetText.{text-first}
 use Rattle.report.proofs.answer.Statement.{statement}
 use Rattle.report.proofs.answer.Tie as tie
 
-print-report-requires : tie.Need-print-report-requires
-print-report-requires c κs = sym (c .before .before .before .before .report .ensures .answer-is) ∙ c .before .enum-told .given .1
+write-requires : tie.Need-write-requires
+write-requires c κs = text-first (c .before .before .before .report-text .ensures) (omega arith)
+
+slice-aggregate-write : tie.Need-slice-aggregate-write
+slice-aggregate-write c =
+    let a = c .before .before .before .report-text .ensures in
+    a .length-is ∙ ap length (sym (text-first a (omega arith)))
 
 pub answer-spec : {M : Type 1} → statement M
 answer-spec =
     tie.close
     (tie.spec
     (λ c. search needs)
-    (λ c κs. search needs)
     (λ c. search needs)
     (λ c κs. search needs)
     (λ c. search needs)
-    print-report-requires
-    (λ c. search needs)
+    slice-aggregate-write
+    write-requires
     (λ c. search needs))
