@@ -102,8 +102,10 @@ def table_entry(vehicle_class, technology):
 
 
 def weight_exponent(i):
-    """The exponent -0.0247.(i/2 - 14)^2 of mark i, as a fraction."""
-    return -Fraction(247, 10000) * (Fraction(i, 2) - 14) ** 2
+    """The exponent -0.0247.d^2 of mark i, as a fraction; d is the hours of the
+    shorter way round the day to 14:00, at most 12."""
+    one_way = abs(Fraction(i, 2) - 14)
+    return -Fraction(247, 10000) * min(one_way, 24 - one_way) ** 2
 
 
 def _weights():

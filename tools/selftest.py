@@ -718,7 +718,8 @@ def plain_factors(sheet, season, row):
     m_sat = r.saturation / 10
 
     def at(hour):
-        return low + (high - low) * math.exp(-0.0247 * (hour % 24 - 14) ** 2)
+        round_the_day = (hour - 14 + 12) % 24 - 12  # hours after 14:00, or before it
+        return low + (high - low) * math.exp(-0.0247 * round_the_day ** 2)
 
     def vapour(T, U):
         return (1 - r.fill / 100) * tank * 0.025 * math.exp(0.0205 * vp) * (
@@ -1262,8 +1263,12 @@ def check_weights():
             apart = abs(weight - 10 ** 9 * ev.E(ev.weight_exponent(i), n))
             farthest = max(farthest, apart)
             want(apart < half, "weight %d is %.4f off at n = %d", i, float(apart), n)
-    for i in range(9, 48):
-        same(ev.WEIGHTS[i], ev.WEIGHTS[56 - i], "weights %d and %d, alike about 14 h" % (i, 56 - i))
+    for k in range(24):
+        late, early = (28 + k) % 48, 28 - k
+        same(ev.WEIGHTS[late], ev.WEIGHTS[early], "weights %d and %d, alike about 14 h" % (late, early))
+        want(ev.WEIGHTS[(late + 1) % 48] < ev.WEIGHTS[late], "weight %d does not fall", late)
+    same(min(ev.WEIGHTS), ev.WEIGHTS[4], "the lowest weight, at 2 h")
+    same(ev.weight_exponent(48), ev.weight_exponent(0), "hour 24 and hour 0")
     return "48 weights within %.4f of 10^9 E_n, n = 40 and 60" % float(farthest)
 
 

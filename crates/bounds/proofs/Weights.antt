@@ -1,65 +1,52 @@
--- Each hourly weight is the whole number nearest to 10⁹·E(−0.0247·(i/2 − 14)²), for every n of 40 or more: one test over the 48 weights,
--- and the law that carries it to every n.
+-- Each hourly weight is the whole number nearest to 10⁹·E(−0.0247·d²), d the hours of the shorter way to 14:00, for every n of 40 or more: one
+-- test over the 48 weights, and the law that carries it to every n. And the curve runs round the day unbroken.
 use mathlib.Core.Bool.{Bool}
-use mathlib.Core.Path.{_≡_, ap}
-use Prim.Native.Nat.{ℕ, _+_, _*_, _-_, _^_, _≤_, _<_}
+use mathlib.Core.Path.{_≡_, refl}
+use Prim.Native.Nat.{ℕ, suc, _+_, _*_, _-_, _%_, _^_, _≤_, _<_}
 use native.Mathlib.Omega.{arith}
 use native.Mathlib.Decide.{decLe}
-use native.Mathlib.Nat.{mul-pos, mul-le-mul, mul-le-mul-right, lt-of-mul-lt-mul-right, zero-sub, sub-zero}
-use lib.Dec.{T, lit<, leb, leb→le}
-use lib.ListN.{getD, List·getD-eq-default}
-use Rattle.numbers.specs.Fraction.{Fraction, _<ᶠ_, _≈ᶠ_, _+ᶠ_, negᶠ, _-ᶠ_, _*ᶠ_, _^ᶠ_, whole, _/10^_, _over_}
+use native.Mathlib.Nat.{mul-le-mul, mul-le-mul-right, le-of-mul-le-mul-right, zero-sub, sub-zero}
+use lib.Dec.{T, lit<, leb, leb→le, eqb, eqb→eq}
+use lib.ListN.{getD, replicate, List·getD-eq-default}
+use Rattle.numbers.specs.Fraction.{Fraction, _≤ᶠ_, _≈ᶠ_, _+ᶠ_, negᶠ, _-ᶠ_, _*ᶠ_, _^ᶠ_, whole, _/10^_, _over_}
 use Rattle.bounds.specs.Series.{E}
 use Rattle.numbers.proofs.Order.{ratio, sub-mul}
 use Rattle.bounds.proofs.Exponential.{quotient, E-at}
 use Rattle.bounds.proofs.Tail.{belowTest, below}
 use Rattle.bounds.proofs.Table.{both, both-left, both-right, every, at}
-use Rattle.bounds.specs.Weights.{weights, w, weightExponent}
+use Rattle.bounds.specs.Weights.{weights, w, oneWay, apart, weightExponent}
 
--- "differs from 10⁹·E of that exponent by less than one half for every n ≥ 40"
+-- "differs from 10⁹·E of that exponent by less than one half for every n ≥ 40": by 0.49 at most
 pub record Nearest (i weight : ℕ) : Type 0 where
-  pub low : (n : ℕ) → 40 ≤ n → whole weight -ᶠ 5 /10^ 1 <ᶠ whole (10 ^ 9) *ᶠ E n (weightExponent i)
-  pub high : (n : ℕ) → 40 ≤ n → whole (10 ^ 9) *ᶠ E n (weightExponent i) <ᶠ whole weight +ᶠ 5 /10^ 1
-
--- how far mark i is from mark 28, the warmest
-unfoldable apart : ℕ → ℕ
-apart i = i - 28 + (28 - i)
-
--- its square is (i − 28)²
-apart-square : (i : ℕ) → apart i * apart i + 56 * i ≡ i * i + 784
-unfolding apart
-apart-square i =
-    let d = i - 28 + (28 - i) in
-    elim (decLe 28 i) [
-      | yes h ↦ later d (omega arith)
-      | no h ↦ earlier d (omega arith)
-    ]
-  where
-    later : (d : ℕ) → i ≡ 28 + d → d * d + 56 * i ≡ i * i + 784
-    later d e = rw e (omega arith)
-
-    earlier : (d : ℕ) → i + d ≡ 28 → d * d + 56 * i ≡ i * i + 784
-    earlier d e = omega (arith, ap (λ (t : ℕ). t * i) e, ap (λ (t : ℕ). t * d) e)
+  pub low : (n : ℕ) → 40 ≤ n → whole weight -ᶠ 49 /10^ 2 ≤ᶠ whole (10 ^ 9) *ᶠ E n (weightExponent i)
+  pub high : (n : ℕ) → 40 ≤ n → whole (10 ^ 9) *ᶠ E n (weightExponent i) ≤ᶠ whole weight +ᶠ 49 /10^ 2
 
 -- the denominator of the exponents
 abbrev parts : ℕ
 parts = 40000
 
--- −0.0247·(i/2 − 14)² is −exponent i / 40000
+-- −0.0247·(d/2)² is −247·d²/40000
 unfoldable exponent : ℕ → ℕ
 exponent i = 247 * (apart i * apart i)
 
--- that is so
+-- over the distance alone
+exponent-of : (d : ℕ) → negᶠ (247 /10^ 4 *ᶠ (whole d over 2) ^ᶠ 2) ≈ᶠ record { up = 0; down = 247 * (d * d); den = parts; pos = lit< tt }
+unfolding negᶠ _/10^_ _*ᶠ_ whole _over_ _^ᶠ_
+exponent-of d = record { cross = omega arith }
+
 exponent-is : (i : ℕ) → weightExponent i ≈ᶠ record { up = 0; down = exponent i; den = parts; pos = lit< tt }
-unfolding weightExponent exponent negᶠ _/10^_ _*ᶠ_ whole _over_ _-ᶠ_ _+ᶠ_ _^ᶠ_
-exponent-is i = record { cross = omega (arith, apart-square i) }
+unfolding weightExponent exponent
+exponent-is i = exponent-of (apart i)
+
+-- at most 12 hours
+pub apart-most : (i : ℕ) → apart i ≤ 24
+unfolding apart
+apart-most i = omega arith
 
 -- it is below 41, so that the tail after the fortieth term is known
-exponent-size : (i : ℕ) → i < 48 → exponent i < parts * 41
-unfolding exponent apart
-exponent-size i h =
-    let l : i - 28 + (28 - i) ≤ 28 = omega arith in
-    omega (arith, mul-le-mul l l)
+exponent-size : (i : ℕ) → exponent i < parts * 41
+unfolding exponent
+exponent-size i = omega (arith, mul-le-mul (apart-most i) (apart-most i))
 
 -- within 0.49 of 10⁹·E, for every n from 40 on: (w − 0.49)·Sₙ ≤ 10⁹·Sₙ(0) ≤ (w + 0.49)·Sₙ, in hundredths
 nearestTest : ℕ → ℕ → Bool
@@ -69,51 +56,45 @@ nearestTest i weight =
 
 -- antt computes it at all 48
 all-pass : T (every nearestTest 0 weights)
-unfolding nearestTest belowTest exponent apart weights
+unfolding nearestTest belowTest exponent oneWay apart weights
 all-pass = tt
 
--- w − 1/2 < 10⁹·x for x = a/b with (w − 0.49)·b ≤ 10⁹·a
-half-below :
-    {x : Fraction} (weight a b : ℕ) (pos : 0 < b)
-    → x ≈ᶠ ratio a b pos
-    → (100 * weight - 49) * b ≤ 10 ^ 11 * a
-    → whole weight -ᶠ 5 /10^ 1 <ᶠ whole (10 ^ 9) *ᶠ x
+-- w − 0.49 ≤ 10⁹·x for x = a/b with (w − 0.49)·b ≤ 10⁹·a
+near-below : {x : Fraction} (weight a b : ℕ) (pos : 0 < b) → x ≈ᶠ ratio a b pos → (100 * weight - 49) * b ≤ 10 ^ 11 * a
+    → whole weight -ᶠ 49 /10^ 2 ≤ᶠ whole (10 ^ 9) *ᶠ x
 unfolding _+ᶠ_ _-ᶠ_ negᶠ _*ᶠ_ whole _/10^_ ratio
-half-below {x} weight a b pos e h =
+near-below {x} weight a b pos e h =
     let l : 100 * weight * b ≤ 10 ^ 11 * a + 49 * b = omega (arith, simp sub-mul at h) in
-    record { cross = lt-of-mul-lt-mul-right b (omega (arith, e .cross, mul-pos pos (x .pos), mul-le-mul-right (x .den) l)) }
+    record { cross = le-of-mul-le-mul-right {k = b} (omega (arith, e .cross, mul-le-mul-right (x .den) l)) pos }
 
--- 10⁹·x < w + 1/2 for x = a/b with 10⁹·a ≤ (w + 0.49)·b
-half-above :
-    {x : Fraction} (weight a b : ℕ) (pos : 0 < b)
-    → x ≈ᶠ ratio a b pos
-    → 10 ^ 11 * a ≤ (100 * weight + 49) * b
-    → whole (10 ^ 9) *ᶠ x <ᶠ whole weight +ᶠ 5 /10^ 1
+-- 10⁹·x ≤ w + 0.49 for x = a/b with 10⁹·a ≤ (w + 0.49)·b
+near-above : {x : Fraction} (weight a b : ℕ) (pos : 0 < b) → x ≈ᶠ ratio a b pos → 10 ^ 11 * a ≤ (100 * weight + 49) * b
+    → whole (10 ^ 9) *ᶠ x ≤ᶠ whole weight +ᶠ 49 /10^ 2
 unfolding _+ᶠ_ _*ᶠ_ whole _/10^_ ratio
-half-above {x} weight a b pos e h =
-    record { cross = lt-of-mul-lt-mul-right b (omega (arith, e .cross, mul-pos pos (x .pos), mul-le-mul-right (x .den) h)) }
+near-above {x} weight a b pos e h =
+    record { cross = le-of-mul-le-mul-right {k = b} (omega (arith, e .cross, mul-le-mul-right (x .den) h)) pos }
 
 -- a weight that passes the test is nearest
-passes→nearest : (i weight : ℕ) → i < 48 → T (nearestTest i weight) → Nearest i weight
+passes→nearest : (i weight : ℕ) → T (nearestTest i weight) → Nearest i weight
 unfolding nearestTest
-passes→nearest i weight h t =
+passes→nearest i weight t =
     let k = exponent i in
     let down = belowTest parts 40 (100 * weight - 49) k (10 ^ 11) 0 in
     let up = belowTest parts 40 (10 ^ 11) 0 (100 * weight + 49) k in
     let is : (n : ℕ) → E n (weightExponent i) ≈ᶠ quotient n 0 k parts (lit< tt) = λ n. E-at n 0 k parts _ (exponent-is i) in
     record {
       low = λ n m.
-          half-below weight _ _ _ (is n)
-          (rw (zero-sub, sub-zero) (below parts 40 _ k _ 0 (lit< tt) (exponent-size i h) (both-left down up t) n m));
+          near-below weight _ _ _ (is n)
+          (rw (zero-sub, sub-zero) (below parts 40 _ k _ 0 (lit< tt) (exponent-size i) (both-left down up t) n m));
       high = λ n m.
-          half-above weight _ _ _ (is n)
+          near-above weight _ _ _ (is n)
           (rw (zero-sub, sub-zero) (below parts 40 _ 0 _ k (lit< tt) (lit< tt) (both-right down up t) n m));
     }
 
 -- "w(i) is the whole number nearest to 10⁹·e^(−0.0247·(i/2−14)²), and differs from 10⁹·E of that exponent by less than one half"
 pub weight-nearest : (i : ℕ) → i < 48 → Nearest i (w i)
-unfolding w weights
-weight-nearest i h = passes→nearest i (w i) h (at nearestTest weights all-pass i h)
+unfolding weights
+weight-nearest i h = passes→nearest i (w i) (at nearestTest weights all-pass i h)
 
 -- w(i) ≤ 10⁹
 pub w-most : (i : ℕ) → w i ≤ 10 ^ 9
@@ -123,3 +104,42 @@ w-most i =
       | yes l ↦ rw (List·getD-eq-default weights 0 l) (omega arith)
       | no l ↦ leb→le (getD weights i 0) (10 ^ 9) (at (λ (k x : ℕ). leb x (10 ^ 9)) weights tt i (omega arith))
     ]
+
+-- Round the day.
+
+-- hour 24 is as far from 14:00 as hour 0: "the temperature of 24:00 and of 0:00 is one temperature"
+pub midnight : apart 48 ≡ apart 0
+unfolding apart oneWay
+midnight = refl
+
+-- from mark to mark the way is half an hour longer or shorter, from the last mark to the first too: longer from 14:00 to 2:00
+furtherTest : ℕ → ℕ → Bool
+furtherTest k unused = eqb (apart ((28 + k + 1) % 48)) (apart ((28 + k) % 48) + 1)
+
+pub further : (k : ℕ) → k < 24 → apart ((28 + k + 1) % 48) ≡ apart ((28 + k) % 48) + 1
+unfolding apart oneWay furtherTest
+further k h = eqb→eq _ _ (at furtherTest (replicate 24 0) tt k h)
+
+-- and shorter from 2:00 to 14:00
+nearerTest : ℕ → ℕ → Bool
+nearerTest k unused = eqb (apart (4 + k)) (apart (4 + k + 1) + 1)
+
+pub nearer : (k : ℕ) → k < 24 → apart (4 + k) ≡ apart (4 + k + 1) + 1
+unfolding apart oneWay nearerTest
+nearer k h = eqb→eq _ _ (at nearerTest (replicate 24 0) tt k h)
+
+-- so the weights fall once round the day, over midnight,
+fallTest : ℕ → ℕ → Bool
+fallTest k unused = leb (suc (w ((28 + k + 1) % 48))) (w ((28 + k) % 48))
+
+pub falls : (k : ℕ) → k < 24 → w ((28 + k + 1) % 48) < w ((28 + k) % 48)
+unfolding weights fallTest
+falls k h = leb→le _ _ (at fallTest (replicate 24 0) tt k h)
+
+-- and rise once, from 2:00
+riseTest : ℕ → ℕ → Bool
+riseTest k unused = leb (suc (w (4 + k))) (w (4 + k + 1))
+
+pub rises : (k : ℕ) → k < 24 → w (4 + k) < w (4 + k + 1)
+unfolding weights riseTest
+rises k h = leb→le _ _ (at riseTest (replicate 24 0) tt k h)

@@ -4,10 +4,10 @@ ghost use Rattle.bounds.specs.Weights.{weights};
 
 // "The hourly weights are a constant table of 48 billionths", at marks 0 to 47.
 const WEIGHTS: [u64; 48] = [
-    7897571,
-    11091514,
-    15385958,
-    21081171,
+    84584859,
+    65665934,
+    50352853,
+    38136822,
     28529975,
     38136822,
     50352853,
