@@ -25,6 +25,7 @@ sys.path.insert(0, HERE)
 import districts  # noqa: E402
 import evaporation as ev  # noqa: E402
 import picture  # noqa: E402
+import pressures  # noqa: E402
 import sheet as writer  # noqa: E402
 
 SAMPLES = os.path.join(os.path.dirname(HERE), "samples")
@@ -863,6 +864,32 @@ def check_districts():
         len(sheet.rows), vehicles, len(kinds))
 
 
+def check_pressures():
+    """The pairs of tools/pressures.py, and that a pair turned round, a word or
+    a pressure that is off are seen."""
+    every = list(pressures.pairs())
+    same(list(pressures.missing(every)), [], "what the pairs do not show")
+    for pair in every:
+        for data in (pair.lower, pair.higher):
+            same(ev.check(data), None, "check of a sheet of the pair of " + pair.words)
+    pair = every[0]
+    lower, higher = (
+        [[edge(mass) for mass in pressures.exact(data, 0)[0] for edge in (math.floor, math.ceil)]]
+        for data in (pair.lower, pair.higher))
+    same(list(pressures.faults(pair, lower, higher)), [], "faults of a pair")
+    turned = pair._replace(lower=pair.higher, higher=pair.lower)
+    found = list(pressures.faults(turned, higher, lower))
+    same(sum("below the other's low" in fault for fault in found), 3, "words of a pair turned round")
+    same(sum("exact mass falls" in fault for fault in found), 6, "masses of a pair turned round, n = 40 and 60")
+    raised = [[higher[0][0] + 1, *higher[0][1:]]]
+    want(any("not in its band" in fault for fault in pressures.faults(pair, lower, raised)), "a low above the mass is not seen")
+    want(list(pressures.missing(every[1:])), "a pair left out is not seen")
+    warmer = bytearray(pair.higher)
+    warmer[pair.place - 2] ^= 1
+    want(list(pressures.missing([pair._replace(higher=bytes(warmer)), *every[1:]])), "another temperature is not seen")
+    return "%d pairs of sheets alike but for a pressure, and what would be wrong with them" % len(every)
+
+
 def check_picture():
     """Where the figures stand in the picture, the even line, and texts that
     cannot be drawn."""
@@ -1325,6 +1352,7 @@ CHECKS = (
     check_masses,
     check_shared,
     check_districts,
+    check_pressures,
     check_picture,
     check_n,
     check_cold,

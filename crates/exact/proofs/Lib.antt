@@ -5,3 +5,6 @@ pub mod Loss
 pub mod Smallest
 pub mod Loads
 pub mod Products
+pub mod Pressure
+pub mod Volatile
+pub mod Falling

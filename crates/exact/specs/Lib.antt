@@ -6,3 +6,4 @@ pub mod Canister
 pub mod Mileage
 pub mod Factors
 pub mod Masses
+pub mod Volatile
