@@ -63,7 +63,7 @@ enum evp_number {
     EVP_VEHICLES = 16,       /* there are more than 10,000,000 vehicles */
     EVP_FLEET = 26,          /* with those of the rows before there are more than 100,000,000 */
     EVP_TANK = 17,           /* the tank is above 150.0 litres */
-    EVP_TRIPS = 18,          /* more than 20.00 trips a day, or more than 1,440 minutes a trip */
+    EVP_TRIPS = 18,          /* more than 12.00 trips a day, or more than 1,440 minutes a trip */
     EVP_LOAD = 19,           /* the load is above the saturating load, or one is given without a canister */
     EVP_EXPONENT = 20,       /* the saturating load is too large for the canister: its exponent is above 3 in some season */
     EVP_ROW_ZEROS = 21,      /* the last four bytes of a row are not zero */

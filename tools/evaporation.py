@@ -39,7 +39,7 @@ off by less than one unit.
   of it by a few units moves the result by as little.
 - A load from a mileage is no approximation but the very multiple of 2^-n, so
   that it adds nothing to this: see starting_load.
-- A mass multiplies by at most 366 days, 10^7 vehicles and 20 trips < 2^37.
+- A mass multiplies by at most 366 days, 10^7 vehicles and 12 trips < 2^37.
 So factors and masses are off by less than 2^104 units, that is 2^-280 or
 10^-84. Printed decimals are CUT after 30 places, not rounded. A decimal-mode
 value less than 10^-60 below a multiple of 10^-30 is taken to be that multiple,
@@ -303,7 +303,7 @@ def _check_row(row, seasons, with_mileage, too_many):
         return 26
     if row.tank > 1500:
         return 17
-    if row.trips > 2000 or row.minutes > 1440:
+    if row.trips > 1200 or row.minutes > 1440:
         return 18
     canister = canister_of(row)
     if row.load > row.saturation:

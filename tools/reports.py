@@ -83,7 +83,7 @@ def chance_cases():
     in all, and in turn a row without vehicles, one without trips, and one with
     all the vehicles and trips that there can be."""
     chance = Chance("reports")
-    edges = ({"vehicles": 0}, {"trips": 0}, {"vehicles": 10_000_000, "trips": 2000}, {"vehicles": 1, "trips": 1})
+    edges = ({"vehicles": 0}, {"trips": 0}, {"vehicles": 10_000_000, "trips": 1200}, {"vehicles": 1, "trips": 1})
     sizes = [(1 + i % 12, 1 + (i * 5) % 7) for i in range(48)] + [(12, 32), (3, 32), (1, 32), (12, 1)]
     for i, (seasons, rows) in enumerate(dict.fromkeys(sizes)):
         plan = thinned(chance, chance_plan(seasons, rows)).changed("rows", i % rows, edges[i % len(edges)])
@@ -110,7 +110,7 @@ def limit_cases():
     hot = {"days": 366, "lowest": -300, "highest": 500, "vp": 1100}
     largest = {
         **ROW, "technology": 0, **EMPTY, "carburettor": 100, "hot": 100, "fill": 0, "tank": 1500,
-        "vehicles": 10_000_000, "trips": 2000, "minutes": 1440,
+        "vehicles": 10_000_000, "trips": 1200, "minutes": 1440,
     }
     rows = tuple({**largest, "class": 1 + i % 8} for i in range(32))
     yield exactly("32 rows of the largest masses", Plan((hot,), rows, *one_cell(24, 14)))
@@ -201,7 +201,7 @@ def varied(name, count, kinds=KINDS, most=MOST_OF_ALL):
     vehicles = [part * most // sum(parts) for part in parts]
     vehicles[-1] += most - sum(vehicles)
     return tuple({
-        **kinds[i % len(kinds)], "vehicles": vehicles[i], "trips": chance.between(0, 2000),
+        **kinds[i % len(kinds)], "vehicles": vehicles[i], "trips": chance.between(0, 1200),
         "carburettor": chance.between(0, 100), "hot": chance.between(0, 100),
     } for i in range(count))
 
@@ -235,7 +235,7 @@ def far_cases():
         yield exactly("version 4, %s in the last rows" % words, wide(HOT_AND_COLD[:1], rows))
     hot = {"days": 366, "lowest": -300, "highest": 500, "vp": 1100}
     largest = {
-        **KINDS[0], "carburettor": 100, "hot": 100, "fill": 0, "tank": 1500, "vehicles": MOST_OF_ROW, "trips": 2000,
+        **KINDS[0], "carburettor": 100, "hot": 100, "fill": 0, "tank": 1500, "vehicles": MOST_OF_ROW, "trips": 1200,
         "minutes": 1440,
     }
     rows = tuple({**largest, "class": 1 + i % 8, "vehicles": MOST_OF_ROW if i >= 32 else 0} for i in range(42))
@@ -330,7 +330,7 @@ def missing(vectors):
         ("sums of vehicles", {sum(row.vehicles for row in sheet.rows) for sheet in accepted}, {MOST_OF_ALL}),
         ("seasons", {len(sheet.seasons) for sheet in accepted}, {1, 12}),
         ("vehicles", {row.vehicles for sheet in accepted for row in sheet.rows}, {0, 1, 10_000_000}),
-        ("trips", {row.trips for sheet in accepted for row in sheet.rows if row.vehicles}, {0, 2000}),
+        ("trips", {row.trips for sheet in accepted for row in sheet.rows if row.vehicles}, {0, 1200}),
         ("days", {sum(season.days for season in sheet.seasons) for sheet in accepted}, {366}),
         ("classes", {row.vehicle_class for sheet in accepted for row in sheet.rows}, set(range(1, 10))),
     ):

@@ -1034,7 +1034,7 @@ durations 1 0 0 0 0 0 0 0 0 0 0 0 0 0 0 0 0 0 0 0 0 0 0 2
 hours     1 0 0 0 0 0 0 0 0 0 0 0 0 0 0 0 0 0 0 0 0 0 0 2
 season days=200 lowest=-30.0 highest=50.0 vp=30.0
 season days=166 lowest=10.0 highest=10.0 vp=110.0
-row class=1 technology=0 vehicles=10000000 tank=150.0 trips=20.00 minutes=1440 fill=100 hot=100 carburettor=100
+row class=1 technology=0 vehicles=10000000 tank=150.0 trips=12.00 minutes=1440 fill=100 hot=100 carburettor=100
 row class=1 technology=1 load=40.0 saturation=40.0
 """
 SEASON_0, SEASON_1, ROW_0, ROW_1 = 104, 112, 120, 144
@@ -1210,7 +1210,7 @@ def check_refusals():
         (p((ROW_1 + 5, 255, 1)), (15, ROW_1)),
         (p((ROW_0 + 8, 10_000_001, 4)), (16, ROW_0)),
         (p((ROW_0 + 6, 1501, 2)), (17, ROW_0)),
-        (p((ROW_0 + 12, 2001, 2)), (18, ROW_0)), (p((ROW_0 + 14, 1441, 2)), (18, ROW_0)),
+        (p((ROW_0 + 12, 1201, 2)), (18, ROW_0)), (p((ROW_0 + 14, 1441, 2)), (18, ROW_0)),
         (p((ROW_1 + 16, 401, 2)), (19, ROW_1)),  # load above m_sat
         (p((ROW_0 + 18, 1, 2)), (19, ROW_0)),  # m_sat, no canister by class
         (p((ROW_0 + 16, 1, 2), (ROW_0 + 18, 1, 2)), (19, ROW_0)),

@@ -104,7 +104,7 @@ MEANINGS = {
     15: "a share or the fill level above 100 %",
     16: "more than 10,000,000 vehicles",
     17: "tank above 150.0 l",
-    18: "more than 20.00 trips a day or 1,440 minutes a trip",
+    18: "more than 12.00 trips a day or 1,440 minutes a trip",
     19: "load above m_sat, or either without canister",
     20: "a + b.s.m_sat above 3 at some season's highest temperature",
     21: "bytes 20 to 23 of the row are not zero",

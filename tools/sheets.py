@@ -315,8 +315,8 @@ ROW_LIMITS = (
     (17, ({"tank": 1500}, {"tank": 1}), ({"tank": 1501}, {"tank": 65535})),
     (
         18,
-        ({"trips": 2000}, {"minutes": 1440}, {"trips": 0, "minutes": 0}),
-        ({"trips": 2001}, {"minutes": 1441}, {"trips": 65535}, {"minutes": 65535}),
+        ({"trips": 1200}, {"minutes": 1440}, {"trips": 0, "minutes": 0}),
+        ({"trips": 1201}, {"trips": 2000}, {"minutes": 1441}, {"trips": 65535}, {"minutes": 65535}),
     ),
     (
         19,
@@ -555,7 +555,7 @@ def chance_row(chance, seasons):
         "class": vehicle_class, "technology": technology, "canister": code,
         "carburettor": chance.between(0, 100), "hot": chance.between(0, 100), "fill": chance.between(0, 100),
         "tank": chance.one_of((0, chance.between(1, 1500))), "vehicles": chance.between(0, 10_000_000),
-        "trips": chance.between(0, 2000), "minutes": chance.between(0, 1440),
+        "trips": chance.between(0, 1200), "minutes": chance.between(0, 1440),
         "load": chance.one_of((saturation, chance.between(0, saturation))), "saturation": saturation, "mileage": 0,
     }
 

@@ -40,7 +40,7 @@ pub const VEHICLES_LIMIT: u64 = 10000000;
 pub const FLEET_LIMIT: u64 = 100000000;
 
 // Hundredths of a trip a day.
-pub const TRIPS_LIMIT: u64 = 2000;
+pub const TRIPS_LIMIT: u64 = 1200;
 
 pub const MINUTES_LIMIT: u64 = 1440;
 

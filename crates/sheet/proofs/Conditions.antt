@@ -229,7 +229,7 @@ pub record Conditions (s : List ℕ) (p : ℕ) : Type 0 where
       → (i : ℕ) × (i < rowsOf s) × ((p ≡ seasonsStart s + 8 * seasonsOf s + 24 * i)
       × ¬ (4 ≤ versionOf s → vehiclesBefore s i + (rowAt s i) .vehicles ≤ 100000000))
   pub tank : sheetCheck s ≡ Refused 17 p → NotInRow s p (λ (row : Row) (place : ℕ). u16At s (place + 6) ≤ 1500)
-  pub trips-minutes : sheetCheck s ≡ Refused 18 p → NotInRow s p (λ (row : Row) (place : ℕ). (row .trips ≤ 2000) × (row .minutes ≤ 1440))
+  pub trips-minutes : sheetCheck s ≡ Refused 18 p → NotInRow s p (λ (row : Row) (place : ℕ). (row .trips ≤ 1200) × (row .minutes ≤ 1440))
   pub loads : sheetCheck s ≡ Refused 19 p → NotInRow s p (λ (row : Row) (place : ℕ). (row .load ≤ row .saturation) × (row .canister ≡ None → row .saturation ≡ 0))
   pub saturation : sheetCheck s ≡ Refused 20 p
       → NotInRow s p (λ (row : Row) (place : ℕ). (j : ℕ) → j < seasonsOf s → ExponentMost 3 row (seasonAt s j))

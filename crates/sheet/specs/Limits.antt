@@ -59,9 +59,9 @@ vehiclesLimit = 10000000
 abbrev pub fleetLimit : ℕ
 fleetLimit = 100000000
 
--- "trips a day in hundredths, at most 2000"
+-- trips a day in hundredths: "The upper limit of the trips field becomes 1200 for all versions"
 abbrev pub tripsLimit : ℕ
-tripsLimit = 2000
+tripsLimit = 1200
 
 -- "minutes per trip, at most 1440"
 abbrev pub minutesLimit : ℕ
