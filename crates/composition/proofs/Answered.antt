@@ -6,6 +6,7 @@ use Prim.Native.Nat.{ℕ, _+_, _*_, _≤_, _<_}
 use native.Mathlib.Omega.{arith}
 use lib.ListN.{length, getD, replicate}
 use Rattle.numbers.specs.Lists.{at}
+use Rattle.numbers.proofs.Lists.{tab-length}
 use Rattle.sheet.specs.declared.Check.{Check}
 use Rattle.sheet.specs.declared.Check.the-variants.{Pass, Refused}
 use Rattle.sheet.specs.Bytes.{rowsOf}
@@ -17,7 +18,7 @@ use Rattle.report_words.proofs.ReportPlaces.{report-length, total-at}
 use Rattle.inventory.specs.ReportCall.{reportCheck, written, ReportAnswer}
 use Rattle.inventory.proofs.CallConditions.{report-accepted, report-judged, number-zero}
 use Rattle.inventory.proofs.Written.{written-first, written-length}
-use Rattle.speciation.specs.Split.{speciesMasses, SpeciesPromise}
+use Rattle.speciation.specs.Split.{speciesMass, speciesMasses, SpeciesPromise}
 use Rattle.composition.specs.declared.Composition.{Composition}
 use Rattle.composition.specs.Composition.{highTotal, answered, composition, CompositionAnswer}
 
@@ -77,3 +78,14 @@ module _ {s old words : List ℕ} {check : Check} (a : ReportAnswer s old words 
       total-is = λ _. t;
       promise = λ _. p;
     }
+
+-- There are 29 masses, of a refused sheet too.
+answered-length : (check : Check) (s : List ℕ) → length ((answered check s) .milligrams) ≡ 29
+unfolding answered speciesMasses
+answered-length Pass s = tab-length (speciesMass (highTotal s)) 29
+answered-length (Refused number place) s = refl
+
+pub species-length : {s old words : List ℕ} {found : Composition} → CompositionAnswer s old words found → length (found .milligrams) ≡ 29
+unfolding composition
+species-length {s} {old} a =
+    ap (λ (found : Composition). length (found .milligrams)) (a .answer-is) ∙ answered-length (reportCheck s (length old)) s

@@ -75,8 +75,8 @@ fn put_name(out: &mut [u8], at: usize, i: usize) -> usize
 }
 
 // The line of a species: its name and its milligrams.
-fn put_species(out: &mut [u8], at: usize, masses: &[u64; 29], i: usize) -> usize
-    requires { ⌜ Room at (speciesLine (now masses) i) × (i < 29) ⌝ }
+fn put_species(out: &mut [u8], at: usize, masses: &[u64], i: usize) -> usize
+    requires { ⌜ Room at (speciesLine (now masses) i) × (i < 29) × (29 ≤ length (now masses)) ⌝ }
     ensures { λ r. ⌜ Put (now (out .entry)) at (speciesLine (now (masses .entry)) i) (now (out .exit)) r ⌝ }
 {
     let named = put_name(out, at, i);
@@ -84,8 +84,8 @@ fn put_species(out: &mut [u8], at: usize, masses: &[u64; 29], i: usize) -> usize
     put(out, filled, b"\n")
 }
 
-fn put_all(out: &mut [u8], at: usize, masses: &[u64; 29]) -> usize
-    requires { ⌜ Room at (speciesLines (now masses) 29) ⌝ }
+fn put_all(out: &mut [u8], at: usize, masses: &[u64]) -> usize
+    requires { ⌜ Room at (speciesLines (now masses) 29) × (29 ≤ length (now masses)) ⌝ }
     ensures { λ r. ⌜ Put (now (out .entry)) at (speciesLines (now (masses .entry)) 29) (now (out .exit)) r ⌝ }
 {
     let mut next = at;
@@ -98,8 +98,8 @@ fn put_all(out: &mut [u8], at: usize, masses: &[u64; 29]) -> usize
 }
 
 // All lines of an accepted sheet, from its version, its total and the masses of its species.
-pub fn put_composition(out: &mut [u8], version: u64, total: u64, masses: &[u64; 29]) -> usize
-    requires { ⌜ Room 0 (compositionLines version total (now masses)) ⌝ }
+pub fn put_composition(out: &mut [u8], version: u64, total: u64, masses: &[u64]) -> usize
+    requires { ⌜ Room 0 (compositionLines version total (now masses)) × (29 ≤ length (now masses)) ⌝ }
     ensures { λ r. ⌜ Put (now (out .entry)) 0 (compositionLines version total (now (masses .entry))) (now (out .exit)) r ⌝ }
 {
     let head = put_pair(out, b"EVP ", version, b" total ", total);

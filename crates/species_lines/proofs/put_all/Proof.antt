@@ -25,21 +25,21 @@ loop-holds c = (search needs, refl, put-none _ _)
 put-species-requires : tie.Need-put-species-requires Inv-loop μ-loop
 put-species-requires c κs =
     let l = c .before .before .loop in
-    let start = c .before .before .before .before in
+    let start = c .before .before .before .before .before in
     let masses = start .args .masses .now in
-    (room-next (l .inv .2) (rw (species-more masses (l .i)) at (room-species masses (l .i + 1) 29 (omega arith) (start .pre))), omega arith)
+    (room-next (l .inv .2) (rw (species-more masses (l .i)) at (room-species masses (l .i + 1) 29 (omega arith) (start .pre .0))), omega arith, start .pre .1)
 
 loop-again : tie.Need-loop-again Inv-loop μ-loop
 loop-again c =
     let l = c .before .before .before .before .before .loop in
-    let start = c .before .before .before .before .before .before .before in
+    let start = c .before .before .before .before .before .before .before .before in
     let more = put-same (l .inv .2 and c .before .before .put-species .ensures) (sym (species-more (start .args .masses .now) (l .i))) in
     (omega arith, put-length more, more)
 
 returns : tie.Need-returns Inv-loop μ-loop
 returns c =
     let l = c .before .loop in
-    let start = c .before .before .before in
+    let start = c .before .before .before .before in
     put-same (l .inv .2) (ap (speciesLines (start .args .masses .now)) {x = l .i} {y = 29} (omega arith))
 
 pub put-all-spec : {M : Type 1} → statement M

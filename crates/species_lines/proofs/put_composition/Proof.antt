@@ -9,15 +9,15 @@ use Rattle.species_lines.proofs.put_composition.Tie as tie
 put-pair-requires : tie.Need-put-pair-requires
 unfolding compositionLines totalLine
 put-pair-requires c κs =
-    let start = c .before .before .before .before in
-    room-first _ _ (start .pre)
+    let start = c .before .before .before .before .before in
+    room-first _ _ (start .pre .0)
 
 put-all-requires : tie.Need-put-all-requires
 unfolding compositionLines totalLine
 put-all-requires c κs =
     let a = c .before .before .before in
-    let start = a .before .before .before .before .before in
-    room-next (a .put-pair .ensures) (start .pre)
+    let start = a .before .before .before .before .before .before in
+    (room-next (a .put-pair .ensures) (start .pre .0), start .pre .1)
 
 returns : tie.Need-returns
 unfolding compositionLines totalLine

@@ -9,14 +9,14 @@ use Rattle.species_lines.proofs.put_species.Tie as tie
 put-name-requires : tie.Need-put-name-requires
 unfolding speciesLine
 put-name-requires c κs =
-    let start = c .before .before in
+    let start = c .before .before .before in
     (room-first _ _ (room-first _ _ (start .pre .0)), start .pre .1)
 
 put-number-requires : tie.Need-put-number-requires
 unfolding speciesLine
 put-number-requires c κs =
     let a = c .before .before .before .before in
-    let start = a .before .before .before in
+    let start = a .before .before .before .before in
     room-next (a .put-name .ensures) (room-first _ _ (start .pre .0))
 
 put-requires : tie.Need-put-requires
@@ -24,7 +24,7 @@ unfolding speciesLine
 put-requires c κs =
     let b = c .before .before .before .before in
     let a = b .before .before .before .before .before in
-    let start = a .before .before .before in
+    let start = a .before .before .before .before in
     room-next (a .put-name .ensures and b .put-number .ensures) (start .pre .0)
 
 returns : tie.Need-returns
