@@ -64,12 +64,12 @@ def text(version, total):
 
 def reported(name):
     """The version and the high total of a sample, by its stored report."""
-    words = (TOP / "samples" / name).with_suffix(".report").read_text().split()
+    words = (TOP / "samples" / (name + ".report")).read_text().split()
     return int(words[1]), int(words[-1])
 
 
 def sample_totals():
-    return [reported(path.name)[1] for path in sorted((TOP / "samples").glob("*.evp"))]
+    return [reported(path.stem)[1] for path in sorted((TOP / "samples").glob("*.evp"))]
 
 
 # ------------------------------------------------------------------- the file
