@@ -11,16 +11,8 @@ use Rattle.text.specs.Lines.{between}
 use Rattle.text.specs.Put.{Room}
 use Rattle.speciation.specs.Table.{alkanes, alkenes, alkines, aromatics, table, names}
 use Rattle.species_lines.specs.Lines.{nameAt}
-use Rattle.species_lines.specs.Names.{nameStarts}
+use Rattle.species_lines.specs.Names.{allNames, nameStarts}
 use Rattle.species_lines.proofs.Computed.{alike}
-
--- the text of all names, as the code has it
-abbrev pub allNames : List ℕ
-allNames =
-    bytes "ethane propane i-butane n-butane i-pentane n-pentane 2-methylpentane 3-methylpentane n-hexane n-heptane " ++
-    bytes "ethene propene 1-butene trans-2-butene isobutene cis-2-butene 1,3-butadiene trans-2-pentene cis-2-pentene isoprene " ++
-    bytes "propyne acetylene " ++
-    bytes "benzene toluene ethylbenzene m-xylene o-xylene 1,2,4-trimethylbenzene 1,3,5-trimethylbenzene "
 
 -- from where name i starts to where the next does stand the name and a space
 name-part : (i : ℕ) → i < 29 → between (at nameStarts i) (at nameStarts (i + 1)) allNames ≡ nameAt i ++ bytes " "
