@@ -69,7 +69,8 @@ module _ {s old words : List ℕ} {check : Check} (a : ReportAnswer s old words 
         ap (at (report s)) {x = 6 * rowsOf s + 25} {y = 6 * rowsOf s + 24 + 1} (omega arith) ∙
         total-at s 1 (omega arith))
 
-    pub species-are : {total : ℕ} {masses : List ℕ} → total ≡ at words (6 * rowsOf s + 25) → masses ≡ speciesMasses total → SpeciesPromise total masses
+    pub species-are : {total : ℕ} {masses : List ℕ}
+        → total ≡ at words (6 * rowsOf s + 25) → masses ≡ speciesMasses total → SpeciesPromise total masses
         → CompositionAnswer s old words (record { check = check; total = total; milligrams = masses })
     unfolding answered
     species-are {total} {masses} t m p = record {

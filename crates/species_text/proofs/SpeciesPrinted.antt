@@ -19,7 +19,7 @@ use Rattle.printout.specs.Text.{printed}
 use Rattle.printout.proofs.Printed.{printed-fits, printed-short, printed-first}
 use Rattle.composition.specs.declared.Composition.{Composition}
 use Rattle.composition.specs.Composition.{composition, answered, CompositionAnswer}
-use Rattle.species_text.specs.SpeciesText.{linesOf, textOf, speciesText, speciesTextMost, SpeciesTextAnswer}
+use Rattle.species_text.specs.SpeciesText.{linesOf, textOf, speciesText, linesMost, SpeciesTextAnswer}
 
 -- The line of a refusal.
 pub refusal-is : (total : ℕ) (masses s : List ℕ) {number place : ℕ} {check : Check} → check ≡ Refused number place
@@ -27,14 +27,14 @@ pub refusal-is : (total : ℕ) (masses s : List ℕ) {number place : ℕ} {check
 unfolding linesOf
 refusal-is total masses s e = rw e refl
 
-pub refusal-short : (number place : ℕ) → number < 2 ^ 64 → place < 2 ^ 64 → length (refusalLine number place) ≤ speciesTextMost
+pub refusal-short : (number place : ℕ) → number < 2 ^ 64 → place < 2 ^ 64 → length (refusalLine number place) ≤ linesMost
 refusal-short number place n p = omega (arith, refusal-most number place n p)
 
 -- the end of such a text can be counted, and it is no longer
-pub room : {text : List ℕ} → length text ≤ speciesTextMost → Room 0 text
+pub room : {text : List ℕ} → length text ≤ linesMost → Room 0 text
 room h = record { fits = omega arith }
 
-pub end-most : {old text new : List ℕ} {end : ℕ} → length text ≤ speciesTextMost → Put old 0 text new end → end ≤ speciesTextMost
+pub end-most : {old text new : List ℕ} {end : ℕ} → length text ≤ linesMost → Put old 0 text new end → end ≤ linesMost
 end-most h a = omega (arith, a .end-is)
 
 module _ {s old words : List ℕ} {found : Composition} (a : CompositionAnswer s old words found) where
@@ -45,7 +45,7 @@ module _ {s old words : List ℕ} {found : Composition} (a : CompositionAnswer s
       omega (arith, there .length-is, start-between s)
 
   -- What holds after the call, where the text was first put into a buffer of no byte.
-  module _ {none between : List ℕ} {size : ℕ} (counted : Put none 0 (textOf found s) between size × (size ≤ speciesTextMost)) where
+  module _ {none between : List ℕ} {size : ℕ} (counted : Put none 0 (textOf found s) between size × (size ≤ linesMost)) where
     text-is : textOf found s ≡ speciesText s (length old)
     unfolding speciesText
     text-is = ap (λ (f : Composition). textOf f s) (a .answer-is)
@@ -78,7 +78,7 @@ module _ {s old words : List ℕ} {found : Composition} (a : CompositionAnswer s
         }
 
 -- In a buffer that is long enough for any text, as many bytes at the front as the call answers are the text.
-pub text-first : {s old words before out : List ℕ} {r : ℕ} → SpeciesTextAnswer s old words before out r → speciesTextMost ≤ length before
+pub text-first : {s old words before out : List ℕ} {r : ℕ} → SpeciesTextAnswer s old words before out r → linesMost ≤ length before
     → take r out ≡ speciesText s (length old)
 text-first {s} {old} {words} {before} {out} {r} a h =
     ap (take r) (a .text-is) ∙

@@ -26,8 +26,8 @@ unfoldable pub speciesText : List ℕ → ℕ → List ℕ
 speciesText s room = textOf (composition s room) s
 
 -- no text is longer: 29 lines of 44 bytes, and that of the total
-abbrev pub speciesTextMost : ℕ
-speciesTextMost = 44 * 29 + 52
+abbrev pub linesMost : ℕ
+linesMost = 44 * 29 + 52
 
 -- What holds after the call, with the words and the bytes that stood in the two buffers before it and those that stand there now: the
 -- words are those of the report call, and the answer is the length of the text, whether it fits or not.
@@ -35,4 +35,4 @@ pub record SpeciesTextAnswer (s old words before out : List ℕ) (r : ℕ) : Typ
   pub reported : ReportAnswer s old words (reportCheck s (length old))
   pub length-is : r ≡ length (speciesText s (length old))
   pub text-is : out ≡ printed (speciesText s (length old)) before
-  pub length-most : r ≤ speciesTextMost
+  pub length-most : r ≤ linesMost

@@ -9,12 +9,12 @@ ghost use Prim.Native.Nat.{_≤_};
 ghost use lib.ListN.{length};
 ghost use Rattle.sheet.specs.declared.Check.the-variants.{Pass};
 ghost use Rattle.text.specs.Put.{Put};
-ghost use Rattle.species_text.specs.SpeciesText.{linesOf, speciesTextMost, SpeciesTextAnswer};
+ghost use Rattle.species_text.specs.SpeciesText.{linesOf, linesMost, SpeciesTextAnswer};
 
 // The lines of an accepted sheet, as far as the buffer reaches.
 fn put_accepted(out: &mut [u8], s: &[u8], total: u64, masses: &[u64]) -> usize
     requires { ⌜ (8 ≤ length (now s)) × (29 ≤ length (now masses)) ⌝ }
-    ensures { λ r. ⌜ Put (now (out .entry)) 0 (linesOf Pass total (now (masses .entry)) (now (s .entry))) (now (out .exit)) r × (r ≤ speciesTextMost) ⌝ }
+    ensures { λ r. ⌜ Put (now (out .entry)) 0 (linesOf Pass total (now (masses .entry)) (now (s .entry))) (now (out .exit)) r × (r ≤ linesMost) ⌝ }
 {
     put_composition(out, version_of(s), total, masses)
 }
@@ -22,7 +22,7 @@ fn put_accepted(out: &mut [u8], s: &[u8], total: u64, masses: &[u64]) -> usize
 // The text of a sheet that was checked, as far as the buffer reaches.
 fn put_text(out: &mut [u8], s: &[u8], check: Check, total: u64, masses: &[u64]) -> usize
     requires { ⌜ (check ≡ Pass → 8 ≤ length (now s)) × (29 ≤ length (now masses)) ⌝ }
-    ensures { λ r. ⌜ Put (now (out .entry)) 0 (linesOf check total (now (masses .entry)) (now (s .entry))) (now (out .exit)) r × (r ≤ speciesTextMost) ⌝ }
+    ensures { λ r. ⌜ Put (now (out .entry)) 0 (linesOf check total (now (masses .entry)) (now (s .entry))) (now (out .exit)) r × (r ≤ linesMost) ⌝ }
 {
     match check {
         Check::Refused(number, place) => put_refusal(out, number, place),

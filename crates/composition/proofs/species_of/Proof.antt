@@ -22,7 +22,8 @@ returns-2 c =
     let rows = c .before .before in
     let told = rows .before in
     let split = c .split .ensures in
-    species-are (told .before .before .before .before .report .ensures) (told .enum-told2 .given .1) (rw (rows .rows-of .ensures .0) refl) (split .0) (split .1)
+    let reported = told .before .before .before .before .report .ensures in
+    species-are reported (told .enum-told2 .given .1) (rw (rows .rows-of .ensures .0) refl) (split .0) (split .1)
 
 pub species-of-spec : {M : Type 1} → statement M
 species-of-spec =

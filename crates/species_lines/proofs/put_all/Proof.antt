@@ -27,7 +27,8 @@ put-species-requires c κs =
     let l = c .before .before .loop in
     let start = c .before .before .before .before .before in
     let masses = start .args .masses .now in
-    (room-next (l .inv .2) (rw (species-more masses (l .i)) at (room-species masses (l .i + 1) 29 (omega arith) (start .pre .0))), omega arith, start .pre .1)
+    let more = room-species masses (l .i + 1) 29 (omega arith) (start .pre .0) in
+    (room-next (l .inv .2) (rw (species-more masses (l .i)) at more), omega arith, start .pre .1)
 
 loop-again : tie.Need-loop-again Inv-loop μ-loop
 loop-again c =
