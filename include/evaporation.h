@@ -10,9 +10,9 @@
  * is above 0; in version 4, which is version 3 otherwise, bytes 6 and 7 of the head count the rows. What a call answers has the
  * same form for all.
  *
- * A sheet, words and a text are passed as a pointer and a number of elements. A pointer is never null, also where the number is 0,
- * and points to that many elements; `words` is aligned for uint64_t, and the bytes of sheet, words and text must not overlap. Those
- * of the sheet are not written. No call keeps a pointer, takes memory, reads or writes a file or holds state: two threads may call
+ * A sheet, words, a text and milligrams are passed as a pointer and a number of elements. A pointer is never null, also where the number
+ * is 0, and points to that many elements; `words` and `milligrams` are aligned for uint64_t, and the bytes of sheet, words and text must not
+ * overlap. Those of the sheet are not written. No call keeps a pointer, takes memory, reads or writes a file or holds state: two threads may call
  * at once with words and a text of their own.
  */
 #ifndef EVAPORATION_H

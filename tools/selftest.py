@@ -1322,6 +1322,11 @@ def check_species():
     with open(os.path.join(TOP, "crates", "speciation", "specs", "Table.antt"), encoding="utf-8") as file:
         rows = re.findall(r'\("([^"]*)" has (\d+)\) ∷', file.read())
     same(rows, [(name, str(share)) for name, share in zip(species.NAMES, hundredths)], "the crate's Table 3-14")
+    with open(os.path.join(TOP, "crates", "speciation", "proofs", "Values.antt"), encoding="utf-8") as file:
+        worked = re.findall(r"speciesMasses (\d+)\s+≡((?: \d+ ∷|\s)+)\[\]", file.read())
+    same([int(total) for total, _ in worked], [10001, 1000], "totals of the crate's values")
+    for total, masses in worked:
+        same([int(mass) for mass in re.findall(r"\d+", masses)], species.split(int(total)), "the crate's species of " + total)
     return "species: 29 in four groups; 200 totals in fractions and whole numbers; names in the header, table in the crate"
 
 
