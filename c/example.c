@@ -1,7 +1,7 @@
 /* The calls from C: reads two sample sheets of version 1, holds their reports and factors against the values below, and the text of
  * the first against document 01's lines, and tries refusals of each call. Then the same for the sheets of version 2 that have the products of their lists as a grid, and for these
- * in versions 3 and 4, without a mileage, which must answer alike. Last a sample of version 3 with mileages. Prints what it found; the exit
- * status is 0 only where all of it is as expected.
+ * in versions 3 and 4, without a mileage, which must answer alike. Then a sample of version 3 with mileages, and last the species of some
+ * totals. Prints what it found; the exit status is 0 only where all of it is as expected.
  *
  * usage: example EXAMPLE.evp TABLE-3-5-DAY.evp ODOMETER.evp */
 #include <inttypes.h>
@@ -225,6 +225,65 @@ static void expect_odometer(void) {
     expect_refused("a mileage in version 2", EVP_ROW_ZEROS, first_row);
 }
 
+/* The species of Table 3-5's total, 44172065 mg, as tools/species.py has them. */
+static const uint64_t table_species[EVP_SPECIES] = {
+    132502, 2274634, 1934543, 2588225, 4721521, 3409743,
+    6192304, 11103747, 892186, 728766,
+    22084, 123670, 318007, 525595, 53001, 463760,
+    0, 706682, 331258, 0,
+    30917, 4417,
+    428426, 1740205, 1554702, 2557307, 1113024, 220839, 0,
+};
+
+/* What 10,001 mg are: each species has its share, in hundredths of a percent. */
+static const uint64_t shares[EVP_SPECIES] = {
+    30, 515, 438, 586, 1069, 772,
+    1402, 2514, 202, 165,
+    5, 28, 72, 119, 12, 105,
+    0, 160, 75, 0,
+    7, 1,
+    97, 394, 352, 579, 252, 50, 0,
+};
+
+/* With a word to spare, which keeps what it had: the species, which add up to the total. */
+static void expect_species(uint64_t total, const uint64_t *expected) {
+    uint64_t milligrams[EVP_SPECIES + 1], sum = 0;
+    milligrams[EVP_SPECIES] = UNTOUCHED;
+    struct evp_check answer = evp_species(total, milligrams, EVP_SPECIES + 1);
+    expect("number of the species", answer.number, EVP_ACCEPTED);
+    expect("place of the species", answer.place, 0);
+    for (size_t i = 0; i < EVP_SPECIES; i++) {
+        sum += milligrams[i];
+        if (shares[i] == 0)
+            expect(evp_species_names[i], milligrams[i], 0);
+        if (expected != NULL)
+            expect(evp_species_names[i], milligrams[i], expected[i]);
+    }
+    expect("the sum of the species", sum, total);
+    expect("a word beyond the species", milligrams[EVP_SPECIES], UNTOUCHED);
+}
+
+/* With a word too few, and with none. */
+static void expect_no_species(void) {
+    clear_words();
+    for (size_t count = 0; count < EVP_SPECIES; count += EVP_SPECIES - 1) {
+        struct evp_check answer = evp_species(UINT64_MAX, words, count);
+        expect("species without room", answer.number, EVP_ROOM);
+        expect("place of species without room", answer.place, 0);
+    }
+    expect_untouched(0);
+}
+
+static void expect_all_species(void) {
+    static const uint64_t totals[] = {0, 1, 10000, 10001, UINT64_MAX};
+    for (size_t i = 0; i < sizeof totals / sizeof totals[0]; i++)
+        expect_species(totals[i], NULL);
+    expect_species(10001, shares);
+    expect_species(44172065, table_species);
+    expect_no_species();
+    expect("the name of a species", (uint64_t)strcmp(evp_species_names[16], "1,3-butadiene"), 0);
+}
+
 /* The two samples: document 01's example, and three rows of Table 3-5. */
 static void expect_example(void) {
     expect_report(example_words, EVP_WORDS_OF(1));
@@ -270,10 +329,11 @@ int main(int count, char **paths) {
     if (!read_sheet(paths[3]))
         return 2;
     expect_odometer();
+    expect_all_species();
     if (mismatches != 0) {
         printf("%d mismatches\n", mismatches);
         return 1;
     }
-    printf("the three calls answer C as expected\n");
+    printf("the four calls answer C as expected\n");
     return 0;
 }

@@ -1,4 +1,5 @@
-/* The calls of the evaporation workbook for a program in C: the report of a sheet, in words or as a text, and one emission factor.
+/* The calls of the evaporation workbook for a program in C: the report of a sheet, in words or as a text, one emission factor, and the
+ * species of a mass.
  *
  * They stand in the static library target/staticlib/libevaporation.a, which `rt staticlib evaporation` makes from the proved
  * crate (x86-64 Linux); it needs only the C library. c/example.c is a program over them.
@@ -9,9 +10,9 @@
  * is above 0; in version 4, which is version 3 otherwise, bytes 6 and 7 of the head count the rows. What a call answers has the
  * same form for all.
  *
- * A sheet, words and a text are passed as a pointer and a number of elements. A pointer is never null, also where the number is 0,
- * and points to that many elements; `words` is aligned for uint64_t, and the bytes of sheet, words and text must not overlap. Those
- * of the sheet are not written. No call keeps a pointer, takes memory, reads or writes a file or holds state: two threads may call
+ * A sheet, words, a text and milligrams are passed as a pointer and a number of elements. A pointer is never null, also where the number
+ * is 0, and points to that many elements; `words` and `milligrams` are aligned for uint64_t, and the bytes of sheet, words and text must not
+ * overlap. Those of the sheet are not written. No call keeps a pointer, takes memory, reads or writes a file or holds state: two threads may call
  * at once with words and a text of their own.
  */
 #ifndef EVAPORATION_H
@@ -69,11 +70,11 @@ enum evp_number {
     EVP_ROW_ZEROS = 21,      /* the last four bytes of a row are not zero */
     EVP_MILEAGE = 25,        /* a mileage above 1,000,000 km; or one above 0 with no canister, beside a load, or where the exponent of
                               * the saturating load is above 0 in some season */
-    EVP_ROOM = 22,           /* the report call: fewer words than the report has; place 0 */
+    EVP_ROOM = 22,           /* the report call: fewer words than the report has; the species call: fewer than 29; place 0 */
     EVP_ABSENT = 23          /* the factor call: the sheet has no such season or row, or the factor is not 1 to 7; place 0 */
 };
 
-/* The answer of the report call. */
+/* The answer of the report call, and of the species call. */
 struct evp_check {
     uint64_t number; /* of enum evp_number */
     uint64_t place;  /* the byte of the sheet where it stops; 0 where it is accepted */
@@ -104,6 +105,26 @@ size_t evp_text(const uint8_t *sheet, size_t sheet_bytes, uint64_t *words, size_
 /* One factor of a season and a row, both counted from 0. 1 is diurnal (a day); hot soak (a parking): 2 injection, 3 carburettor
  * warm, 4 carburettor hot; running (a trip): 5 injection, 6 carburettor warm, 7 carburettor hot. */
 struct evp_factor_band evp_factor(const uint8_t *sheet, size_t sheet_bytes, uint64_t season, uint64_t row, uint64_t factor);
+
+/* The species of Table 3-14 in printed order: ten alkanes, ten alkenes, two alkines, seven aromatics. */
+#define EVP_SPECIES 29
+
+static const char *const evp_species_names[EVP_SPECIES] = {
+    "ethane", "propane", "i-butane", "n-butane", "i-pentane", "n-pentane", "2-methylpentane",
+    "3-methylpentane", "n-hexane", "n-heptane",
+    "ethene", "propene", "1-butene", "trans-2-butene", "isobutene", "cis-2-butene", "1,3-butadiene",
+    "trans-2-pentene", "cis-2-pentene", "isoprene",
+    "propyne", "acetylene",
+    "benzene", "toluene", "ethylbenzene", "m-xylene", "o-xylene", "1,2,4-trimethylbenzene",
+    "1,3,5-trimethylbenzene",
+};
+
+/* The species of a mass in milligrams, as of the high of a report's grand total, which is its last word. They add up to the total
+ * exactly, none is further than one milligram from its exact share, and one with share 0 gets nothing.
+ *
+ * Accepted: the first 29 words are written, those beyond keep what they had. With fewer words the answer is EVP_ROOM, place 0, and all
+ * words keep what they had. */
+struct evp_check evp_species(uint64_t total, uint64_t *milligrams, size_t count);
 
 #ifdef __cplusplus
 }

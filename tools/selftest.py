@@ -1,5 +1,6 @@
 #!/usr/bin/env python3
-"""Checks tools/evaporation.py, tools/sheet.py, tools/picture.py and the samples.
+"""Checks tools/evaporation.py, tools/sheet.py, tools/picture.py, tools/species.py
+and the samples.
 
   python3 tools/selftest.py
 
@@ -12,6 +13,7 @@ import io
 import math
 import os
 import random
+import re
 import sys
 import tempfile
 import time
@@ -27,8 +29,10 @@ import evaporation as ev  # noqa: E402
 import picture  # noqa: E402
 import pressures  # noqa: E402
 import sheet as writer  # noqa: E402
+import species  # noqa: E402
 
-SAMPLES = os.path.join(os.path.dirname(HERE), "samples")
+TOP = os.path.dirname(HERE)
+SAMPLES = os.path.join(TOP, "samples")
 NAMES = ("example", "table-3-5", "table-3-5-day", "region", "survey", "odometer", "districts")
 MICROGRAM = Fraction(1, 10 ** 6)
 
@@ -1328,6 +1332,36 @@ def check_p_examples():
     return "the examples marked P of document 01, roots enclosed, decimals cut"
 
 
+def check_species():
+    sizes = [len(list(species.entries(printed))) for printed in species.GROUPS.values()]
+    same(sizes, [10, 10, 2, 7], "species in each group")
+    same(sum(species.SHARES), Fraction("100.01"), "sum of the shares")
+    hundredths = [int(100 * share) for share in species.SHARES]
+    same(species.split(10001), hundredths, "species of 10001")
+    same(species.split(1), [0] * 27 + [1, 0], "species of 1")
+    chance = random.Random("species")
+    for total in [0, 10000, 2 ** 64 - 1] + [chance.getrandbits(chance.randint(1, 64)) for _ in range(200)]:
+        # in whole numbers, with one division for two sums of shares
+        reached = [total * sum(hundredths[:i]) // 10001 for i in range(30)]
+        same(species.split(total), [b - a for a, b in zip(reached, reached[1:])], "species of %d" % total)
+    same(species.text(4, 0), "EVP 4 total 0\n" + "".join("%s 0\n" % name for name in species.NAMES), "text of 0")
+    for name in NAMES:
+        version, total = species.reported(name)
+        want(version == sample(name, ".evp")[3] and total > 0 or name == "example", "total of %s", name)
+    with open(os.path.join(TOP, "include", "evaporation.h"), encoding="ascii") as file:
+        array = re.search(r"evp_species_names\[EVP_SPECIES\] = \{(.*?)\};", file.read(), re.DOTALL).group(1)
+    same(re.findall(r'"([^"]*)"', array), species.NAMES, "names in the header")
+    with open(os.path.join(TOP, "crates", "speciation", "specs", "Table.antt"), encoding="utf-8") as file:
+        rows = re.findall(r'\("([^"]*)" has (\d+)\) ∷', file.read())
+    same(rows, [(name, str(share)) for name, share in zip(species.NAMES, hundredths)], "the crate's Table 3-14")
+    with open(os.path.join(TOP, "crates", "speciation", "proofs", "Values.antt"), encoding="utf-8") as file:
+        worked = re.findall(r"speciesMasses (\d+)\s+≡((?: \d+ ∷|\s)+)\[\]", file.read())
+    same([int(total) for total, _ in worked], [10001, 1000], "totals of the crate's values")
+    for total, masses in worked:
+        same([int(mass) for mass in re.findall(r"\d+", masses)], species.split(int(total)), "the crate's species of " + total)
+    return "species: 29 in four groups; 200 totals in fractions and whole numbers; names in the header, table in the crate"
+
+
 CHECKS = (
     check_samples,
     check_writer,
@@ -1353,6 +1387,7 @@ CHECKS = (
     check_shared,
     check_districts,
     check_pressures,
+    check_species,
     check_picture,
     check_n,
     check_cold,

@@ -21,12 +21,12 @@ unfoldable pub lineFeeds : List ℕ → ℕ
 lineFeeds [] = 0
 lineFeeds (byte ∷ text) = one-if (eqb byte 10) + lineFeeds text
 
-feeds-append : (first next : List ℕ) → lineFeeds (first ++ next) ≡ lineFeeds first + lineFeeds next
+pub feeds-append : (first next : List ℕ) → lineFeeds (first ++ next) ≡ lineFeeds first + lineFeeds next
 unfolding lineFeeds
 feeds-append [] next = omega arith
 feeds-append (byte ∷ first) next = rw (feeds-append first next) (omega arith)
 
-digits-feeds : (n : ℕ) → lineFeeds (digits n) ≡ 0
+pub digits-feeds : (n : ℕ) → lineFeeds (digits n) ≡ 0
 unfolding lineFeeds
 digits-feeds = by-digits (λ n text. lineFeeds text ≡ 0) (λ n h. digit-feeds n) more
   where
@@ -46,7 +46,7 @@ line-feeds : (name words : List ℕ) → lineFeeds name ≡ 0 → lineFeeds (lin
 unfolding line lineFeeds
 line-feeds name words h = simp feeds-append (omega (arith, h, fields-feeds words))
 
-pair-feeds : (first : List ℕ) (a : ℕ) (second : List ℕ) (b : ℕ) → lineFeeds first ≡ 0 → lineFeeds second ≡ 0 → lineFeeds (pairLine first a second b) ≡ 1
+pub pair-feeds : (first : List ℕ) (a : ℕ) (second : List ℕ) (b : ℕ) → lineFeeds first ≡ 0 → lineFeeds second ≡ 0 → lineFeeds (pairLine first a second b) ≡ 1
 unfolding pairLine lineFeeds
 pair-feeds first a second b f g = simp feeds-append (omega (arith, digits-feeds a, digits-feeds b))
 
@@ -87,7 +87,7 @@ pub record Ended (text : List ℕ) : Type 0 where
   pub body : List ℕ
   pub text-is : text ≡ body ++ bytes "\n"
 
-ended-behind : (first : List ℕ) {text : List ℕ} → Ended text → Ended (first ++ text)
+pub ended-behind : (first : List ℕ) {text : List ℕ} → Ended text → Ended (first ++ text)
 ended-behind first {text} e = record { body = first ++ e .body; text-is = rw (e .text-is) (sym (append-assoc first (e .body) (bytes "\n"))) }
 
 line-ended : (name words : List ℕ) → Ended (line name words)

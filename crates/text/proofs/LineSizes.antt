@@ -49,7 +49,7 @@ line-most name a e words w =
     let few : length part ≤ e - a = rw (length-take (e - a) (drop a words)) (min-le-left (e - a) (length (drop a words))) in
     simp length-append (omega (arith, few, fields-most part (words-between a e words w)))
 
-pair-most : (first : List ℕ) (a : ℕ) (second : List ℕ) (b : ℕ) → a < 2 ^ 64 → b < 2 ^ 64 → length (pairLine first a second b) ≤ length first + length second + 41
+pub pair-most : (first : List ℕ) (a : ℕ) (second : List ℕ) (b : ℕ) → a < 2 ^ 64 → b < 2 ^ 64 → length (pairLine first a second b) ≤ length first + length second + 41
 unfolding pairLine
 pair-most first a second b f g = simp length-append (omega (arith, word-digits a f, word-digits b g))
 

@@ -91,7 +91,7 @@ fn put_sums(out: &mut [u8], at: usize, words: &[u64], from: usize) -> usize
 }
 
 // A line of two numbers, each behind a text, at the front of the buffer.
-fn put_pair(out: &mut [u8], first: &[u8], a: u64, second: &[u8], b: u64) -> usize
+pub fn put_pair(out: &mut [u8], first: &[u8], a: u64, second: &[u8], b: u64) -> usize
     requires { ⌜ Room 0 (pairLine (now first) a (now second) b) ⌝ }
     ensures { λ r. ⌜ Put (now (out .entry)) 0 (pairLine (now (first .entry)) a (now (second .entry)) b) (now (out .exit)) r ⌝ }
 {

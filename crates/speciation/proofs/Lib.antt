@@ -1,0 +1,3 @@
+pub mod Telescope
+pub mod Promised
+pub mod Values
