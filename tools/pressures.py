@@ -27,7 +27,7 @@ from itertools import product
 
 import evaporation
 from inputs import TOP
-from samples import PROGRAM, SAMPLES, blocks
+from samples import REPORT, SAMPLES, blocks
 from sheets import BY_CLASS, EMPTY, chance_grid_plan, chance_many_plan, chance_metered_plan, chance_plan, fitted, most
 
 LEAST, MOST = 300, 1100  # tenths of kPa
@@ -139,7 +139,7 @@ def faults(pair, lower, higher):
 
 def printed(data):
     """What the program prints for an accepted sheet."""
-    text = subprocess.run([PROGRAM], input=data, capture_output=True, check=True, timeout=60).stdout.decode()
+    text = subprocess.run([REPORT], input=data, capture_output=True, check=True, timeout=60).stdout.decode()
     if not text.startswith("EVP "):
         sys.exit("pressures: the program prints %r for an accepted sheet" % text)
     return text
@@ -173,7 +173,7 @@ def main():
     if sys.argv[1:]:
         print(__doc__, file=sys.stderr)
         return 2
-    if not PROGRAM.exists():
+    if not REPORT.exists():
         print("pressures: no target/bin/report; rt check report makes it", file=sys.stderr)
         return 2
     every = list(pairs())
