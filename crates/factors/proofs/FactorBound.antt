@@ -1,5 +1,5 @@
 -- Every computed factor encloses document 01's exact factor, for every n of 40 or more, any counts and every accepted season and row;
--- and so do its whole micrograms, which are at most five apart.
+-- and so do its whole micrograms, which are at most `bandMicrograms` apart.
 -- Assumes nothing.
 use mathlib.Core.Bool.{Bool, true, false}
 use mathlib.Core.List.{List}
@@ -126,8 +126,11 @@ module _ (season : Season) (row : Row) (counts : List ℕ) (s : SeasonInRange se
     pub factor-≤-high : factor n counts season row k ≤ᶠ highMicrograms (factorUnits season row counts k) /10^ 6
     factor-≤-high = ≤-high (factor-within season row counts s r p k .at n n40)
 
--- they are at most five apart
-pub high-near-low : (units : ℕ) → highMicrograms units ≤ lowMicrograms units + 5
+-- how far they can be apart
+abbrev pub bandMicrograms : ℕ
+bandMicrograms = 5
+
+pub high-near-low : (units : ℕ) → highMicrograms units ≤ lowMicrograms units + bandMicrograms
 unfolding lowMicrograms highMicrograms
 high-near-low units = omega arith
 
