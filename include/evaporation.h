@@ -85,10 +85,11 @@ struct evp_factor_band {
     uint64_t number; /* of enum evp_number */
     uint64_t place;  /* as above */
     uint64_t low;    /* micrograms, at most the exact factor; 0 where the sheet is refused */
-    uint64_t high;   /* micrograms, at least the exact factor, at most low + 1,000; 0 where the sheet is refused */
+    uint64_t high;   /* micrograms, at least the exact factor, at most low + 10; 0 where the sheet is refused */
 };
 
-/* The report: masses of the year in milligrams, each a low and a high with the exact mass between them.
+/* The report: masses of the year in milligrams, each a low and a high with the exact mass between them, of a row at most a hundredth
+ * of a milligram apart for each vehicle and day (soak and running: each trip), and two milligrams.
  *
  * Accepted: the first EVP_WORDS_OF(rows) words are written, those beyond keep what they had. In this order: for each row six words,
  * diurnal low and high, soak low and high, running low and high; six words likewise for cars, for light-duty vehicles, for

@@ -12,6 +12,7 @@ pub mod Entries
 pub mod PowerBound
 pub mod Composition
 pub mod ExponentialBound
+pub mod Growth
 pub mod Ends
 pub mod Weights
 pub mod Line

@@ -24,8 +24,8 @@ exponent-fits {c} m r =
     let l : m - (m - c .saturation) ≤ c .saturation = omega arith in
     omega (arith, r .exponent-below, mul-le-mul-left (c .growth) l)
 
--- what breaks through of at most 36 g for a rise of 1 and a rise of at most 450 is below 2¹⁴ g
-pub through-most : (c : Curve) (rise : ℕ) → CurveReady c → rise ≤ 450 * 2 ^ 40 → through c rise ≤ 2 ^ 54
+-- what breaks through of at most 36 g for a rise of 1 and a rise of at most 72 is below 2¹⁴ g
+pub through-most : (c : Curve) (rise : ℕ) → CurveReady c → rise ≤ 72 * 2 ^ 40 → through c rise ≤ 2 ^ 54
 unfolding through loss
 through-most c rise r h =
     let m : ℕ = c .load + c .gain * rise / 2 ^ 40 in

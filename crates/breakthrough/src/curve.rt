@@ -33,7 +33,7 @@ pub fn loss(tables: &[u64; 578], c: Curve, m: u64) -> u64
 
 // What breaks through of the vapour of a rise.
 pub fn through(tables: &[u64; 578], c: Curve, rise: u64) -> u64
-    requires { ⌜ (now tables ≡ entries) × CurveReady c × (rise ≤ 450 * 2 ^ 40) ⌝ }
+    requires { ⌜ (now tables ≡ entries) × CurveReady c × (rise ≤ 72 * 2 ^ 40) ⌝ }
     ensures { λ r. ⌜ r ≡ through c rise ⌝ }
 {
     let m = c.load + mul_shift(c.gain, rise);

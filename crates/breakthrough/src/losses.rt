@@ -12,7 +12,7 @@ ghost use Rattle.breakthrough.specs.Through.{CurvesReady, curveAt, throu
 
 // Of the rise in the parking of each cell, from the mark at which it starts.
 pub fn through_cells(tables: &[u64; 578], rises: &[u64; 576], c: Curves) -> [u64; 576]
-    requires { ⌜ (now tables ≡ entries) × CurvesReady c × AllAtMost (450 * 2 ^ 40) (now rises) ⌝ }
+    requires { ⌜ (now tables ≡ entries) × CurvesReady c × AllAtMost (72 * 2 ^ 40) (now rises) ⌝ }
     ensures { λ r. ⌜ (r ≡ tab (λ (cell : ℕ). through (curveAt c (startOf cell)) (at (now (rises .entry)) cell)) 576) × AllAtMost (2 ^ 54) r ⌝ }
 {
     let mut out = [0u64; 576];

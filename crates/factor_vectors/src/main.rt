@@ -1,10 +1,12 @@
 // Holds the factor call against the exact factors that tools/factors.py put into standard input: for each of the seven, how many lie in
-// their bands, how wide these are and how far off their middles the factors lie; and how many calls are refused as expected.
+// their bands, how wide these are and how far off their middles the factors lie; the same for the rows with a mileage; and how many calls
+// are refused as expected.
 use inventory::FactorAnswer;
 use libc::STDIN_FILENO;
 use vectors::factor::Reply;
 use vectors::factor::reply_at;
 use vectors::input::COUNT;
+use vectors::input::mileage_at;
 use vectors::input::record_at;
 use vectors::input::u32_at;
 use vectors::input::u64_at;
@@ -22,6 +24,11 @@ const HEAD: usize = 4;
 const CALL: usize = 56;
 
 const LAST_FACTOR: u64 = 7;
+
+// The calls that are told apart: those to be refused, those for each factor, and those for a factor of a row with a mileage
+const REFUSED: u64 = 0;
+
+const DRIVEN: u64 = 8;
 
 // A call's season, row and factor
 struct Call {
@@ -61,9 +68,12 @@ fn found_by(s: &[u8], c: Call) -> Reply {
     reply_of(inventory::factor(s, c.season, c.row, c.factor))
 }
 
-// The calls that are told apart: those to be refused, as kind 0, and the others by their factor
-fn kind_of(expected: u64, factor: u64) -> u64 {
-    if expected == 0 { factor } else { 0 }
+// Whether a call is of a kind
+fn is_of(kind: u64, expected: u64, factor: u64, mileage: u64) -> bool {
+    if expected != 0 {
+        return kind == REFUSED;
+    }
+    (kind == factor) | ((kind == DRIVEN) & (mileage != 0))
 }
 
 // A line for a call whose answer is not right; sheets and the calls on each are counted from 1, as tools/factors.py lists them.
@@ -84,7 +94,7 @@ fn with_call(s: &[u8], calls: &[u8], i: usize, sheet: u64, kind: u64, tally: Tal
 {
     let c = call_at(calls, CALL * i);
     let expected = reply_at(calls, CALL * i + 24);
-    if kind_of(expected.number, c.factor) != kind {
+    if !is_of(kind, expected.number, c.factor, mileage_at(s, c.row)) {
         return tally;
     }
     let found = found_by(s, c);
@@ -157,7 +167,9 @@ fn print_all(s: &[u8]) -> u64 {
     let factors = report_factors(s);
     text(b"factors");
     print_factors(factors);
-    let refused = tally_of(s, 0);
+    text(b"rows with a mileage");
+    print_factors(tally_of(s, DRIVEN));
+    let refused = tally_of(s, REFUSED);
     number(b"refused calls ", refused.tried);
     number(b" alike ", refused.right);
     text(b"\n");

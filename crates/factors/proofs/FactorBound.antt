@@ -1,5 +1,5 @@
 -- Every computed factor encloses document 01's exact factor, for every n of 40 or more, any counts and every accepted season and row;
--- and so do its whole micrograms, which are at most five apart.
+-- and so do its whole micrograms, which are at most `bandMicrograms` apart.
 -- Assumes nothing.
 use mathlib.Core.Bool.{Bool, true, false}
 use mathlib.Core.List.{List}
@@ -20,7 +20,7 @@ use Rattle.marks.proofs.MarkTemperatures.{temperature-tenths, temperature-whole
 use Rattle.sheet.specs.Range.{RowInRange}
 use Rattle.factors.specs.Units.{startOf, endOf, escapeOverUnits, openUnits, diurnalUnits, soakUnits, runningUnits, carUnits, twoWheelerUnits, factorUnits, factorError, lowMicrograms, highMicrograms}
 use Rattle.factors.proofs.Mean.{mean-+}
-use Rattle.factors.proofs.Losses.{parking-escape-within, over-within, opened-within, rate-mean, parking-permeation-within, hourly-within}
+use Rattle.factors.proofs.Losses.{raiseError, parking-escape-within, over-within, opened-within, rate-mean, parking-permeation-within, hourly-within}
 
 -- the mean of a sum from the means of its parts
 sum-within : {u w v z : ℕ} {W : ℕ} (counts : List ℕ) (f g : ℕ → ℕ → Fraction) → WithinAll (2 ^ 28) u w (λ n. mean (f n) counts)
@@ -34,7 +34,7 @@ module _ {season : Season} {row : Row} (s : SeasonInRange season) (r : RowInRang
   meanOf x n = mean (λ (cell : ℕ). x n (endHour cell) (duration cell)) counts
 
   -- factor 1
-  diurnal-within : WithinAll (2 ^ 28) (diurnalUnits season row counts) 950 (meanOf (λ n. diurnalFactor n season row))
+  diurnal-within : WithinAll (2 ^ 28) (diurnalUnits season row counts) factorError (meanOf (λ n. diurnalFactor n season row))
   unfolding diurnalUnits diurnalFactor T1 startOf
   diurnal-within = sum-within counts _ _ (parking-escape-within s r counts p) (parking-permeation-within s r counts p) (omega arith)
 
@@ -51,26 +51,26 @@ module _ {season : Season} {row : Row} (s : SeasonInRange season) (r : RowInRang
 
   -- escape over a raise of k tenths from the start or the end of the parking
   escape-tenths-within : (mark : ℕ → ℕ) (k : ℕ) → k ≤ 60
-      → WithinAll (2 ^ 28) (escapeOverUnits season row counts mark (tenths k)) 114
+      → WithinAll (2 ^ 28) (escapeOverUnits season row counts mark (tenths k)) raiseError
       (λ n. mean (λ (cell : ℕ). escapeOver n season row (temperature season (mark cell)) (k /10^ 1)) counts)
   escape-tenths-within mark k h = over-within s r counts p mark (k /10^ 1) k h (λ i. temperature-tenths i s k)
 
   -- the same of k whole degrees
   escape-whole-within : (mark : ℕ → ℕ) (k : ℕ) → k ≤ 6
-      → WithinAll (2 ^ 28) (escapeOverUnits season row counts mark (tenths (10 * k))) 114
+      → WithinAll (2 ^ 28) (escapeOverUnits season row counts mark (tenths (10 * k))) raiseError
       (λ n. mean (λ (cell : ℕ). escapeOver n season row (temperature season (mark cell)) (whole k)) counts)
   escape-whole-within mark k h = over-within s r counts p mark (whole k) (10 * k) (omega arith) (λ i. temperature-whole i s k)
 
   -- "plus without canister the vapour from T2 to T2 + 1 or T2 + 5"
   vapour-whole-within : (k : ℕ) → k ≤ 6
-      → WithinAll (2 ^ 28) (openUnits season row counts (row .canister) (tenths (10 * k))) 114
+      → WithinAll (2 ^ 28) (openUnits season row counts (row .canister) (tenths (10 * k))) raiseError
       (λ n. mean (λ (cell : ℕ). openVapour n season row (row .canister) (temperature season (endOf cell)) (whole k)) counts)
   vapour-whole-within k h = opened-within s r counts p (whole k) (10 * k) (omega arith) (λ i. temperature-whole i s k) (row .canister)
 
   -- the factors of a car
   car-within : (k : Factor) → WithinAll (2 ^ 28) (carUnits season row counts k) factorError (meanOf (λ n hour d. carFactor n season row hour d k))
   unfolding carUnits carFactor T1 T2 startOf endOf
-  car-within F1 = all-map (λ n a. widen a (omega arith)) diurnal-within
+  car-within F1 = diurnal-within
   car-within F2 = all-map (λ n a. widen a (omega arith)) soak-within
   car-within F3 = sum-within counts _ _ (escape-tenths-within startOf 45 (omega arith)) soak-within (omega arith)
   car-within F4 = sum-within counts _ _ (escape-whole-within startOf 6 (omega arith)) soak-within (omega arith)
@@ -82,7 +82,7 @@ module _ {season : Season} {row : Row} (s : SeasonInRange season) (r : RowInRang
   twoWheeler-within : (k : Factor)
       → WithinAll (2 ^ 28) (twoWheelerUnits season row counts k) factorError (meanOf (λ n hour d. twoWheelerFactor n season row hour d k))
   unfolding twoWheelerUnits twoWheelerFactor T1 T2 startOf endOf
-  twoWheeler-within F1 = all-map (λ n a. widen a (omega arith)) diurnal-within
+  twoWheeler-within F1 = diurnal-within
   twoWheeler-within F2 = all-map (λ n a. widen a (omega arith)) (escape-tenths-within startOf 15 (omega arith))
   twoWheeler-within F3 = all-map (λ n a. widen a (omega arith)) (escape-tenths-within startOf 35 (omega arith))
   twoWheeler-within F4 = all-map (λ n a. widen a (omega arith)) (escape-tenths-within startOf 35 (omega arith))
@@ -108,12 +108,12 @@ factor-within season row counts s r p k = class-within s r counts p k (leb 5 (ro
 -- micrograms that are at most an enclosed value
 low-≤ : {units : ℕ} {x : Fraction} → Within (2 ^ 28) units factorError x → lowMicrograms units /10^ 6 ≤ᶠ x
 unfolding lowMicrograms
-low-≤ {units} a = decimal-≤-within (units * 15625 / 2 ^ 22) 6 (omega arith) a (omega arith)
+low-≤ {units} a = decimal-≤-within (lowMicrograms units) 6 (omega arith) a (omega arith)
 
 -- micrograms that are at least an enclosed value
 ≤-high : {units : ℕ} {x : Fraction} → Within (2 ^ 28) units factorError x → x ≤ᶠ highMicrograms units /10^ 6
 unfolding highMicrograms
-≤-high {units} a = within-≤-decimal ((units + factorError) * 15625 / 2 ^ 22 + 1) 6 (omega arith) a (omega arith)
+≤-high {units} a = within-≤-decimal (highMicrograms units) 6 (omega arith) a (omega arith)
 
 module _ (season : Season) (row : Row) (counts : List ℕ) (s : SeasonInRange season) (r : RowInRange season row) (p : 0 < total counts)
     (k : Factor) (n : ℕ) (n40 : 40 ≤ n)
@@ -126,8 +126,11 @@ module _ (season : Season) (row : Row) (counts : List ℕ) (s : SeasonInRange se
     pub factor-≤-high : factor n counts season row k ≤ᶠ highMicrograms (factorUnits season row counts k) /10^ 6
     factor-≤-high = ≤-high (factor-within season row counts s r p k .at n n40)
 
--- they are at most five apart
-pub high-near-low : (units : ℕ) → highMicrograms units ≤ lowMicrograms units + 5
+-- how far they can be apart
+abbrev pub bandMicrograms : ℕ
+bandMicrograms = 2
+
+pub high-near-low : (units : ℕ) → highMicrograms units ≤ lowMicrograms units + bandMicrograms
 unfolding lowMicrograms highMicrograms
 high-near-low units = omega arith
 

@@ -23,10 +23,11 @@ use Rattle.exact.specs.Permeation.{permeation, parkingPermeation}
 use Rattle.exact.specs.Factors.{vp, rowVapour, rowEscape, escapeOver, openVapour, hours, endHour, duration, total, mean}
 use Rattle.sheet.specs.Range.{SeasonInRange}
 use Rattle.sheet.specs.Range.{markWarmth}
-use Rattle.marks.specs.Marks.{raise, tenths, rate, heatError, raisedError, rateError}
+use Rattle.marks.specs.Marks.{raise, tenths, rate, riseError, raisedError, rateError}
 use Rattle.sheet.proofs.Temperature.{warmth-most, temperature-is}
 use Rattle.marks.proofs.Heat.{raise-within, raise-most}
-use Rattle.marks.proofs.Rise.{rises, rises-cong, vapour-rises, rise-within, rise-most}
+use Rattle.marks.proofs.Rise.{rises, rises-cong, vapour-rises}
+use Rattle.marks.proofs.Curve.{season-rise-within, season-rise-most}
 use Rattle.marks.proofs.Permeation.{permeation-cong, parkingPermeation-cong, rate-within, permeation-within}
 use Rattle.sheet.specs.Range.{RowInRange}
 use Rattle.factors.specs.Means.{meanUnits}
@@ -41,8 +42,15 @@ pub duration-most : (cell : ℕ) → duration cell ≤ 24
 unfolding duration
 duration-most cell = omega arith
 
+-- how far the mean of what escapes can be above the computed one, in units of 2⁻²⁸ g: in a parking, and over a raise
+abbrev pub parkingError : ℕ
+parkingError = 115
+
+abbrev pub raiseError : ℕ
+raiseError = 114
+
 -- nothing, at every cell
-nothing : (counts : List ℕ) → WithinAll (2 ^ 28) 0 114 (λ n. mean (λ (cell : ℕ). whole 0) counts)
+nothing : (counts : List ℕ) → WithinAll (2 ^ 28) 0 raiseError (λ n. mean (λ (cell : ℕ). whole 0) counts)
 nothing counts = all-constant (within-≈ (≈-sym (mean-zero counts)) (weaken (whole-within (2 ^ 28) 0) (omega arith) (omega arith)))
 
 hour-pos : 0 < 60
@@ -53,12 +61,14 @@ hours-is : (n : ℕ) (season : Season) (row : Row) → hours n season row ≈ᶠ
 unfolding hours whole _over_ ratio
 hours-is n season row = omega arith
 
--- the width of the mean of what breaks through, in a parking and over a raise
-parking-fits : (byMileage : Bool) → throughWidth byMileage ((450 * 2 ^ 40 * 313 + 36 * 2 ^ 40 * (24 * (2 * heatError)) + 24 * (2 * heatError) * 313) / 2 ^ 40 + 2) / 2 ^ 12 + 3 ≤ 946
+-- the width of the mean of what breaks through
+parking-fits : (byMileage : Bool)
+    → throughWidth byMileage ((72 * 2 ^ 40 * 313 + 36 * 2 ^ 40 * (2 * riseError) + 2 * riseError * 313) / 2 ^ 40 + 2) / 2 ^ 12 + 3 ≤ parkingError
 parking-fits true = omega arith
 parking-fits false = omega arith
 
-raise-fits : (byMileage : Bool) → throughWidth byMileage ((56 * 2 ^ 40 * 313 + 36 * 2 ^ 40 * (2 * raisedError) + 2 * raisedError * 313) / 2 ^ 40 + 2) / 2 ^ 12 + 3 ≤ 114
+raise-fits : (byMileage : Bool)
+    → throughWidth byMileage ((56 * 2 ^ 40 * 313 + 36 * 2 ^ 40 * (2 * raisedError) + 2 * raisedError * 313) / 2 ^ 40 + 2) / 2 ^ 12 + 3 ≤ raiseError
 raise-fits true = omega arith
 raise-fits false = omega arith
 
@@ -66,7 +76,7 @@ module _ {season : Season} {row : Row} (s : SeasonInRange season) (r : RowInRang
   -- "escape of the parking's vapour"
   pub parking-escape-within :
       WithinAll (2 ^ 28)
-      (escapeUnits season row counts (row .canister) startOf (parkingRise season)) 946
+      (escapeUnits season row counts (row .canister) startOf (parkingRise season)) parkingError
       (λ n.
       mean
       (λ (cell : ℕ).
@@ -74,18 +84,16 @@ module _ {season : Season} {row : Row} (s : SeasonInRange season) (r : RowInRang
       (parkingVapour n (vp n season row) (row .fill /10^ 2) (row .tank /10^ 1) (temperature season) (endHour cell) (duration cell))) counts)
   unfolding rowEscape vp parkingRise
   parking-escape-within =
-      escape-within s r counts p 450 startOf (parkingRise season)
+      escape-within s r counts p 72 startOf (parkingRise season)
       (λ (cell : ℕ). temperature season (startOf cell)) (λ n cell. rises n (λ i. degrees (markWarmth season i)) (endHour cell) (duration cell))
       (λ n cell. parkingVapour n (season .vp /10^ 1) (row .fill /10^ 2) (row .tank /10^ 1) (temperature season) (endHour cell) (duration cell))
       (λ cell. temperature-is (startOf cell) s)
-      (λ cell. rise-most (markWarmth season) (λ i. warmth-most i s) (endHour cell) (duration cell) (duration-most cell))
-      (λ cell.
-      all-map (λ n a. widen {v = 24 * (2 * heatError)} a (omega (arith, duration-most cell)))
-      (rise-within (markWarmth season) (λ i. warmth-most i s) (endHour cell) (duration cell) (omega (arith, duration-most cell))))
+      (λ cell. omega (arith, season-rise-most s (endHour cell) (duration cell) (duration-most cell)))
+      (λ cell. season-rise-within s (endHour cell) (duration cell) (duration-most cell))
       (λ n cell.
       ≈-trans (vapour-rises n (season .vp /10^ 1) (row .fill /10^ 2) (row .tank /10^ 1) (temperature season) (endHour cell) (duration cell))
       (*-cong (≈-refl _) (rises-cong n (endHour cell) (duration cell) (λ i. temperature-is i s))))
-      (row .canister) refl 946 (omega arith) parking-fits
+      (row .canister) refl parkingError (omega arith) parking-fits
 
   -- a raise of the temperature by k tenths, at most 6 °C, from a mark that each cell names
   module _ (mark : ℕ → ℕ) (amount : Fraction) (k : ℕ) (k-most : k ≤ 60)
@@ -112,18 +120,18 @@ module _ {season : Season} {row : Row} (s : SeasonInRange season) (r : RowInRang
 
       -- "escape from T1 to T1 + 4.5", and the other raises
       pub over-within :
-          WithinAll (2 ^ 28) (escapeOverUnits season row counts mark (tenths k)) 114
+          WithinAll (2 ^ 28) (escapeOverUnits season row counts mark (tenths k)) raiseError
           (λ n. mean (λ (cell : ℕ). escapeOver n season row (temperature season (mark cell)) amount) counts)
       unfolding escapeOverUnits escapeOver rowEscape vp
       over-within =
           escape-within s r counts p 56 mark (λ (cell : ℕ). raise (tenths k) (markWarmth season (mark cell))) (λ (cell : ℕ). temperature season (mark cell))
           exactRise (λ n cell. rowVapour n season row (temperature season (mark cell)) (temperature season (mark cell) +ᶠ amount))
-          (λ cell. temperature-is (mark cell) s) raise-small raise-known raise-driven (row .canister) refl 114 (omega arith) raise-fits
+          (λ cell. temperature-is (mark cell) s) raise-small raise-known raise-driven (row .canister) refl raiseError (omega arith) raise-fits
 
   -- "without canister the vapour from T2 to T2 + 1 or T2 + 5", from the end of the parking
   pub opened-within : (amount : Fraction) (k : ℕ) → k ≤ 60 → ((i : ℕ) → temperature season i +ᶠ amount ≈ᶠ degrees (markWarmth season i + tenths k))
       → (c : Canister)
-      → WithinAll (2 ^ 28) (openUnits season row counts c (tenths k)) 114
+      → WithinAll (2 ^ 28) (openUnits season row counts c (tenths k)) raiseError
       (λ n. mean (λ (cell : ℕ). openVapour n season row c (temperature season (endOf cell)) amount) counts)
   unfolding openUnits openVapour
   opened-within amount k h raised None =

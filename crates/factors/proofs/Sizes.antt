@@ -24,7 +24,7 @@ use Rattle.marks.specs.Marks.{raise, tenths, rate}
 use Rattle.marks.proofs.Most.{within-most}
 use Rattle.sheet.proofs.Temperature.{warmth-most}
 use Rattle.marks.proofs.Heat.{raise-most}
-use Rattle.marks.proofs.Rise.{rise-most}
+use Rattle.marks.proofs.Curve.{season-rise-most}
 use Rattle.marks.proofs.Permeation.{rate-most, rates-most}
 use Rattle.sheet.specs.Range.{RowInRange}
 use Rattle.factors.specs.Means.{meanUnits}
@@ -39,7 +39,7 @@ use Rattle.factors.proofs.Losses.{duration-most}
 
 -- factor k is below so many grams: a diurnal loss, a soak or a trip
 abbrev pub gramsLimit : Factor → ℕ
-gramsLimit F1 = 17000
+gramsLimit F1 = 2700
 gramsLimit F2 = 2500
 gramsLimit F3 = 2500
 gramsLimit F4 = 2500
@@ -106,9 +106,9 @@ module _ {season : Season} {row : Row} (s : SeasonInRange season) (r : RowInRang
   throughUnits-most i rise = break-most _ _ _ _ _ _ (start-below _ _) (loss-exponent-most i _)
 
   -- the rise over a cell's parking
-  pub parking-rise-most : (cell : ℕ) → parkingRise season cell ≤ 450 * 2 ^ 40
+  pub parking-rise-most : (cell : ℕ) → parkingRise season cell ≤ 72 * 2 ^ 40
   unfolding parkingRise
-  parking-rise-most cell = rise-most (markWarmth season) (λ i. warmth-most i s) (endHour cell) (duration cell) (duration-most cell)
+  parking-rise-most cell = omega (arith, season-rise-most s (endHour cell) (duration cell) (duration-most cell))
 
   -- the rise over a raise of at most 6 °C from mark i
   pub raise-rise-most : (k i : ℕ) → k ≤ 60 → raise (tenths k) (markWarmth season i) ≤ 56 * 2 ^ 40
@@ -143,10 +143,10 @@ module _ {season : Season} {row : Row} (s : SeasonInRange season) (r : RowInRang
     escape-most R mark rise h Large = through-most R mark rise h
 
     -- factor 1
-    diurnal-most : diurnalUnits season row counts ≤ 16233 * 2 ^ 28
+    diurnal-most : diurnalUnits season row counts ≤ 2625 * 2 ^ 28
     unfolding diurnalUnits
     diurnal-most =
-        omega (arith, escape-most 450 startOf (parkingRise season) parking-rise-most (row .canister), meanUnits-most counts (λ (cell : ℕ). parkingRates season cell / 2) (12 * 2 ^ 28) (λ cell. omega (arith, parking-permeation-most cell)))
+        omega (arith, escape-most 72 startOf (parkingRise season) parking-rise-most (row .canister), meanUnits-most counts (λ (cell : ℕ). parkingRates season cell / 2) (12 * 2 ^ 28) (λ cell. omega (arith, parking-permeation-most cell)))
 
     -- the mean escape over a raise
     over-most : (mark : ℕ → ℕ) (k : ℕ) → k ≤ 60 → escapeOverUnits season row counts mark (tenths k) ≤ 2037 * 2 ^ 28

@@ -12,7 +12,7 @@ use Rattle.exact.specs.Day.{startMark}
 use Rattle.exact.specs.Factors.{Factor, F1, F2, F3, F4, F5, F6, F7, endHour, duration}
 use Rattle.starting_loads.specs.Net.{startUnits}
 use Rattle.sheet.specs.Range.{markWarmth, halves}
-use Rattle.marks.specs.Marks.{stepAt, raise, tenths, rate, passed}
+use Rattle.marks.specs.Marks.{stepAt, riseError, raise, tenths, rate, passed}
 use Rattle.factors.specs.Escape.{tenthGrams, base, growth, drivenError, writtenError, breakUnits}
 use Rattle.factors.specs.Means.{meanUnits}
 
@@ -23,9 +23,9 @@ startOf cell = startMark (endHour cell) (duration cell)
 unfoldable pub endOf : ℕ → ℕ
 endOf cell = startMark (endHour cell) 0
 
--- how much E(0.0716·T) rises over the steps of a cell's parking that rise
+-- how much E(0.0716·T) rises over the steps of a cell's parking that rise, from below
 unfoldable pub parkingRise : Season → ℕ → ℕ
-parkingRise season cell = passed (stepAt (markWarmth season)) (endHour cell) (duration cell)
+parkingRise season cell = passed (stepAt (markWarmth season)) (endHour cell) (duration cell) - riseError
 
 -- the hourly permeation at the marks of a cell's parking, summed
 unfoldable pub parkingRates : Season → ℕ → ℕ
@@ -122,7 +122,7 @@ module _ (season : Season) (row : Row) where
 
 -- how far factor k can be above `factorUnits`
 abbrev pub factorError : ℕ
-factorError = 950
+factorError = 188
 
 -- micrograms, cut down, and cut up: 10⁶/2²⁸ is 15625/2²²
 unfoldable pub lowMicrograms : ℕ → ℕ

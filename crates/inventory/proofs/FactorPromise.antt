@@ -18,7 +18,7 @@ use Rattle.report_words.proofs.AcceptedRange.{enclosed}
 use Rattle.inventory.proofs.CallConditions.{factor-accepted, factor-judged, factor-says, number-zero}
 
 module _ (s : List ℕ) (season row k : ℕ) (bytes : Bytes s) where
-  -- "low and high micrograms, at most 1,000 apart", around the exact factor
+  -- "at most 10 micrograms apart", around the exact factor
   factor-band : factorCheck s season row k ≡ Pass
       → FactorBand s season row k (lowMicrograms (unitsAt s season row k)) (highMicrograms (unitsAt s season row k))
   unfolding unitsAt
@@ -29,7 +29,6 @@ module _ (s : List ℕ) (season row k : ℕ) (bytes : Bytes s) where
         above = e .above (numbered k);
         below = e .below (numbered k);
         narrow = omega (arith, high-near-low (unitsAt s season row k));
-        narrower = high-near-low (unitsAt s season row k);
       }
 
   -- for either outcome of the checks

@@ -45,12 +45,11 @@ answered (Refused number place) units = answer.Refused number place
 unfoldable pub factorAnswer : List ℕ → ℕ → ℕ → ℕ → FactorAnswer
 factorAnswer s season row k = answered (factorCheck s season row k) (unitsAt s season row k)
 
--- "low and high micrograms, at most 1,000 apart", around the exact factor for every n from 40 upward; they are in fact at most 5 apart
+-- "The factor call's low and high are at most 10 micrograms apart", around the exact factor for every n from 40 upward
 pub record FactorBand (s : List ℕ) (season row k low high : ℕ) : Type 0 where
   pub above : (n : ℕ) → 40 ≤ n → low /10^ 6 ≤ᶠ factor n (cellsOf s) (seasonAt s season) (rowAt s row) (numbered k)
   pub below : (n : ℕ) → 40 ≤ n → factor n (cellsOf s) (seasonAt s season) (rowAt s row) (numbered k) ≤ᶠ high /10^ 6
-  pub narrow : high ≤ low + 1000
-  pub narrower : high ≤ low + 5
+  pub narrow : high ≤ low + 10
 
 -- "a definition gives this paper's number and values for each of the enum's cases": number 0 stands for a band, and a refusal has none
 unfoldable pub answerNumber : FactorAnswer → ℕ

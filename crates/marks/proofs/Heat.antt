@@ -12,6 +12,7 @@ use Rattle.numbers.proofs.Order.{≈-sym, *-mono-right, decimal-nonNegative}
 use Rattle.bounds.proofs.Within.{widen, weaken, within-≈, sub-within, all-map, all-map₂}
 use Rattle.bounds.proofs.Exponential.{E-cong, E-mono}
 use Rattle.bounds.proofs.ExponentialBound.{exponential-within, exponentialError-3·6, exponentialError-4·1}
+use Rattle.bounds.proofs.Growth.{exponential-mono}
 use Rattle.sheet.proofs.Temperature.{degrees-mono}
 use Rattle.marks.proofs.Most.{exponential-most}
 use Rattle.marks.specs.Marks.{heat, heatError, raisedError, raise}
@@ -28,6 +29,11 @@ exponent-is θ = omega arith
 -- E(0.0716·T) grows with T
 pub heat-mono : (n : ℕ) {T U : Fraction} → T ≤ᶠ U → E n (716 /10^ 4 *ᶠ T) ≤ᶠ E n (716 /10^ 4 *ᶠ U)
 heat-mono n h = E-mono n (*-mono-right (decimal-nonNegative 716 4) h)
+
+-- so does the computed one
+pub heat-grows : {θ θ' : ℕ} → θ ≤ θ' → θ' ≤ 80 * 10 ^ 10 → heat θ ≤ heat θ'
+unfolding heat
+heat-grows h l = exponential-mono (omega arith) (omega arith)
 
 -- k °C above −30 and 0.0716 times it: 716·(k − 30)
 warm-≤ : {θ : ℕ} (k last : ℕ) → 716 * k ≡ last + 21480 → θ ≤ k * 10 ^ 10 → 716 /10^ 4 *ᶠ degrees θ ≤ᶠ last /10^ 4

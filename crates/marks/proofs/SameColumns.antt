@@ -7,7 +7,7 @@ use native.Mathlib.Omega.{arith}
 use lib.ListN.{getD}
 use Rattle.numbers.specs.Lists.{tab}
 use Rattle.numbers.proofs.Lists.{tab-ext, getD-tab}
-use Rattle.marks.specs.Marks.{heat, heatError, raisedError, stepAt, raise, pressureFactor, bracketUnits, rate}
+use Rattle.marks.specs.Marks.{heat, raisedError, stepAt, raise, pressureFactor, bracketUnits, rate}
 
 module _ (θ : ℕ → ℕ) {warmths : List ℕ} (e : warmths ≡ tab θ 48) where
   -- θ k stands at k
@@ -25,7 +25,7 @@ module _ (θ : ℕ → ℕ) {warmths : List ℕ} (e : warmths ≡ tab θ 48) whe
     heat-at k h = rw (g, getD-tab (λ (i : ℕ). heat (getD warmths i 0)) 48 k h, warmth-at k h)
 
     -- the rises from each mark to the next
-    pub steps-are : tab (λ (i : ℕ). getD heats ((i + 1) % 48) 0 - (getD heats i 0 + heatError)) 48 ≡ tab (stepAt θ) 48
+    pub steps-are : tab (λ (i : ℕ). getD heats ((i + 1) % 48) 0 - getD heats i 0) 48 ≡ tab (stepAt θ) 48
     unfolding stepAt
     steps-are = tab-ext 48 (λ k h. rw (heat-at ((k + 1) % 48) (mod-lt (k + 1) (omega arith)), heat-at k h))
 

@@ -16,9 +16,17 @@ heatError = 291
 abbrev pub raisedError : ℕ
 raisedError = 475
 
--- how much E(0.0716·T) rises from mark i to the next, from below; 0 where it falls
+-- how much `heat` rises from mark i to the next; 0 where it falls
 unfoldable pub stepAt : (ℕ → ℕ) → ℕ → ℕ
-stepAt θ i = heat (θ ((i + 1) % 48)) - (heat (θ i) + heatError)
+stepAt θ i = heat (θ ((i + 1) % 48)) - heat (θ i)
+
+-- runs of rising steps that a parking can have in a season's day
+abbrev pub runsMost : ℕ
+runsMost = 2
+
+-- how far these steps, summed over a parking, can be above the exact rise, or below it: within a run the errors of the marks cancel
+abbrev pub riseError : ℕ
+riseError = runsMost * heatError
 
 -- how much E(0.0716·T) rises when T is raised by r, from below
 unfoldable pub raise : ℕ → ℕ → ℕ

@@ -3,6 +3,7 @@ use bounds::exp::ZERO;
 use bounds::exp::exponential;
 use bounds::fixed::mul_shift;
 use bounds::hours::weights_table;
+use bounds::order::less;
 use bounds::power::power;
 use exact::Season;
 use fields::warmth;
@@ -15,7 +16,7 @@ ghost use Rattle.bounds.specs.Weights.{weights};
 ghost use Rattle.sheet.specs.Limits.{vpLimit};
 ghost use Rattle.sheet.specs.Range.{warmth, warmthLimit, markWarmth, SeasonInRange};
 ghost use Rattle.marks.specs.AtMarks.{AtMarks};
-ghost use Rattle.marks.specs.Marks.{heat, heatError, raisedError, pressureFactor, bracketUnits};
+ghost use Rattle.marks.specs.Marks.{heat, raisedError, pressureFactor, bracketUnits};
 
 // What a season needs at its marks 0 to 47.
 pub struct Marks {
@@ -51,9 +52,7 @@ const POWER_RATE: u64 = 444278301800;
 
 const CONSTANT_RATE: u64 = 22649939532;
 
-// How far E(0.0716 T) can be above `heat_at`, up to 50 °C and up to 56 °C.
-const HEAT_ERROR: u64 = 291;
-
+// How far E(0.0716 T) can be above `heat_at`, up to 56 °C.
 const RAISED_ERROR: u64 = 475;
 
 // The temperature at a mark, from the lowest of the day, the span up to the highest, and the mark's weight.
@@ -120,13 +119,12 @@ fn above(a: u64, b: u64, error: u64) -> u64
 
 // The rise of E(0.0716 T) from each mark to the next, where it rises.
 fn steps(heats: [u64; 48]) -> [u64; 48]
-    requires { ⌜ AllAtMost (56 * 2 ^ 40) heats ⌝ }
-    ensures { λ r. ⌜ r ≡ tab (λ (i : ℕ). getD heats ((i + 1) % 48) 0 - (getD heats i 0 + heatError)) 48 ⌝ }
+    ensures { λ r. ⌜ r ≡ tab (λ (i : ℕ). getD heats ((i + 1) % 48) 0 - getD heats i 0) 48 ⌝ }
 {
     let mut out = [0u64; 48];
     let mut i: usize = 0;
     while i < 48 {
-        out[i] = above(heats[(i + 1) % 48], heats[i], HEAT_ERROR);
+        out[i] = less(heats[(i + 1) % 48], heats[i]);
         i += 1;
     }
     out

@@ -12,7 +12,7 @@ use Rattle.masses.specs.Figures.{blended, dayFigure}
 
 -- how large a diurnal factor and any other can be, in micrograms
 abbrev pub diurnalLimit : ℕ
-diurnalLimit = 17000 * 10 ^ 6
+diurnalLimit = 2700 * 10 ^ 6
 
 abbrev pub tripLimit : ℕ
 tripLimit = 2500 * 10 ^ 6

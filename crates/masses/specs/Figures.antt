@@ -58,11 +58,10 @@ hundredths row diurnal = 100
 hundredths row soak = row .trips
 hundredths row running = row .trips
 
--- "Each of a row's three exact masses in grams, times 1,000, is at least its low and at most its high. With V the row's vehicles
--- times the days of all seasons, high less low is at most V + 2 for diurnal and V·trips + 2 for soak and for running."
--- Both times 100, since trips are in hundredths. In fact V and V·trips count for a hundredth.
+-- "Each of a row's three exact masses in grams, times 1,000, is at least its low and at most its high." With V the row's vehicles times
+-- the days of all seasons, high less low is at most V/100 + 2 for diurnal and V·trips/100 + 2 for soak and for running: "A row's width
+-- per vehicle and day, or trip, falls to a hundredth of a milligram, the two milligrams kept." Times 10,000, since trips are in hundredths.
 pub record MassBand (counts : List ℕ) (seasons : List Season) (row : Row) (mechanism : Mechanism) (low high : ℕ) : Type 0 where
   pub above : (n : ℕ) → 40 ≤ n → whole low ≤ᶠ mass n counts seasons row mechanism *ᶠ whole 1000
   pub below : (n : ℕ) → 40 ≤ n → mass n counts seasons row mechanism *ᶠ whole 1000 ≤ᶠ whole high
-  pub narrow : 100 * high ≤ 100 * low + row .vehicles * allDays seasons * hundredths row mechanism + 200
-  pub narrower : 10000 * high ≤ 10000 * low + row .vehicles * allDays seasons * hundredths row mechanism + 20000
+  pub narrow : 10000 * high ≤ 10000 * low + row .vehicles * allDays seasons * hundredths row mechanism + 20000

@@ -1,7 +1,8 @@
 -- The walk gives what passed in every parking; over the steps and the permeation of any mark temperatures it encloses document 01's sums.
+use mathlib.Core.Bool.{false}
 use mathlib.Core.List.{List, _++_}
 use mathlib.Core.Path.{_≡_, refl, sym, _∙_, ap, ap₂}
-use Prim.Native.Nat.{ℕ, zero, suc, _+_, _*_, _/_, _%_, _^_, _≤_, _<_}
+use Prim.Native.Nat.{ℕ, zero, suc, _+_, _*_, _-_, _/_, _%_, _^_, _≤_, _<_}
 use native.Mathlib.Nat.{le-dest, lt-of-not-le}
 use native.Mathlib.Decide.{decLe}
 use native.Mathlib.Omega.{arith}
@@ -18,7 +19,8 @@ use Rattle.exact.specs.Permeation.{parkingPermeation}
 use Rattle.exact.specs.Factors.{endHour, duration}
 use Rattle.sheet.specs.Limits.{vpLimit}
 use Rattle.marks.specs.Marks.{stepAt, heatError, rate, rateError, passed}
-use Rattle.marks.proofs.Rise.{rises, gain, rise-within, vapour-rises}
+use Rattle.marks.proofs.Rise.{rises, gain, vapour-rises}
+use Rattle.marks.proofs.Runs.{rising, shape, runs, rise-within}
 use Rattle.marks.proofs.Permeation.{permeation-within}
 use Rattle.parking.specs.Grid.{passedIn}
 use Rattle.parking.specs.Walk.{stepsBack, walked}
@@ -98,10 +100,12 @@ module _ (θ : ℕ → ℕ) (warm : (i : ℕ) → θ i ≤ 80 * 10 ^ 10) (h k : 
       let half-hours : (24 * h + k) % 24 + 1 ≡ suc k = omega arith in
       walked-at (tab g 48) 24 (24 * h + k) (omega arith) ∙ (rw (hours, half-hours) at (passedIn-tab g refl (24 * h + k)))
 
-  -- the carried rise encloses the exact sum over the parking's steps that rise, for every n from 40 upward
-  pub carried-rise :
-      WithinAll (2 ^ 40) (at (walked (tab (stepAt θ) 48) 24) (24 * h + k)) (suc k * (2 * heatError)) (λ n. rises n (λ i. degrees (θ i)) (suc h) (suc k))
-  carried-rise = rw (there (stepAt θ)) (rise-within θ warm (suc h) (suc k) (omega arith))
+  -- the carried rise encloses the exact sum over the parking's steps that rise, for every n from 40 upward: for r runs of rising steps
+  -- it is within the errors of r marks, either way
+  pub carried-rise : (r : ℕ) → runs false (rising θ) (suc h) (suc k) ≤ r
+      → WithinAll (2 ^ 40) (at (walked (tab (stepAt θ) 48) 24) (24 * h + k) - r * heatError) (2 * (r * heatError))
+      (λ n. rises n (λ i. degrees (θ i)) (suc h) (suc k))
+  carried-rise r few = rw (there (stepAt θ)) (rise-within warm (shape θ) (suc h) (suc k) r (omega arith) few)
 
   -- of which document 01's vapour of the parking is a multiple that no mark changes
   pub carried-vapour : (n : ℕ) (vp fill tank : Fraction)

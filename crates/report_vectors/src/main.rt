@@ -4,6 +4,7 @@
 use libc::STDIN_FILENO;
 use sheet::Check;
 use vectors::input::COUNT;
+use vectors::input::mileage_at;
 use vectors::input::record_at;
 use vectors::input::u16_at;
 use vectors::input::u32_at;
@@ -34,10 +35,13 @@ const HEAD: usize = 10;
 // The bytes of as many rows as a sheet can have
 const ROWS: usize = 72000;
 
-// What is looked at in one pass: the bands of mass 0, 1 or 2, the sums of the accepted sheets, or the refusals
+// What is looked at in one pass: the bands of mass 0, 1 or 2, the sums of the accepted sheets, the refusals, or, from DRIVEN on, the bands
+// of mass 0, 1 or 2 of rows with a mileage
 const SUMS: usize = 3;
 
 const REFUSALS: usize = 4;
+
+const DRIVEN: usize = 5;
 
 // The words of a sheet's buffer, as far as there is room, and the answer that is expected
 struct Head {
@@ -79,14 +83,31 @@ fn with_band(
     tally.with(verdict)
 }
 
-// The bands of one mass of a sheet's rows
-fn with_bands(words: &[u64; 6144], rows: &[u8], mass: usize, sheet: u64, before: Tally) -> Tally
-    requires { ⌜ (length (now rows) ≤ 72000) × (mass ≤ 2) ⌝ }
+// The mass whose bands a pass looks at
+fn mass_of(pass: usize) -> usize
+    ensures { λ r. ⌜ r ≤ 2 ⌝ }
 {
+    pass % DRIVEN % 3
+}
+
+// The bands of one mass of a sheet's rows
+fn with_bands(
+    s: &[u8],
+    words: &[u64; 6144],
+    rows: &[u8],
+    pass: usize,
+    sheet: u64,
+    before: Tally,
+) -> Tally
+    requires { ⌜ length (now rows) ≤ 72000 ⌝ }
+{
+    let mass = mass_of(pass);
     let mut tally = before;
     let mut row = 0;
     while row < rows.len() / ROW {
-        tally = with_band(words, rows, row, mass, sheet, tally);
+        if (pass < DRIVEN) | (mileage_at(s, row as u64) != 0) {
+            tally = with_band(words, rows, row, mass, sheet, tally);
+        }
         row += 1;
     }
     tally
@@ -118,7 +139,7 @@ fn answers(found: Check, head: Head) -> bool {
 
 // A tally with one sheet more: all its bands of one mass, its sums or its refusal
 fn with_sheet(s: &[u8], rows: &[u8], head: Head, pass: usize, sheet: u64, tally: Tally) -> Tally
-    requires { ⌜ (head .room ≤ 6144) × (length (now rows) ≤ 72000) × (pass ≤ 4) ⌝ }
+    requires { ⌜ (head .room ≤ 6144) × (length (now rows) ≤ 72000) ⌝ }
 {
     let room = head.room;
     let mut words = [OLD; 6144];
@@ -129,7 +150,7 @@ fn with_sheet(s: &[u8], rows: &[u8], head: Head, pass: usize, sheet: u64, tally:
     if pass == SUMS {
         return with_verdict(right & sums_right(&words, rows), sheet, tally);
     }
-    with_bands(&words, rows, pass, sheet, tally)
+    with_bands(s, &words, rows, pass, sheet, tally)
 }
 
 // Whether a pass looks at the sheets with this number
@@ -142,9 +163,7 @@ fn looks_at(pass: usize, number: u64) -> bool {
 }
 
 // The sheets of one pass, up to the first that the end of the input cuts
-fn tally_of(s: &[u8], pass: usize) -> Tally
-    requires { ⌜ pass ≤ 4 ⌝ }
-{
+fn tally_of(s: &[u8], pass: usize) -> Tally {
     let mut tally = Tally::none();
     let mut sheet: u64 = 0;
     let mut at = 0;
@@ -172,7 +191,7 @@ fn print(name: &[u8], tally: Tally) {
     number(b" right ", tally.right);
 }
 
-// The line of one mass
+// The line of one mass, of all rows and of those with a mileage
 fn print_bands(s: &[u8], mass: usize, name: &[u8], unit: &[u8])
     requires { ⌜ mass ≤ 2 ⌝ }
 {
@@ -180,13 +199,17 @@ fn print_bands(s: &[u8], mass: usize, name: &[u8], unit: &[u8])
     print(name, tally);
     number(b" widest ", tally.widest);
     text(unit);
+    let driven = tally_of(s, DRIVEN + mass);
+    print(b", with a mileage ", driven);
+    number(b" widest ", driven.widest);
+    text(b" ng\n");
 }
 
 // A line for each pass, and how many sheets the last two looked at
 fn print_passes(s: &[u8]) -> u64 {
-    print_bands(s, 0, b"diurnal bands ", b" ng a vehicle and day\n");
-    print_bands(s, 1, b"soak bands ", b" ng a trip\n");
-    print_bands(s, 2, b"running bands ", b" ng a trip\n");
+    print_bands(s, 0, b"diurnal bands ", b" ng a vehicle and day");
+    print_bands(s, 1, b"soak bands ", b" ng a trip");
+    print_bands(s, 2, b"running bands ", b" ng a trip");
     let sums = tally_of(s, SUMS);
     print(b"sums of accepted sheets ", sums);
     let refusals = tally_of(s, REFUSALS);

@@ -1,22 +1,20 @@
 -- What a season and a row of an accepted sheet give to the calculation of their factors.
 use mathlib.Core.List.{List}
-use mathlib.Core.Path.{_≡_, _∙_}
-use Prim.Native.Nat.{ℕ, _^_, _<_}
+use mathlib.Core.Path.{_≡_, _∙_, ap}
+use Prim.Native.Nat.{ℕ, _-_, _^_, _<_}
 use native.Mathlib.Omega.{arith}
-use Rattle.numbers.specs.Lists.{AllAtMost}
+use Rattle.numbers.specs.Lists.{tab, AllAtMost}
 use Rattle.numbers.proofs.Lists.{tab-ext, tab-at-most}
 use Rattle.exact.specs.declared.Season.{Season}
 use Rattle.marks.specs.declared.Marks.{Marks}
 use Rattle.sheet.specs.Range.{SeasonInRange}
 use Rattle.sheet.specs.Range.{markWarmth}
-use Rattle.marks.specs.Marks.{stepAt}
+use Rattle.marks.specs.Marks.{stepAt, riseError}
 use Rattle.marks.specs.AtMarks.{AtMarks}
 use Rattle.marks.proofs.Rise.{step-most}
 use Rattle.sheet.proofs.Temperature.{warmth-most}
 use Rattle.factors.specs.Units.{parkingRise}
-use Rattle.parking.specs.Walk.{walked}
-use Rattle.parking.proofs.Walked.{walked-is}
-use Rattle.parking.specs.Grid.{cellsIn}
+use Rattle.parking.specs.Grid.{cellsIn, passedIn}
 use Rattle.parking.proofs.Passed.{passedIn-tab}
 use Rattle.row_factors.specs.declared.season.AtSeason.{AtSeason}
 use Rattle.row_factors.specs.Season.{MarksReady, AtSeasonOf}
@@ -37,12 +35,12 @@ pub steps-most : {season : Season} {marks : Marks} → SeasonInRange season → 
 steps-most {season} s m =
     tab-at-most _ 48 (m .step-is) (λ mark _. omega (arith, step-most (markWarmth season) (λ i. warmth-most i s) mark))
 
--- what is walked over them are the rises of the parkings
+-- what passed of them, less the error, are the rises of the parkings
 pub marks-ready : {season : Season} {marks : Marks} {rises : List ℕ} → SeasonInRange season → AtMarks season marks
-    → rises ≡ walked (marks .step) 24 → MarksReady season marks rises
+    → rises ≡ tab (λ (cell : ℕ). passedIn (marks .step) cell - riseError) 576 → MarksReady season marks rises
 unfolding parkingRise
 marks-ready {season} s m e =
-    record { season-in = s; marks-are = m; rises-are = e ∙ walked-is _ ∙ tab-ext 576 (λ cell _. passedIn-tab (stepAt (markWarmth season)) (m .step-is) cell) }
+    record { season-in = s; marks-are = m; rises-are = e ∙ tab-ext 576 (λ cell _. ap (λ (x : ℕ). x - riseError) (passedIn-tab (stepAt (markWarmth season)) (m .step-is) cell)) }
 
 -- season j of the sheet, with its means
 pub season-lent : {s tables grid rises : List ℕ} {season : Season} {marks : Marks} {at : AtSeason} {j : ℕ} → Bytes s → SheetLent s tables grid

@@ -4,7 +4,7 @@ use bounds::exp::tables;
 use fields::row_at;
 use fields::season_at;
 use marks::at_marks;
-use parking::walk::walk;
+use parking::walk::rises;
 use row_factors::season::at_season;
 use row_factors::units::row_units;
 ghost use mathlib.Core.Path.{_≡_};
@@ -29,7 +29,7 @@ fn units_with(
 {
     let season = season_at(s, season);
     let marks = at_marks(tables, season);
-    let rises = walk(&marks.step);
+    let rises = rises(&marks.step);
     let at = at_season(grid, &rises, season, marks);
     row_units(tables, grid, &rises, at, row_at(s, row))
 }

@@ -7,7 +7,7 @@ use fields::season_at;
 use fields::seasons_of;
 use marks::at_marks;
 use masses::figures::row_figures;
-use parking::walk::walk;
+use parking::walk::rises;
 use row_factors::season::AtSeason;
 use row_factors::season::at_season;
 ghost use mathlib.Core.Path.{_≡_};
@@ -75,7 +75,7 @@ fn add_season(tables: &[u64; 578], grid: &[u64; 673], s: &[u8], j: usize, words:
 {
     let season = season_at(s, j);
     let marks = at_marks(tables, season);
-    let rises = walk(&marks.step);
+    let rises = rises(&marks.step);
     let at = at_season(grid, &rises, season, marks);
     add_rows(tables, grid, &rises, at, s, words);
 }

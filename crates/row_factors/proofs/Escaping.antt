@@ -19,7 +19,7 @@ use Rattle.exact.specs.Factors.{endHour, duration}
 use Rattle.marks.specs.AtMarks.{AtMarks, raisesBy, ratesAt}
 use Rattle.marks.proofs.Heat.{raise-most}
 use Rattle.marks.proofs.Permeation.{rate-most}
-use Rattle.marks.proofs.Rise.{rise-most}
+use Rattle.marks.proofs.Curve.{season-rise-most}
 use Rattle.sheet.proofs.Temperature.{warmth-most}
 use Rattle.factors.proofs.Losses.{duration-most}
 use Rattle.sheet.specs.Range.{SeasonInRange}
@@ -104,9 +104,9 @@ module _ {season : Season} (s : SeasonInRange season) where
   pub rate-list-fits : (k : ℕ) {xs : List ℕ} → k ≤ 150 → xs ≡ tab (ratesAt season k) 48 → AllAtMost (2 ^ 54) xs
   rate-list-fits k h e = record { at-most = λ i. omega (arith, rate-list-most k h e .at-most i) }
 
-  pub rises-most : {xs : List ℕ} → xs ≡ tab (parkingRise season) 576 → AllAtMost (450 * 2 ^ 40) xs
+  pub rises-most : {xs : List ℕ} → xs ≡ tab (parkingRise season) 576 → AllAtMost (72 * 2 ^ 40) xs
   unfolding parkingRise
-  rises-most e = tab-at-most _ 576 e (λ cell _. rise-most (markWarmth season) (λ i. warmth-most i s) (endHour cell) (duration cell) (duration-most cell))
+  rises-most e = tab-at-most _ 576 e (λ cell _. omega (arith, season-rise-most s (endHour cell) (duration cell) (duration-most cell)))
 
 -- A row with a canister, whose values at the marks these are.
 module _ {season : Season} {row : Row} {c : Curves} (f : CurvesOf season row c) (p : 0 < halves (row .canister)) (cells : List ℕ) where
@@ -146,7 +146,7 @@ module _ {tables grid rises : List ℕ} {given : AtSeason} {row : Row} {vapour :
   fitted : CurvesReady c
   fitted = curves-ready (marks-of .season-in) (q .0 .row-in) (q .1) f
 
-  pub parking-needs : (tables ≡ entries) × GridReady grid × CurvesReady c × AllAtMost (450 * 2 ^ 40) rises
+  pub parking-needs : (tables ≡ entries) × GridReady grid × CurvesReady c × AllAtMost (72 * 2 ^ 40) rises
   parking-needs = (q .0 .lent .tables-are, q .0 .lent .grid-ready, fitted, rises-most (marks-of .season-in) (marks-of .rises-are))
 
   pub parking-right : {x : ℕ} → x ≡ parkingThrough (cellsIn grid) rises c → x ≡ parkingEscape (given .season) row (cellsIn grid)
@@ -166,11 +166,11 @@ module _ {tables grid rises : List ℕ} {given : AtSeason} {row : Row} {vapour :
   season-ok : SeasonInRange (given .season)
   season-ok = r .lent .marks-ready .season-in
 
-  rise-mean-most : given .means .rise ≤ 450 * 2 ^ 40
+  rise-mean-most : given .means .rise ≤ 72 * 2 ^ 40
   rise-mean-most =
-      omega (arith, r .lent .means-are .rise-is, meanUnits-most (cellsIn grid) (parkingRise (given .season)) (450 * 2 ^ 28) (λ cell. omega (arith, parking-rise-most season-ok (r .row-in) cell)))
+      omega (arith, r .lent .means-are .rise-is, meanUnits-most (cellsIn grid) (parkingRise (given .season)) (72 * 2 ^ 28) (λ cell. omega (arith, parking-rise-most season-ok (r .row-in) cell)))
 
-  raise-mean-most : (mark : ℕ → ℕ) (k : ℕ) {x : ℕ} → k ≤ 60 → x ≡ meanAt (cellsIn grid) mark (raisesBy (given .season) k) → x ≤ 450 * 2 ^ 40
+  raise-mean-most : (mark : ℕ → ℕ) (k : ℕ) {x : ℕ} → k ≤ 60 → x ≡ meanAt (cellsIn grid) mark (raisesBy (given .season) k) → x ≤ 72 * 2 ^ 40
   raise-mean-most mark k h e =
       omega (arith, e, meanUnits-most (cellsIn grid) (λ (cell : ℕ). raisesBy (given .season) k (mark cell)) (56 * 2 ^ 28) (λ cell. omega (arith, raise-rise-most season-ok (r .row-in) k (mark cell) h)))
 
@@ -178,7 +178,7 @@ module _ {tables grid rises : List ℕ} {given : AtSeason} {row : Row} {vapour :
   pub open-needs : (i j k l : ℕ) {a b c d : ℕ} → i ≤ 60 → j ≤ 60 → k ≤ 60 → l ≤ 60
       → a ≡ meanAt (cellsIn grid) startOf (raisesBy (given .season) i) → b ≡ meanAt (cellsIn grid) startOf (raisesBy (given .season) j)
       → c ≡ meanAt (cellsIn grid) endOf (raisesBy (given .season) k) → d ≡ meanAt (cellsIn grid) endOf (raisesBy (given .season) l)
-      → (vapour < 2 ^ 50) × AllAtMost (450 * 2 ^ 40) (given .means .rise ∷ a ∷ b ∷ c ∷ d ∷ [])
+      → (vapour < 2 ^ 50) × AllAtMost (72 * 2 ^ 40) (given .means .rise ∷ a ∷ b ∷ c ∷ d ∷ [])
   open-needs i j k l hi hj hk hl ei ej ek el =
       (omega (arith, r .vapour-is, gain-most season-ok (r .row-in)), five-most rise-mean-most (raise-mean-most startOf i hi ei) (raise-mean-most startOf j hj ej) (raise-mean-most endOf k hk ek) (raise-mean-most endOf l hl el))
 

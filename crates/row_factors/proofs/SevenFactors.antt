@@ -56,7 +56,7 @@ module _ (season : Season) (row : Row) (cells : List ℕ) where
 -- No sum overflows, since each is a factor.
 
 -- a factor is below 17,000 g
-grams-most : (f : Factor) → gramsLimit f ≤ 17000
+grams-most : (f : Factor) → gramsLimit f ≤ 2700
 grams-most F1 = omega arith
 grams-most F2 = omega arith
 grams-most F3 = omega arith

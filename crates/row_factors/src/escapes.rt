@@ -30,7 +30,7 @@ pub struct Escapes {
 
 // Without canister: vapour grows evenly with the rise, so that of the mean rise is the mean.
 fn open_escapes(gain: u64, rises: [u64; 5]) -> Escapes
-    requires { ⌜ (gain < 2 ^ 50) × AllAtMost (450 * 2 ^ 40) rises ⌝ }
+    requires { ⌜ (gain < 2 ^ 50) × AllAtMost (72 * 2 ^ 40) rises ⌝ }
     ensures { λ r. ⌜ VapourOf gain rises r ⌝ }
 {
     Escapes {
@@ -44,7 +44,7 @@ fn open_escapes(gain: u64, rises: [u64; 5]) -> Escapes
 
 // What breaks through in a parking.
 fn parking_through(tables: &[u64; 578], grid: &[u64; 673], rises: &[u64; 576], c: Curves) -> u64
-    requires { ⌜ (now tables ≡ entries) × GridReady (now grid) × CurvesReady c × AllAtMost (450 * 2 ^ 40) (now rises) ⌝ }
+    requires { ⌜ (now tables ≡ entries) × GridReady (now grid) × CurvesReady c × AllAtMost (72 * 2 ^ 40) (now rises) ⌝ }
     ensures { λ r. ⌜ r ≡ parkingThrough (cellsIn (now (grid .entry))) (now (rises .entry)) c ⌝ }
 {
     let through = through_cells(tables, rises, c);

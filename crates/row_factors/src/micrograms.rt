@@ -4,7 +4,7 @@ ghost use Prim.Native.Nat.{_^_, _<_};
 ghost use Rattle.factors.specs.Units.{lowMicrograms, highMicrograms};
 
 // How far a factor can be above the computed one, in units of 2^-28 g.
-const FACTOR_ERROR: u64 = 950;
+const FACTOR_ERROR: u64 = 188;
 
 // Cut down.
 pub fn low_micrograms(units: u64) -> u64

@@ -9,7 +9,7 @@ ghost use Prim.Native.Nat.{_+_, _≤_};
 ghost use lib.ListN.{length};
 
 // The widest band that is right, in micrograms
-const WIDTH: u64 = 5;
+const WIDTH: u64 = 10;
 
 // More micrograms than any factor has
 const MOST: u64 = 4503599627370496;

@@ -53,6 +53,39 @@ pub fn u64_at(s: &[u8], at: usize) -> u64
     u32_at(s, at) + u32_at(s, at + 4) * 4294967296
 }
 
+// Where the seasons of a sheet of version 3 or 4 start, the bytes of a season and of a row, and where a row has its mileage
+const SEASONS: usize = 1160;
+
+const SEASON: usize = 8;
+
+const ROW: usize = 24;
+
+const MILEAGE: usize = 20;
+
+const ROWS_MOST: u64 = 1000;
+
+// The mileage of a row, counted from 0, where the rows start here; 0 where there is no such row
+fn mileage_from(s: &[u8], rows: usize, row: usize) -> u64
+    requires { ⌜ (rows < 4096) × (row < 1000) ⌝ }
+{
+    let at = rows + ROW * row + MILEAGE;
+    if s.len() < at + 4 { 0 } else { u32_at(s, at) }
+}
+
+// The mileage of a row of a sheet; 0 where the sheet has none
+pub fn mileage_at(s: &[u8], row: u64) -> u64 {
+    if s.len() < SEASONS {
+        return 0;
+    }
+    if u16_at(s, 3) < 3 {
+        return 0;
+    }
+    if ROWS_MOST <= row {
+        return 0;
+    }
+    mileage_from(s, SEASONS + SEASON * u8_at(s, 5) as usize, row as usize)
+}
+
 // The record whose head is here. The head starts with the bytes of the sheet and, where the list's items have bytes, how many items
 // there are. The record ends past the input where the input is cut.
 pub fn record_at(s: &[u8], at: usize, head: usize, item: usize) -> Record

@@ -5,18 +5,17 @@ use borrow.Author.Needs.{needs}
 use native.Mathlib.Omega.{arith}
 use lib.ListN.{getD, replicate}
 use Rattle.numbers.proofs.Lists.{Filled, filled-none, filled-more, filled-all}
-use Rattle.marks.specs.Marks.{heatError}
 use Rattle.marks.proofs.steps.Statement.{statement}
 use Rattle.marks.proofs.steps.Tie as tie
 
 abbrev Inv-loop : tie.InvT-loop
-Inv-loop heats out₀ i₀ out i = Filled (λ (k : ℕ). getD heats ((k + 1) % 48) 0 - (getD heats k 0 + heatError)) 48 i out
+Inv-loop heats out₀ i₀ out i = Filled (λ (k : ℕ). getD heats ((k + 1) % 48) 0 - getD heats k 0) 48 i out
 
 abbrev μ-loop : tie.MeasureT-loop
 μ-loop heats out₀ i₀ out i = 48 - i
 
 loop-again : tie.Need-loop-again Inv-loop μ-loop
-loop-again c = filled-more (c .before .before .loop .inv) (omega arith) (c .above .ensures)
+loop-again c = filled-more (c .before .before .loop .inv) (omega arith) (c .less .ensures)
 
 returns : tie.Need-returns Inv-loop μ-loop
 returns c = filled-all (c .before .loop .inv) (omega arith)
@@ -33,7 +32,7 @@ steps-spec =
     (λ c. search needs)
     (λ c. search needs)
     (λ c. search needs)
-    (λ c κs. (c .before .before .pre .at-most _, search needs))
+    (λ c. search needs)
     (λ c. search needs)
     (λ c. search needs)
     (λ c. search needs)

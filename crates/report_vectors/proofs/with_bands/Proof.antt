@@ -6,10 +6,10 @@ use Rattle.report_vectors.proofs.with_bands.Statement.{statement}
 use Rattle.report_vectors.proofs.with_bands.Tie as tie
 
 abbrev Inv-loop : tie.InvT-loop
-Inv-loop words rows mass sheet tally₀ row₀ tally row = row ≤ length rows / 72
+Inv-loop s words rows pass sheet mass tally₀ row₀ tally row = row ≤ length rows / 72
 
 abbrev μ-loop : tie.MeasureT-loop
-μ-loop words rows mass sheet tally₀ row₀ tally row = length rows / 72 - row
+μ-loop s words rows pass sheet mass tally₀ row₀ tally row = length rows / 72 - row
 
 pub with-bands-spec : {M : Type 1} → statement M
 with-bands-spec =
@@ -17,7 +17,9 @@ with-bands-spec =
     (tie.spec
     Inv-loop
     μ-loop
+    (λ c κs. search needs)
     (λ c. search needs)
+    (λ c κs. search needs)
     (λ c κs. search needs)
     (λ c. search needs)
     (λ c. search needs)

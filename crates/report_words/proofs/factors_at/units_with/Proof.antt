@@ -19,10 +19,10 @@ in-range c =
     rw (c .season-at .ensures .0) (accepted (start .args .s .now) (start .pre .0 .passes) .season _ (start .pre .1) .in-range (bytes (c .before)))
 
 -- its marks and rises are ready
-ready : (c : tie.After-walk) → MarksReady (c .before .before .before .before .season-at .result) (c .before .before .before .at-marks .result) (c .walk .result)
+ready : (c : tie.After-rises) → MarksReady (c .before .before .before .before .season-at .result) (c .before .before .before .at-marks .result) (c .rises .result)
 ready c =
     let m = c .before .before .before in
-    marks-ready (in-range (m .before)) (m .at-marks .ensures) (c .walk .ensures)
+    marks-ready (in-range (m .before)) (m .at-marks .ensures) (c .rises .ensures)
 
 row-units-requires : tie.Need-row-units-requires
 row-units-requires c κs =
