@@ -1,0 +1,5 @@
+pub mod WholeDoubles
+pub mod Between
+pub mod Enclosed
+pub mod AnyOrder
+pub mod Signs

@@ -1,0 +1,4 @@
+pub mod Digits
+pub mod Ranges
+pub mod Enclosure
+pub mod WholeMass

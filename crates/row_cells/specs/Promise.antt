@@ -1,0 +1,48 @@
+-- What is promised of a row's cells, or of their refusal. Definitions only.
+use mathlib.Core.Logic.{_⊎_}
+use mathlib.Core.Path.{_≡_}
+use Prim.Native.Nat.{ℕ, _≤_}
+use Rattle.cells.specs.Doubles.{massLimit}
+use Rattle.cells.specs.declared.Cell.{Cell}
+use Rattle.cells.specs.Values.{InCell, NoMinus}
+use Rattle.road_shares.specs.declared.Travel.{Travel}
+use Rattle.road_shares.specs.declared.Words.{Words}
+use Rattle.road_shares.specs.declared.Road.{Road}
+use Rattle.road_shares.specs.declared.RowShares.{RowShares}
+use Rattle.road_shares.specs.Demands.{TravelIn, WordsIn}
+use Rattle.road_shares.specs.Roads.{urbanRoad, ruralRoad, highwayRoad}
+use Rattle.road_shares.specs.Shares.{total, rowShares}
+use Rattle.road_shares.specs.ExactShares.{ExactMasses, InWords, exactSum}
+use Rattle.row_cells.specs.declared.RowCells.{RowCells}
+use Rattle.row_cells.specs.declared.RowAnswer.{RowAnswer}
+use Rattle.row_cells.specs.declared.RowAnswer.the-variants.{Cells, Refused}
+
+-- no cell's high is above 2⁵³
+pub record RoomIn (s : RowShares) : Type 0 where
+  pub urban-room : total (s .urban .high) ≤ massLimit
+  pub rural-room : total (s .rural .high) ≤ massLimit
+  pub highway-room : total (s .highway .high) ≤ massLimit
+
+-- one cell: for any three exact masses that lie in the row's words, "the sum of a cell's exact shares lies in that cell, and is 0 where the
+-- cell is empty"; and no minus zero is given back
+pub record CellPromise (w : Words) (k : Road) (c : Cell) : Type 0 where
+  pub holds : (x : ExactMasses) → InWords w x → InCell c (exactSum x k)
+  pub no-minus : NoMinus c
+
+-- where cells are given, nothing of 28 and 27 applies
+pub record CellsPromise (w : Words) (t : Travel) (v : RowCells) : Type 0 where
+  pub travel-in : TravelIn t
+  pub words-in : WordsIn w
+  pub room-in : RoomIn (rowShares w t)
+  pub urban : CellPromise w (urbanRoad t) (v .urban)
+  pub rural : CellPromise w (ruralRoad t) (v .rural)
+  pub highway : CellPromise w (highwayRoad t) (v .highway)
+
+-- where none are given: 28, or else 27, "place 0"
+pub record Refusal (w : Words) (t : Travel) (number place : ℕ) : Type 0 where
+  pub place-is : place ≡ 0
+  pub reason : ((number ≡ 28) × ¬ (TravelIn t)) ⊎ ((number ≡ 27) × TravelIn t × ¬ (WordsIn w × RoomIn (rowShares w t)))
+
+unfoldable pub RowPromise : Words → Travel → RowAnswer → Type 0
+RowPromise w t (Cells v) = CellsPromise w t v
+RowPromise w t (Refused number place) = Refusal w t number place
