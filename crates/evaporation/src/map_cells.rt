@@ -2,10 +2,10 @@
 use cells::Cell;
 use cells::CellAnswer;
 use cells::sums::add_cells;
-use road_shares::Travel;
-use road_shares::Words;
 use row_cells::RowAnswer;
 use row_cells::cells_of_row;
+use shares::Travel;
+use shares::Words;
 ghost use mathlib.Core.Path.{_≡_};
 ghost use Rattle.row_cells.specs.Rows.{rowAnswer};
 ghost use Rattle.evaporation.specs.Cells.{cellNumbers, rowNumbers, sumNumbers, exactHanded, cellHanded, handedSum};

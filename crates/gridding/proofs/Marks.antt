@@ -5,7 +5,7 @@ use Prim.Native.Nat.{ℕ, _+_, _*_, _≤_}
 use Rattle.numbers.specs.Lists.{at}
 use Rattle.masses.specs.Figures.{MassBand}
 use Rattle.report_words.specs.Promise.{RowPromise}
-use Rattle.road_shares.specs.ExactShares.{InWords}
+use Rattle.shares.specs.ExactShares.{InWords}
 use Rattle.row_cells.specs.declared.RowAnswer.the-variants.{Cells}
 use Rattle.row_cells.specs.Promise as cells
 use Rattle.row_cells.proofs.Promised.{promised}

@@ -11,11 +11,11 @@ use Rattle.sheet.specs.Bytes.{rowsOf, cellsOf, seasonList, rowAt}
 use Rattle.inventory.specs.ReportCall.{ReportAnswer}
 use Rattle.cells.specs.declared.Cell.{Cell}
 use Rattle.cells.specs.Values.{InCell}
-use Rattle.road_shares.specs.declared.Words.{Words}
-use Rattle.road_shares.specs.declared.Road.{Road}
-use Rattle.road_shares.specs.declared.Travel.{Travel}
-use Rattle.road_shares.specs.Roads.{urbanRoad, ruralRoad, highwayRoad}
-use Rattle.road_shares.specs.ExactShares.{ExactMasses, exactSum}
+use Rattle.shares.specs.declared.Words.{Words}
+use Rattle.shares.specs.declared.Road.{Road}
+use Rattle.shares.specs.declared.Travel.{Travel}
+use Rattle.shares.specs.Roads.{urbanRoad, ruralRoad, highwayRoad}
+use Rattle.shares.specs.ExactShares.{ExactMasses, exactSum}
 use Rattle.row_cells.specs.declared.RowCells.{RowCells}
 use Rattle.row_cells.specs.declared.RowAnswer.the-variants.{Cells}
 use Rattle.row_cells.specs.Rows.{rowAnswer}

@@ -5,7 +5,8 @@ use Prim.Native.Nat.{ℕ, suc, zero, _+_, _*_, _-_, _/_, _%_, _^_, _≤_, _<_}
 use native.Mathlib.Nat.{mul-le-mul, mul-le-mul-left, mul-le-mul-right, div-add-mod', mul-add-div-right, div-lt-iff-lt-mul, mod-lt, div-mul-le-self, lt-div-mul-add, le-of-mul-le-mul-right, mul-comm, mul-div-cancel}
 use native.Mathlib.Omega.{arith}
 use Rattle.cells.specs.Doubles.{massLimit}
-use Rattle.road_shares.specs.Range.{partsLimit}
+use Rattle.shares.specs.Range.{partsLimit}
+use Rattle.shares.proofs.Ranges.{cut-up-below}
 
 -- a digit times a part fits
 pub digit-product : {digit part all : ℕ} → digit ≤ 2 ^ 18 - 1 → part ≤ all → all ≤ partsLimit → digit * part ≤ (2 ^ 18 - 1) * partsLimit
@@ -53,12 +54,6 @@ module _ (m n d B : ℕ) (pos : 0 < d) where
 
   pub digit-rest : (m / B * n % d * B + m % B * n) % d ≡ m * n % d
   digit-rest = carry-rest (m / B) n d B (m % B) pos ∙ ap (λ (t : ℕ). t * n % d) (div-add-mod' m B)
-
--- a fraction up to 1 of x, cut up, is at most x
-pub cut-up-below : (x part all : ℕ) → 0 < all → part ≤ all → (x * part + (all - 1)) / all ≤ x
-cut-up-below x part all pos h =
-    let q : (x * part + (all - 1)) / all < x + 1 = div-lt-iff-lt-mul pos .1 (omega (arith, mul-le-mul-left x h)) in
-    omega arith
 
 -- a share cut up, from the quotient w and the remainder r
 module _ (m part all w r : ℕ) (pos : 0 < all) (h : part ≤ all) (e : w ≡ m * part / all) (f : r ≡ m * part % all) where

@@ -1,12 +1,12 @@
 // What part of a row's masses falls on each road kind.
-use crate::Part;
-use crate::Road;
-use crate::Travel;
+use shares::Part;
+use shares::Road;
+use shares::Travel;
 ghost use mathlib.Core.Bool.{cond};
 ghost use mathlib.Core.Path.{_≡_};
 ghost use Prim.Native.Nat.{_*_, _^_, _≤_};
-ghost use Rattle.road_shares.specs.Demands.{travelLimit, TravelIn};
-ghost use Rattle.road_shares.specs.Roads.{urbanRoad, ruralRoad, highwayRoad};
+ghost use Rattle.shares.specs.Demands.{travelLimit, TravelIn};
+ghost use Rattle.shares.specs.Roads.{urbanRoad, ruralRoad, highwayRoad};
 
 // One number for a row in town, another for any other.
 fn in_town(town: bool, a: u64, b: u64) -> u64

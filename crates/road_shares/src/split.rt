@@ -1,10 +1,11 @@
 // A mass times a fraction, cut down or cut up to whole milligrams, with no product beyond 64 bits.
-use crate::Part;
+use shares::Part;
 ghost use mathlib.Core.Path.{_≡_};
 ghost use Prim.Native.Nat.{_+_, _*_, _/_, _%_, _^_, _<_, _≤_};
 ghost use Rattle.cells.specs.Doubles.{massLimit};
-ghost use Rattle.road_shares.specs.Range.{partsLimit, PartIn, CarriedOn};
-ghost use Rattle.road_shares.specs.Shares.{shareDown, shareUp};
+ghost use Rattle.shares.specs.Range.{partsLimit, PartIn};
+ghost use Rattle.road_shares.specs.Digits.{CarriedOn};
+ghost use Rattle.shares.specs.Shares.{shareDown, shareUp};
 
 // A mass is taken in digits of 18 bits, the highest first.
 const DIGIT: u64 = 262144;

@@ -5,12 +5,12 @@ use Prim.Native.Nat.{ℕ, _≤_, _<_}
 use lib.Dec.{ltb}
 use borrow.Author.Tests.{ltb-false, le-ltb}
 use Rattle.cells.specs.Doubles.{massLimit}
-use Rattle.road_shares.specs.declared.Travel.{Travel}
-use Rattle.road_shares.specs.declared.Span.{Span}
-use Rattle.road_shares.specs.declared.Words.{Words}
-use Rattle.road_shares.specs.declared.RowShares.{RowShares}
-use Rattle.road_shares.specs.Demands.{travelLimit, Driven, TravelIn, SpanIn, WordsIn}
-use Rattle.road_shares.specs.Shares.{total}
+use Rattle.shares.specs.declared.Travel.{Travel}
+use Rattle.shares.specs.declared.Span.{Span}
+use Rattle.shares.specs.declared.Words.{Words}
+use Rattle.shares.specs.declared.RowShares.{RowShares}
+use Rattle.shares.specs.Demands.{travelLimit, Driven, TravelIn, SpanIn, WordsIn}
+use Rattle.shares.specs.Shares.{total}
 use Rattle.row_cells.specs.Rows.{amiss, travelWrong, spanWrong, wordsWrong, over}
 use Rattle.row_cells.specs.Promise.{RoomIn}
 

@@ -7,15 +7,15 @@ use native.Mathlib.Omega.{arith}
 use Rattle.cells.specs.Doubles.{massLimit}
 use Rattle.cells.proofs.Enclosed.{in-cell}
 use Rattle.cells.proofs.Signs.{cell-no-minus}
-use Rattle.road_shares.specs.declared.Travel.{Travel}
-use Rattle.road_shares.specs.declared.Words.{Words}
-use Rattle.road_shares.specs.declared.Road.{Road}
-use Rattle.road_shares.specs.Demands.{TravelIn, WordsIn}
-use Rattle.road_shares.specs.Roads.{urbanRoad, ruralRoad, highwayRoad}
-use Rattle.road_shares.specs.Shares.{lowShares, highShares, total, roadShares, rowShares}
-use Rattle.road_shares.specs.Range.{RoadIn}
-use Rattle.road_shares.proofs.Ranges.{shares-in, urban-in, rural-in, highway-in}
-use Rattle.road_shares.proofs.Enclosure.{sum-above, sum-below}
+use Rattle.shares.specs.declared.Travel.{Travel}
+use Rattle.shares.specs.declared.Words.{Words}
+use Rattle.shares.specs.declared.Road.{Road}
+use Rattle.shares.specs.Demands.{TravelIn, WordsIn}
+use Rattle.shares.specs.Roads.{urbanRoad, ruralRoad, highwayRoad}
+use Rattle.shares.specs.Shares.{lowShares, highShares, total, roadShares, rowShares}
+use Rattle.shares.specs.Range.{RoadIn}
+use Rattle.shares.proofs.Ranges.{shares-in, urban-in, rural-in, highway-in}
+use Rattle.shares.proofs.Enclosure.{sum-above, sum-below}
 use Rattle.row_cells.specs.declared.RowCells.{RowCells}
 use Rattle.row_cells.specs.declared.RowAnswer.{RowAnswer}
 use Rattle.row_cells.specs.declared.RowAnswer.the-variants.{Cells, Refused}

@@ -5,12 +5,12 @@ use Prim.Native.Nat.{_≤_}
 use Rattle.cells.specs.Doubles.{massLimit}
 use Rattle.cells.specs.Between.{cellBetween}
 use Rattle.cells.proofs.Between.{between-is}
-use Rattle.road_shares.specs.declared.Travel.{Travel}
-use Rattle.road_shares.specs.declared.Words.{Words}
-use Rattle.road_shares.specs.declared.RoadShares.{RoadShares}
-use Rattle.road_shares.specs.declared.RowShares.{RowShares}
-use Rattle.road_shares.specs.Range.{SharesIn, RowIn}
-use Rattle.road_shares.specs.Shares.{total, rowShares}
+use Rattle.shares.specs.declared.Travel.{Travel}
+use Rattle.shares.specs.declared.Words.{Words}
+use Rattle.shares.specs.declared.RoadShares.{RoadShares}
+use Rattle.shares.specs.declared.RowShares.{RowShares}
+use Rattle.shares.specs.Range.{SharesIn, RowIn}
+use Rattle.shares.specs.Shares.{total, rowShares}
 use Rattle.row_cells.specs.declared.Limits.{Limits}
 use Rattle.row_cells.specs.declared.RowCells.{RowCells}
 use Rattle.row_cells.specs.declared.RowAnswer.{RowAnswer}

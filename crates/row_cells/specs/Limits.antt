@@ -3,8 +3,8 @@
 use Prim.Native.Nat.{_≤_}
 use Rattle.cells.specs.Doubles.{massLimit, double}
 use Rattle.cells.specs.Between.{cellBetween}
-use Rattle.road_shares.specs.declared.RoadShares.{RoadShares}
-use Rattle.road_shares.specs.Shares.{total}
+use Rattle.shares.specs.declared.RoadShares.{RoadShares}
+use Rattle.shares.specs.Shares.{total}
 use Rattle.row_cells.specs.declared.Limits.{Limits}
 use Rattle.row_cells.specs.declared.RoadLimits.{RoadLimits}
 use Rattle.row_cells.specs.declared.RowCells.{RowCells}

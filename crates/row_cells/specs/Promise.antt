@@ -5,14 +5,14 @@ use Prim.Native.Nat.{ℕ, _≤_}
 use Rattle.cells.specs.Doubles.{massLimit}
 use Rattle.cells.specs.declared.Cell.{Cell}
 use Rattle.cells.specs.Values.{InCell, NoMinus}
-use Rattle.road_shares.specs.declared.Travel.{Travel}
-use Rattle.road_shares.specs.declared.Words.{Words}
-use Rattle.road_shares.specs.declared.Road.{Road}
-use Rattle.road_shares.specs.declared.RowShares.{RowShares}
-use Rattle.road_shares.specs.Demands.{TravelIn, WordsIn}
-use Rattle.road_shares.specs.Roads.{urbanRoad, ruralRoad, highwayRoad}
-use Rattle.road_shares.specs.Shares.{total, rowShares}
-use Rattle.road_shares.specs.ExactShares.{ExactMasses, InWords, exactSum}
+use Rattle.shares.specs.declared.Travel.{Travel}
+use Rattle.shares.specs.declared.Words.{Words}
+use Rattle.shares.specs.declared.Road.{Road}
+use Rattle.shares.specs.declared.RowShares.{RowShares}
+use Rattle.shares.specs.Demands.{TravelIn, WordsIn}
+use Rattle.shares.specs.Roads.{urbanRoad, ruralRoad, highwayRoad}
+use Rattle.shares.specs.Shares.{total, rowShares}
+use Rattle.shares.specs.ExactShares.{ExactMasses, InWords, exactSum}
 use Rattle.row_cells.specs.declared.RowCells.{RowCells}
 use Rattle.row_cells.specs.declared.RowAnswer.{RowAnswer}
 use Rattle.row_cells.specs.declared.RowAnswer.the-variants.{Cells, Refused}

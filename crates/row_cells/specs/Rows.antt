@@ -5,13 +5,13 @@ use lib.Dec.{ltb}
 use Rattle.cells.specs.declared.Cell.{Cell}
 use Rattle.cells.specs.Doubles.{massLimit}
 use Rattle.cells.specs.Cells.{cellOf}
-use Rattle.road_shares.specs.declared.Travel.{Travel}
-use Rattle.road_shares.specs.declared.Span.{Span}
-use Rattle.road_shares.specs.declared.Words.{Words}
-use Rattle.road_shares.specs.declared.RoadShares.{RoadShares}
-use Rattle.road_shares.specs.declared.RowShares.{RowShares}
-use Rattle.road_shares.specs.Demands.{travelLimit}
-use Rattle.road_shares.specs.Shares.{total, rowShares}
+use Rattle.shares.specs.declared.Travel.{Travel}
+use Rattle.shares.specs.declared.Span.{Span}
+use Rattle.shares.specs.declared.Words.{Words}
+use Rattle.shares.specs.declared.RoadShares.{RoadShares}
+use Rattle.shares.specs.declared.RowShares.{RowShares}
+use Rattle.shares.specs.Demands.{travelLimit}
+use Rattle.shares.specs.Shares.{total, rowShares}
 use Rattle.row_cells.specs.declared.RowAnswer.{RowAnswer}
 use Rattle.row_cells.specs.declared.RowAnswer.the-variants.{Cells, Refused}
 

@@ -1,8 +1,8 @@
 // What is checked of a row's words and of where its vehicles drive.
 use cells::doubles::MASS_LIMIT;
-use road_shares::Span;
-use road_shares::Travel;
-use road_shares::Words;
+use shares::Span;
+use shares::Travel;
+use shares::Words;
 ghost use mathlib.Core.Path.{_≡_};
 ghost use Rattle.row_cells.specs.Rows.{amiss, travelWrong, spanWrong, wordsWrong};
 

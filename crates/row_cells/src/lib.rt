@@ -2,9 +2,9 @@
 use cells::Cell;
 use checks::travel_wrong;
 use checks::words_wrong;
-use road_shares::Travel;
-use road_shares::Words;
 use road_shares::row_shares;
+use shares::Travel;
+use shares::Words;
 use sums::share_out;
 ghost use mathlib.Core.Path.{_≡_};
 ghost use Rattle.row_cells.specs.Promise.{RowPromise};

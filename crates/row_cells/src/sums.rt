@@ -6,10 +6,10 @@ use crate::RowCells;
 use cells::doubles::MASS_LIMIT;
 use cells::doubles::add_three;
 use cells::kinds::cell_between;
-use road_shares::RoadShares;
-use road_shares::RowShares;
+use shares::RoadShares;
+use shares::RowShares;
 ghost use mathlib.Core.Path.{_≡_};
-ghost use Rattle.road_shares.specs.Range.{SharesIn, RowIn};
+ghost use Rattle.shares.specs.Range.{SharesIn, RowIn};
 ghost use Rattle.row_cells.specs.Rows.{over, sharedOut};
 ghost use Rattle.row_cells.specs.Limits.{Fits, limitsOf, cellsOf};
 

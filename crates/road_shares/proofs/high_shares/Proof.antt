@@ -1,5 +1,5 @@
 -- `road_shares::high_shares` meets its contract.
-use Rattle.road_shares.specs.Shares.{highShares}
+use Rattle.shares.specs.Shares.{highShares}
 use borrow.Author.Needs.{needs}
 use Rattle.road_shares.proofs.high_shares.Statement.{statement}
 use Rattle.road_shares.proofs.high_shares.Tie as tie

@@ -1,5 +1,5 @@
 -- `road_shares::low_shares` meets its contract.
-use Rattle.road_shares.specs.Shares.{lowShares}
+use Rattle.shares.specs.Shares.{lowShares}
 use borrow.Author.Needs.{needs}
 use Rattle.road_shares.proofs.low_shares.Statement.{statement}
 use Rattle.road_shares.proofs.low_shares.Tie as tie

@@ -1,7 +1,7 @@
 -- `road_shares::road_shares` meets its contract.
 use borrow.Author.Needs.{needs}
-use Rattle.road_shares.specs.Shares.{roadShares}
-use Rattle.road_shares.proofs.Ranges.{shares-in}
+use Rattle.shares.specs.Shares.{roadShares}
+use Rattle.shares.proofs.Ranges.{shares-in}
 use Rattle.road_shares.proofs.road_shares.Statement.{statement}
 use Rattle.road_shares.proofs.road_shares.Tie as tie
 

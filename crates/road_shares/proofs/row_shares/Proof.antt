@@ -1,7 +1,7 @@
 -- `road_shares::row_shares` meets its contract.
 use borrow.Author.Needs.{needs}
-use Rattle.road_shares.specs.Shares.{rowShares}
-use Rattle.road_shares.proofs.Ranges.{urban-in, rural-in, highway-in}
+use Rattle.shares.specs.Shares.{rowShares}
+use Rattle.shares.proofs.Ranges.{urban-in, rural-in, highway-in}
 use Rattle.road_shares.proofs.row_shares.Statement.{statement}
 use Rattle.road_shares.proofs.row_shares.Tie as tie
 

@@ -1,5 +1,5 @@
 -- `road_shares::roads::highway_road` meets its contract.
-use Rattle.road_shares.specs.Roads.{highwayRoad}
+use Rattle.shares.specs.Roads.{highwayRoad}
 use borrow.Author.Needs.{needs}
 use Rattle.road_shares.proofs.roads.highway_road.Statement.{statement}
 use Rattle.road_shares.proofs.roads.highway_road.Tie as tie

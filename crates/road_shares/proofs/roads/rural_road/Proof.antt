@@ -1,5 +1,5 @@
 -- `road_shares::roads::rural_road` meets its contract.
-use Rattle.road_shares.specs.Roads.{ruralRoad}
+use Rattle.shares.specs.Roads.{ruralRoad}
 use borrow.Author.Needs.{needs}
 use Rattle.road_shares.proofs.roads.rural_road.Statement.{statement}
 use Rattle.road_shares.proofs.roads.rural_road.Tie as tie

@@ -1,6 +1,6 @@
 -- `road_shares::roads::urban_road` meets its contract.
 use borrow.Author.Needs.{needs}
-use Rattle.road_shares.specs.Roads.{urbanRoad}
+use Rattle.shares.specs.Roads.{urbanRoad}
 use Rattle.road_shares.proofs.roads.urban_road.Statement.{statement}
 use Rattle.road_shares.proofs.roads.urban_road.Tie as tie
 

@@ -1,13 +1,13 @@
 -- A row's shares in whole milligrams. Definitions only.
 use Prim.Native.Nat.{ℕ, _+_, _*_, _-_, _/_}
-use Rattle.road_shares.specs.declared.Travel.{Travel}
-use Rattle.road_shares.specs.declared.Part.{Part}
-use Rattle.road_shares.specs.declared.Words.{Words}
-use Rattle.road_shares.specs.declared.Road.{Road}
-use Rattle.road_shares.specs.declared.Shares.{Shares}
-use Rattle.road_shares.specs.declared.RoadShares.{RoadShares}
-use Rattle.road_shares.specs.declared.RowShares.{RowShares}
-use Rattle.road_shares.specs.Roads.{urbanRoad, ruralRoad, highwayRoad}
+use Rattle.shares.specs.declared.Travel.{Travel}
+use Rattle.shares.specs.declared.Part.{Part}
+use Rattle.shares.specs.declared.Words.{Words}
+use Rattle.shares.specs.declared.Road.{Road}
+use Rattle.shares.specs.declared.Shares.{Shares}
+use Rattle.shares.specs.declared.RoadShares.{RoadShares}
+use Rattle.shares.specs.declared.RowShares.{RowShares}
+use Rattle.shares.specs.Roads.{urbanRoad, ruralRoad, highwayRoad}
 
 -- "Each share's low is rounded down and its high up to whole milligrams, before the cell is summed."
 abbrev pub shareDown : ℕ → Part → ℕ

@@ -2,18 +2,23 @@
 use mathlib.Core.Path.{_≡_}
 use mathlib.Core.Bool.{Bool, true, false, cond}
 use Prim.Native.Nat.{ℕ, _+_, _*_, _-_, _/_, _^_, _≤_, _<_}
-use native.Mathlib.Nat.{mul-le-mul, mul-le-mul-left, mul-pos, div-mul-le-self, le-div-iff-mul-le}
+use native.Mathlib.Nat.{mul-le-mul, mul-le-mul-left, mul-pos, div-mul-le-self, le-div-iff-mul-le, div-lt-iff-lt-mul}
 use native.Mathlib.Omega.{arith}
 use Rattle.cells.specs.Doubles.{massLimit}
-use Rattle.road_shares.specs.declared.Travel.{Travel}
-use Rattle.road_shares.specs.declared.Part.{Part}
-use Rattle.road_shares.specs.declared.Words.{Words}
-use Rattle.road_shares.specs.declared.Road.{Road}
-use Rattle.road_shares.specs.Demands.{TravelIn, WordsIn}
-use Rattle.road_shares.specs.Roads.{ruralTime, highwayTime, bothTimes, restParts, allMileage, urbanRoad, ruralRoad, highwayRoad}
-use Rattle.road_shares.specs.Shares.{shareDown, shareUp, lowShares, highShares, roadShares}
-use Rattle.road_shares.specs.Range.{partsLimit, PartIn, RoadIn, SharesIn}
-use Rattle.road_shares.proofs.Digits.{cut-up-below}
+use Rattle.shares.specs.declared.Travel.{Travel}
+use Rattle.shares.specs.declared.Part.{Part}
+use Rattle.shares.specs.declared.Words.{Words}
+use Rattle.shares.specs.declared.Road.{Road}
+use Rattle.shares.specs.Demands.{TravelIn, WordsIn}
+use Rattle.shares.specs.Roads.{ruralTime, highwayTime, bothTimes, restParts, allMileage, urbanRoad, ruralRoad, highwayRoad}
+use Rattle.shares.specs.Shares.{shareDown, shareUp, lowShares, highShares, roadShares}
+use Rattle.shares.specs.Range.{partsLimit, PartIn, RoadIn, SharesIn}
+
+-- a fraction up to 1 of x, cut up, is at most x
+pub cut-up-below : (x part all : ℕ) → 0 < all → part ≤ all → (x * part + (all - 1)) / all ≤ x
+cut-up-below x part all pos h =
+    let q : (x * part + (all - 1)) / all < x + 1 = div-lt-iff-lt-mul pos .1 (omega (arith, mul-le-mul-left x h)) in
+    omega arith
 
 -- a choice of two numbers that are both at most a bound
 pick : (b : Bool) (x y all : ℕ) → 0 < all → x ≤ all → y ≤ all → all ≤ partsLimit → PartIn (record { part = cond b x y; all = all })

@@ -1,13 +1,11 @@
 -- For proofs alone: the ranges in which the fractions and the shares lie, so that nothing passes 64 bits.
-use mathlib.Core.Path.{_≡_}
-use Prim.Native.Nat.{ℕ, _+_, _*_, _/_, _%_, _^_, _≤_, _<_}
+use Prim.Native.Nat.{ℕ, _≤_, _<_}
 use Rattle.cells.specs.Doubles.{massLimit}
-use Rattle.road_shares.specs.declared.Part.{Part}
-use Rattle.road_shares.specs.declared.Road.{Road}
-use Rattle.road_shares.specs.declared.RoadShares.{RoadShares}
-use Rattle.road_shares.specs.declared.RowShares.{RowShares}
-use Rattle.road_shares.specs.declared.split.Quotient.{Quotient}
-use Rattle.road_shares.specs.Shares.{total}
+use Rattle.shares.specs.declared.Part.{Part}
+use Rattle.shares.specs.declared.Road.{Road}
+use Rattle.shares.specs.declared.RoadShares.{RoadShares}
+use Rattle.shares.specs.declared.RowShares.{RowShares}
+use Rattle.shares.specs.Shares.{total}
 
 -- twelve times two times of 10¹² at most
 abbrev pub partsLimit : ℕ
@@ -34,8 +32,3 @@ pub record RowIn (s : RowShares) : Type 0 where
   pub urban-in : SharesIn (s .urban)
   pub rural-in : SharesIn (s .rural)
   pub highway-in : SharesIn (s .highway)
-
--- a quotient and a remainder of a product, carried on by one digit of 18 bits
-pub record CarriedOn (c : Quotient) (digit part all : ℕ) (r : Quotient) : Type 0 where
-  pub whole-is : r .whole ≡ c .whole * 2 ^ 18 + (c .rest * 2 ^ 18 + digit * part) / all
-  pub rest-is : r .rest ≡ (c .rest * 2 ^ 18 + digit * part) % all

@@ -1,9 +1,9 @@
 -- The exact shares of a row's exact masses, as fractions. Definitions only.
 use Rattle.numbers.specs.Fraction.{Fraction, _≤ᶠ_, _+ᶠ_, whole, _over_, _times_}
-use Rattle.road_shares.specs.declared.Span.{Span}
-use Rattle.road_shares.specs.declared.Part.{Part}
-use Rattle.road_shares.specs.declared.Words.{Words}
-use Rattle.road_shares.specs.declared.Road.{Road}
+use Rattle.shares.specs.declared.Span.{Span}
+use Rattle.shares.specs.declared.Part.{Part}
+use Rattle.shares.specs.declared.Words.{Words}
+use Rattle.shares.specs.declared.Road.{Road}
 
 -- an exact mass, in milligrams, lies in a mechanism's two words
 pub record InSpan (s : Span) (x : Fraction) : Type 0 where

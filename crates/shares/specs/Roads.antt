@@ -2,8 +2,8 @@
 -- other rows. Definitions only.
 use mathlib.Core.Bool.{cond}
 use Prim.Native.Nat.{ℕ, _+_, _*_}
-use Rattle.road_shares.specs.declared.Travel.{Travel}
-use Rattle.road_shares.specs.declared.Road.{Road}
+use Rattle.shares.specs.declared.Travel.{Travel}
+use Rattle.shares.specs.declared.Road.{Road}
 
 -- "rural mileage times highway speed": the time on rural roads, times both speeds
 abbrev pub ruralTime : Travel → ℕ

@@ -1,9 +1,9 @@
 -- What is demanded of a row's words and of where its vehicles drive. Definitions only.
 use Prim.Native.Nat.{ℕ, _≤_}
 use Rattle.cells.specs.Doubles.{massLimit}
-use Rattle.road_shares.specs.declared.Travel.{Travel}
-use Rattle.road_shares.specs.declared.Span.{Span}
-use Rattle.road_shares.specs.declared.Words.{Words}
+use Rattle.shares.specs.declared.Travel.{Travel}
+use Rattle.shares.specs.declared.Span.{Span}
+use Rattle.shares.specs.declared.Words.{Words}
 
 abbrev pub travelLimit : ℕ
 travelLimit = 1000000

@@ -5,12 +5,12 @@ use native.Mathlib.Nat.{div-mul-le-self, lt-div-mul-add}
 use native.Mathlib.Omega.{arith}
 use Rattle.numbers.specs.Fraction.{Fraction, _≤ᶠ_, _≈ᶠ_, _+ᶠ_, whole, _over_, _times_}
 use Rattle.numbers.proofs.Order.{≤-trans, ≈→≤, ≈→≥, +-mono, times-mono, over-mono, idle}
-use Rattle.road_shares.specs.declared.Part.{Part}
-use Rattle.road_shares.specs.declared.Words.{Words}
-use Rattle.road_shares.specs.declared.Road.{Road}
-use Rattle.road_shares.specs.Shares.{shareDown, shareUp, lowShares, highShares, total}
-use Rattle.road_shares.specs.ExactShares.{ExactMasses, InWords, exactShare, exactSum}
-use Rattle.road_shares.specs.Range.{PartIn, RoadIn}
+use Rattle.shares.specs.declared.Part.{Part}
+use Rattle.shares.specs.declared.Words.{Words}
+use Rattle.shares.specs.declared.Road.{Road}
+use Rattle.shares.specs.Shares.{shareDown, shareUp, lowShares, highShares, total}
+use Rattle.shares.specs.ExactShares.{ExactMasses, InWords, exactShare, exactSum}
+use Rattle.shares.specs.Range.{PartIn, RoadIn}
 
 -- (part·l)/all as a fraction, against a whole number
 low-fraction : (q l part all : ℕ) → 0 < all → q * all ≤ part * l → whole q ≤ᶠ part times whole l over all

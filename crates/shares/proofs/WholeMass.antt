@@ -6,12 +6,12 @@ use native.Mathlib.Nat.{mul-pos}
 use native.Mathlib.Omega.{arith}
 use Rattle.numbers.specs.Fraction.{Fraction, _≈ᶠ_, _+ᶠ_, _*ᶠ_, whole, _over_, _times_}
 use Rattle.numbers.proofs.Order.{≈-refl, ≈-sym, ≈-trans, +-cong, *-cong, idle}
-use Rattle.road_shares.specs.declared.Travel.{Travel}
-use Rattle.road_shares.specs.declared.Part.{Part}
-use Rattle.road_shares.specs.Demands.{TravelIn}
-use Rattle.road_shares.specs.Roads.{ruralTime, highwayTime, bothTimes, allMileage, urbanRoad, ruralRoad, highwayRoad}
-use Rattle.road_shares.specs.ExactShares.{exactShare}
-use Rattle.road_shares.proofs.Ranges.{times-some}
+use Rattle.shares.specs.declared.Travel.{Travel}
+use Rattle.shares.specs.declared.Part.{Part}
+use Rattle.shares.specs.Demands.{TravelIn}
+use Rattle.shares.specs.Roads.{ruralTime, highwayTime, bothTimes, allMileage, urbanRoad, ruralRoad, highwayRoad}
+use Rattle.shares.specs.ExactShares.{exactShare}
+use Rattle.shares.proofs.Ranges.{times-some}
 
 -- p·x/a
 abbrev plain : Fraction → ℕ → (a : ℕ) → 0 < a → Fraction
