@@ -113,7 +113,7 @@ struct evp_factor_band evp_factor(const uint8_t *sheet, size_t sheet_bytes, uint
 
 /* Cells for a map: masses in milligrams, as doubles that are whole numbers. */
 
-/* The largest mass of a cell: 2^53 milligrams, some 9,007 tonnes. Up to here every whole number is a double. */
+/* The largest mass of a cell: 2^53 milligrams, some nine million tonnes. Up to here every whole number is a double. */
 #define EVP_MASS_LIMIT UINT64_C(9007199254740992)
 
 /* The six words of a row, as they stand in the report. */

@@ -214,7 +214,7 @@ def chance_rows(count):
 SPECIAL = {
     "0": 0, "-0": MINUS, "1": bits_of(1), "-1": MINUS + bits_of(1), "7": bits_of(7),
     "1/2": 1022 * FRACTION, "-1/2": MINUS + 1022 * FRACTION, "3/2": 1023 * FRACTION + FRACTION // 2,
-    "2^52 + 1/2 cut to a double": bits_of(2 ** 52) - 1, "the least above 0": 1, "the least below 0": MINUS + 1,
+    "2^52 - 1/2": bits_of(2 ** 52) - 1, "the least above 0": 1, "the least below 0": MINUS + 1,
     "the least normal": FRACTION, "just below 1": bits_of(1) - 1, "just above 1": bits_of(1) + 1,
     "2^53 - 1": bits_of(LIMIT - 1), "2^53": bits_of(LIMIT), "2^53 + 2": bits_of(LIMIT + 2), "-2^53": MINUS + bits_of(LIMIT),
     "2^63": bits_of(2 ** 63), "just below 2^64": bits_of(2 ** 64) - 1, "2^64": bits_of(2 ** 64), "the largest": INFINITY - 1,

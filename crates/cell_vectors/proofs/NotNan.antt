@@ -1,5 +1,5 @@
 -- A double that equals itself is no NaN, and a pattern that is no NaN's may be read.
-use mathlib.Core.Path.{_≡_, sym, subst}
+use mathlib.Core.Path.{_≡_, sym}
 use mathlib.Core.Bool.{Bool, true, false, not, false≢true}
 use lib.Dec.{T}
 use lib.Ieee.{Float, nan, inf, fin, eq, isNan}

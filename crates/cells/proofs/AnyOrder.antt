@@ -4,17 +4,15 @@ use mathlib.Core.Bool.{Bool, true, false, cond}
 use Prim.Native.Nat.{ℕ, _+_, _≤_, _<_}
 use native.Mathlib.Nat.{add-comm}
 use native.Mathlib.Omega.{arith}
-use lib.Dec.{leb, ltb, eqb}
-use borrow.Author.Tests.{lt-ltb, leb-true, leb-false, le-leb, lt-leb, eqb-true, eqb-false}
-use Rattle.cells.specs.declared.Whole.{Whole}
-use Rattle.cells.specs.declared.Whole.the-variants.{Mass}
+use lib.Dec.{leb, eqb}
+use borrow.Author.Tests.{lt-ltb, leb-true, leb-false, lt-leb, eqb-true, eqb-false}
 use Rattle.cells.specs.declared.Cell.{Cell}
 use Rattle.cells.specs.declared.Cell.the-variants.{Empty, Exact, Band}
 use Rattle.cells.specs.declared.Masses.{Masses}
 use Rattle.cells.specs.declared.Masses.the-variants.{Between, Wrong}
 use Rattle.cells.specs.declared.CellAnswer.{CellAnswer}
 use Rattle.cells.specs.declared.CellAnswer.the-variants.{Sum, Refused}
-use Rattle.cells.specs.Doubles.{massLimit, double, wholeOf}
+use Rattle.cells.specs.Doubles.{massLimit, double}
 use Rattle.cells.specs.Cells.{cellOf, exactMasses, bandMasses, massesOf}
 use Rattle.cells.specs.Sums.{massesSum, cellSum, addTo}
 use Rattle.cells.proofs.WholeDoubles.{double-mass}

@@ -1,12 +1,12 @@
 -- A cell and its low and high: a cell made of two whole doubles, and what is known of a cell taken apart.
-use mathlib.Core.Path.{_≡_, refl, sym, ap, _∙_, subst}
-use mathlib.Core.Bool.{Bool, true, false, cond, not, _&&_, _||_}
+use mathlib.Core.Path.{_≡_, refl, sym, ap, _∙_}
+use mathlib.Core.Bool.{Bool, true, false, cond, _&&_}
 use Prim.Native.Nat.{ℕ, zero, suc, _+_, _*_, _≤_, _<_}
 use native.Mathlib.Omega.{arith}
 use borrow.Author.Tests.{ltb-true, lt-ltb, le-ltb, le-leb, lt-leb, ne-eqb}
-use lib.Dec.{T, ltb, leb, eqb}
+use lib.Dec.{ltb, eqb}
 use lib.IntN.{pos}
-use lib.Ieee.{Float, fin, binary64, eq}
+use lib.Ieee.{Float, fin, eq}
 use Rattle.cells.specs.declared.Whole.{Whole}
 use Rattle.cells.specs.declared.Whole.the-variants.{Mass, Other}
 use Rattle.cells.specs.declared.Cell.{Cell}
@@ -16,7 +16,6 @@ use Rattle.cells.specs.declared.Masses.the-variants.{Between, Wrong}
 use Rattle.cells.specs.Doubles.{massLimit, double, wholeOf}
 use Rattle.cells.specs.Cells.{cellOf, exactMasses, bandMasses, massesOf}
 use Rattle.cells.specs.Between.{cellBetween}
-use Rattle.cells.specs.declared.CellAnswer.{CellAnswer}
 use Rattle.cells.specs.declared.CellAnswer.the-variants.{Sum, Refused}
 use Rattle.cells.specs.Sums.{massesSum, cellSum}
 use Rattle.cells.proofs.WholeDoubles.{double-value, same-value, double-eq, whole-limit}
@@ -46,9 +45,6 @@ pub record InOrder (low high : ℕ) : Type 0 where
 
 pub wrong-between : (low high : ℕ) → Wrong ≡ Between low high → ⊥
 wrong-between low high e = let z : _≡_ {A = ℕ} 0 1 = cc in omega arith
-
-pub no-sum : (c : Cell) (n p : ℕ) → Refused n p ≡ Sum c → ⊥
-no-sum c n p e = let z : _≡_ {A = ℕ} 0 1 = cc in omega arith
 
 pub masses-in-order : (c : Cell) (low high : ℕ) → massesOf c ≡ Between low high → InOrder low high
 unfolding massesOf exactMasses bandMasses

@@ -1,28 +1,26 @@
 -- What lies between a low and a high lies in their cell, and the sum of two cells holds the sums of what lies in them.
 use mathlib.Core.Path.{_≡_, refl, sym, subst}
-use mathlib.Core.Bool.{Bool, true, false, cond, true≢false}
+use mathlib.Core.Bool.{Bool, true, false, cond}
 use Prim.Native.Nat.{ℕ, _+_, _*_, _≤_}
 use native.Mathlib.Omega.{arith}
-use lib.Dec.{ltb, leb, eqb, eqb→eq}
+use lib.Dec.{ltb, eqb, eqb→eq}
 use lib.Ieee.{Float, fin, up}
-use lib.Ieee.Exact.{HasValue}
-use borrow.Author.Tests.{leb-true, eqb-true}
+use borrow.Author.Tests.{eqb-true}
 use Rattle.numbers.specs.Fraction.{Fraction, _≤ᶠ_, _≈ᶠ_, _+ᶠ_, whole}
 use Rattle.numbers.proofs.Order.{≤-trans, ≤-antisym, ≈-sym, ≈-trans, ≈→≤, ≈→≥, +-mono}
 use Rattle.cells.specs.declared.Whole.{Whole}
 use Rattle.cells.specs.declared.Whole.the-variants.{Mass, Other}
 use Rattle.cells.specs.declared.Cell.{Cell}
 use Rattle.cells.specs.declared.Cell.the-variants.{Empty, Exact, Band}
-use Rattle.cells.specs.declared.Masses.{Masses}
 use Rattle.cells.specs.declared.Masses.the-variants.{Between, Wrong}
-use Rattle.cells.specs.declared.CellAnswer.{CellAnswer}
-use Rattle.cells.specs.declared.CellAnswer.the-variants.{Sum, Refused}
+use Rattle.cells.specs.declared.CellAnswer.the-variants.{Sum}
 use Rattle.cells.specs.Doubles.{massLimit, double, wholeOf}
 use Rattle.cells.specs.Cells.{cellOf, exactMasses, bandMasses, massesOf}
-use Rattle.cells.specs.Sums.{massesSum, cellSum}
+use Rattle.cells.specs.Sums.{cellSum}
 use Rattle.cells.specs.Values.{valueOf, InCell}
-use Rattle.cells.proofs.WholeDoubles.{IsWhole, whole-is, double-value, double-whole}
-use Rattle.cells.proofs.Between.{InOrder, masses-in-order, wrong-between, no-sum}
+use Rattle.cells.proofs.WholeDoubles.{IsWhole, whole-is, double-whole}
+use Rattle.cells.proofs.Between.{wrong-between}
+use Rattle.cells.proofs.GivenSum.{given-sum}
 
 -- a double that is n, a minus zero too, has the value n
 value-of : (x : Float) (n : ℕ) → IsWhole x n → valueOf x ≈ᶠ whole n
@@ -102,30 +100,11 @@ whole-add a b = record { cross = omega arith }
 
 -- "Sums of cells are exact": where x lies in one cell and y in the other, x + y lies in their sum, and is 0 where that is empty
 pub sum-encloses : (a b c : Cell) (x y : Fraction) → cellSum a b ≡ Sum c → InCell a x → InCell b y → InCell c (x +ᶠ y)
-unfolding cellSum massesSum
-sum-encloses a b c x y e hx hy = go (massesOf a) (massesOf b) refl refl e
-  where
-    go : (m n : Masses) → massesOf a ≡ m → massesOf b ≡ n → massesSum m n ≡ Sum c → InCell c (x +ᶠ y)
-    go Wrong n f g e = absurd (no-sum c 27 0 e)
-    go (Between l h) Wrong f g e = absurd (no-sum c 27 0 e)
-    go (Between l h) (Between l' h') f g e = tests (leb (h + h') massLimit) (leb-true (h + h') massLimit) e
-      where
-        p : BetweenWhole l h x
-        p = between-whole a l h x f hx
-
-        q : BetweenWhole l' h' y
-        q = between-whole b l' h' y g hy
-
-        o : InOrder l h
-        o = masses-in-order a l h f
-
-        o' : InOrder l' h'
-        o' = masses-in-order b l' h' g
-
-        tests : (t : Bool) → (t ≡ true → h + h' ≤ massLimit) → cond t (Sum (cellOf (l + l') (h + h'))) (Refused 27 0) ≡ Sum c → InCell c (x +ᶠ y)
-        tests false k e = absurd (no-sum c 27 0 e)
-        tests true k e =
-            let same : cellOf (l + l') (h + h') ≡ c = cc in
-            subst (λ (z : Cell). InCell z (x +ᶠ y)) same
-            (in-cell (l + l') (h + h') (x +ᶠ y) (omega (arith, o .order, o' .order)) (k refl)
-            (≤-trans (≈→≥ (whole-add l l')) (+-mono (p .above) (q .above))) (≤-trans (+-mono (p .below) (q .below)) (≈→≤ (whole-add h h'))))
+sum-encloses a b c x y e hx hy =
+    let g = given-sum a b c e in
+    let p = between-whole a _ _ x (g .first) hx in
+    let q = between-whole b _ _ y (g .second) hy in
+    rw (g .cell-is) at
+    (in-cell (g .low + g .low') (g .high + g .high') (x +ᶠ y) (g .order) (g .room)
+    (≤-trans (≈→≥ (whole-add (g .low) (g .low'))) (+-mono (p .above) (q .above)))
+    (≤-trans (+-mono (p .below) (q .below)) (≈→≤ (whole-add (g .high) (g .high')))))

@@ -1,18 +1,17 @@
 -- Doubles that are whole numbers: their sum, their comparison, and how a double handed in is recognised as one.
 use mathlib.Core.Path.{_≡_, refl, sym, ap, _∙_, subst}
 use mathlib.Core.Bool.{Bool, true, false, cond, not, _&&_, _||_, Bool·beq, true≢false, false≢true}
-use Prim.Native.Nat.{ℕ, zero, suc, _+_, _-_, _*_, _/_, _%_, _^_, _≤_, _<_, min}
-use native.Mathlib.Nat.{mul-one, one-mul, mul-assoc, mul-comm, mul-left-comm, mul-right-comm, add-mul, mul-pos, mul-div-cancel, eq-of-mul-eq-mul-right, zero-lt-suc, mul-le-mul-right, lt-of-le-of-lt, zero-mul}
+use Prim.Native.Nat.{ℕ, zero, suc, _+_, _-_, _*_, _/_, _^_, _≤_, _<_}
+use native.Mathlib.Nat.{mul-pos, mul-div-cancel, eq-of-mul-eq-mul-right, zero-lt-suc, mul-le-mul-right}
 use native.Mathlib.Omega.{arith}
-use borrow.Author.Tests.{ltb-true, ltb-false, leb-true, leb-false, eqb-true, eqb-false, lt-ltb, le-ltb, le-leb, lt-leb, eq-eqb, ne-eqb, not-false}
-use lib.Dec.{T, leb, ltb, eqb, le→leb, leb→le, eqb→eq, eqb-refl, lit≤, lit<}
-use lib.IntN.{ℤ, pos, negsuc}
-use lib.Ieee.{Float, nan, inf, fin, Format, binary64, up, down, round, sum, add, ofInt, toUnsigned, inFloat, lt, eq}
-use lib.Ieee.Fits.{up-pos, down-pos, and-i, and-l, and-r}
+use borrow.Author.Tests.{eqb-true, eqb-false, lt-ltb, eq-eqb, ne-eqb, not-false}
+use lib.Dec.{T, leb, eqb, le→leb, leb→le, eqb→eq, eqb-refl}
+use lib.IntN.{ℤ, pos}
+use lib.Ieee.{Float, nan, inf, fin, binary64, up, down, round, sum, add, ofInt, toUnsigned, inFloat, lt, eq}
+use lib.Ieee.Fits.{down-pos, and-l, and-r}
 use lib.Ieee.Exact.{HasValue}
 use lib.Ieee.Back.{round-whole}
 use lib.Ieee.Scale.{round-same}
-use Rattle.cells.specs.declared.Whole.{Whole}
 use Rattle.cells.specs.declared.Whole.the-variants.{Mass, Other}
 use Rattle.cells.specs.Doubles.{massLimit, double, wholeOf}
 

@@ -1,6 +1,6 @@
 -- The sum of cells. Definitions only.
 use mathlib.Core.Bool.{cond}
-use Prim.Native.Nat.{ℕ, _+_}
+use Prim.Native.Nat.{_+_}
 use lib.Dec.{leb}
 use Rattle.cells.specs.declared.Cell.{Cell}
 use Rattle.cells.specs.declared.Masses.{Masses}

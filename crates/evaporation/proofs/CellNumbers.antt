@@ -1,8 +1,7 @@
 -- The cells that pass the boundary, as the program meets them.
-use mathlib.Core.Path.{_≡_, ap, _∙_}
+use mathlib.Core.Path.{_≡_}
 use mathlib.Core.Bool.{true, false}
 use Prim.Native.Nat.{ℕ}
-use lib.Dec.{eqb}
 use lib.Ieee.{Float, eq}
 use borrow.Author.Tests.{eq-eqb, ne-eqb}
 use Rattle.cells.specs.declared.Cell.{Cell}

@@ -1,5 +1,6 @@
 -- Cells for a program in another language: numbers and doubles. Definitions only.
 use mathlib.Core.Bool.{cond, false}
+use mathlib.Core.Path.{_≡_}
 use lib.Dec.{eqb}
 use lib.IntN.{pos}
 use lib.Ieee.{Float, fin, eq}
@@ -8,8 +9,12 @@ use Rattle.cells.specs.declared.Cell.the-variants.{Empty, Exact, Band}
 use Rattle.cells.specs.declared.CellAnswer.{CellAnswer}
 use Rattle.cells.specs.declared.CellAnswer.the-variants as sum
 use Rattle.cells.specs.Sums.{cellSum}
+use Rattle.shares.specs.declared.Travel.{Travel}
+use Rattle.shares.specs.declared.Words.{Words}
 use Rattle.row_cells.specs.declared.RowAnswer.{RowAnswer}
 use Rattle.row_cells.specs.declared.RowAnswer.the-variants as row
+use Rattle.row_cells.specs.Promise.{RowPromise}
+use Rattle.row_cells.specs.Rows.{rowAnswer}
 use Rattle.evaporation.specs.declared.map_cells.EvpCell.{EvpCell}
 use Rattle.evaporation.specs.declared.map_cells.EvpRowCells.{EvpRowCells}
 use Rattle.evaporation.specs.declared.map_cells.EvpCellSum.{EvpCellSum}
@@ -26,6 +31,11 @@ cellNumbers (Band low high) = record { kind = 2; low = low; high = high }
 unfoldable pub rowNumbers : RowAnswer → EvpRowCells
 rowNumbers (row.Cells v) = record { number = 0; place = 0; urban = cellNumbers (v .urban); rural = cellNumbers (v .rural); highway = cellNumbers (v .highway) }
 rowNumbers (row.Refused number place) = record { number = number; place = place; urban = cellNumbers Empty; rural = cellNumbers Empty; highway = cellNumbers Empty }
+
+-- what holds after the call for a row, as `cells_of_row` has it in Rattle: the numbers are those of an answer that keeps the promise
+pub record RowCellsNumbers (w : Words) (t : Travel) (r : EvpRowCells) : Type 0 where
+  pub answer-is : r ≡ rowNumbers (rowAnswer w t)
+  pub promise : RowPromise w t (rowAnswer w t)
 
 unfoldable pub sumNumbers : CellAnswer → EvpCellSum
 sumNumbers (sum.Sum c) = record { number = 0; place = 0; cell = cellNumbers c }

@@ -7,8 +7,7 @@ use row_cells::cells_of_row;
 use shares::Travel;
 use shares::Words;
 ghost use mathlib.Core.Path.{_≡_};
-ghost use Rattle.row_cells.specs.Rows.{rowAnswer};
-ghost use Rattle.evaporation.specs.Cells.{cellNumbers, rowNumbers, sumNumbers, exactHanded, cellHanded, handedSum};
+ghost use Rattle.evaporation.specs.Cells.{cellNumbers, rowNumbers, RowCellsNumbers, sumNumbers, exactHanded, cellHanded, handedSum};
 
 // A cell: kind 0 is empty, 1 one mass in both doubles, 2 a low and a high mass.
 #[repr(C)]
@@ -145,7 +144,7 @@ fn handed_sum(a: Handed, b: Handed) -> CellAnswer
 // The urban, rural and highway cells of a row.
 #[no_mangle]
 pub extern "C" fn evp_cells_of_row(words: Words, travel: Travel) -> EvpRowCells
-    ensures { λ r. ⌜ r ≡ rowNumbers (rowAnswer words travel) ⌝ }
+    ensures { λ r. ⌜ RowCellsNumbers words travel r ⌝ }
 {
     row_numbers(cells_of_row(words, travel))
 }

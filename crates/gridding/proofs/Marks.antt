@@ -1,15 +1,12 @@
 -- The cells of a row of an accepted sheet hold its exact shares.
 use mathlib.Core.List.{List}
-use mathlib.Core.Path.{_≡_, sym}
-use Prim.Native.Nat.{ℕ, _+_, _*_, _≤_}
-use Rattle.numbers.specs.Lists.{at}
-use Rattle.masses.specs.Figures.{MassBand}
+use mathlib.Core.Path.{refl, sym}
+use Prim.Native.Nat.{ℕ, _≤_}
 use Rattle.report_words.specs.Promise.{RowPromise}
 use Rattle.shares.specs.ExactShares.{InWords}
 use Rattle.row_cells.specs.declared.RowAnswer.the-variants.{Cells}
-use Rattle.row_cells.specs.Promise as cells
 use Rattle.row_cells.proofs.Promised.{promised}
-use Rattle.gridding.specs.Marker.{rowWords, exactMasses, Marked, MarkedTheorem}
+use Rattle.gridding.specs.Marker.{rowWords, exactMasses, MarkedTheorem}
 
 -- each exact mass lies in its two words
 in-words : {s words : List ℕ} {i : ℕ} → RowPromise s words i → (n : ℕ) → 40 ≤ n → InWords (rowWords words i) (exactMasses n s i)
@@ -20,10 +17,9 @@ in-words p n h = record {
 }
 
 pub marked : MarkedTheorem
-unfolding cells.RowPromise
 marked s old words r a z i row t v e =
     let p = in-words (a .promise z .each-row i row) in
-    let c : cells.CellsPromise (rowWords words i) t v = promised (rowWords words i) t (Cells v) (sym e) in
+    let c = promised (rowWords words i) t (Cells v) (sym e) .cells v refl in
     record {
       urban = λ n h. c .urban .holds (exactMasses n s i) (p n h);
       rural = λ n h. c .rural .holds (exactMasses n s i) (p n h);

@@ -1,10 +1,8 @@
 -- A product over a divisor, taken digit by digit of its first factor, for every base B of the digits.
-use mathlib.Core.Path.{_≡_, refl, sym, _∙_, ap, subst}
-use mathlib.Core.Bool.{Bool, true, false}
-use Prim.Native.Nat.{ℕ, suc, zero, _+_, _*_, _-_, _/_, _%_, _^_, _≤_, _<_}
-use native.Mathlib.Nat.{mul-le-mul, mul-le-mul-left, mul-le-mul-right, div-add-mod', mul-add-div-right, div-lt-iff-lt-mul, mod-lt, div-mul-le-self, lt-div-mul-add, le-of-mul-le-mul-right, mul-comm, mul-div-cancel}
+use mathlib.Core.Path.{_≡_, sym, _∙_, ap}
+use Prim.Native.Nat.{ℕ, _+_, _*_, _-_, _/_, _%_, _^_, _≤_, _<_}
+use native.Mathlib.Nat.{mul-le-mul, mul-le-mul-left, div-add-mod', mul-add-div-right, div-lt-iff-lt-mul, mod-lt, div-mul-le-self, le-of-mul-le-mul-right}
 use native.Mathlib.Omega.{arith}
-use Rattle.cells.specs.Doubles.{massLimit}
 use Rattle.shares.specs.Range.{partsLimit}
 use Rattle.shares.proofs.Ranges.{cut-up-below}
 

@@ -1,8 +1,7 @@
 -- The checks of a row say whether its demands are met.
 use mathlib.Core.Path.{_≡_, refl, sym, _∙_}
 use mathlib.Core.Bool.{Bool, true, false, _||_, true≢false}
-use Prim.Native.Nat.{ℕ, _≤_, _<_}
-use lib.Dec.{ltb}
+use Prim.Native.Nat.{ℕ}
 use borrow.Author.Tests.{ltb-false, le-ltb}
 use Rattle.cells.specs.Doubles.{massLimit}
 use Rattle.shares.specs.declared.Travel.{Travel}

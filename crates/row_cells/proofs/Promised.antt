@@ -1,7 +1,7 @@
 -- A row's cells hold its exact shares, and a refusal has its reason.
-use mathlib.Core.Logic.{_⊎_, inl, inr}
+use mathlib.Core.Logic.{inl, inr}
 use mathlib.Core.Path.{_≡_, refl, sym, subst}
-use mathlib.Core.Bool.{Bool, true, false, cond, _||_}
+use mathlib.Core.Bool.{Bool, true, false, _||_}
 use Prim.Native.Nat.{ℕ, _≤_}
 use native.Mathlib.Omega.{arith}
 use Rattle.cells.specs.Doubles.{massLimit}
@@ -19,8 +19,8 @@ use Rattle.shares.proofs.Enclosure.{sum-above, sum-below}
 use Rattle.row_cells.specs.declared.RowCells.{RowCells}
 use Rattle.row_cells.specs.declared.RowAnswer.{RowAnswer}
 use Rattle.row_cells.specs.declared.RowAnswer.the-variants.{Cells, Refused}
-use Rattle.row_cells.specs.Rows.{travelWrong, wordsWrong, over, roadCell, sharedOut, rowAnswer}
-use Rattle.row_cells.specs.Promise.{RoomIn, CellPromise, CellsPromise, Refusal, RowPromise}
+use Rattle.row_cells.specs.Rows.{travelWrong, wordsWrong, over, roadCell, sharedOut, rowAnswer, numberOf, placeOf}
+use Rattle.row_cells.specs.Promise.{RoomIn, CellPromise, CellsPromise, RowSays, RowPromise}
 use Rattle.row_cells.proofs.Demanded.{travel-met, travel-unmet, words-met, words-unmet, room-met, room-unmet}
 
 -- "the sum of a cell's exact shares lies in that cell, and is 0 where the cell is empty"
@@ -34,6 +34,9 @@ encloses w k i j room = record {
     order : total (lowShares w k) ≤ total (highShares w k)
     order = shares-in w k i j .order
 
+no-cells : {number place : ℕ} (v : RowCells) → Refused number place ≡ Cells v → ⊥
+no-cells v e = let z : _≡_ {A = ℕ} 0 1 = cc in omega arith
+
 module _ (w : Words) (t : Travel) where
   -- the three cells of a row of which nothing is refused
   abbrev given : RowCells
@@ -42,31 +45,42 @@ module _ (w : Words) (t : Travel) where
   cells-kept : TravelIn t → WordsIn w → RoomIn (rowShares w t) → CellsPromise w t given
   unfolding rowShares roadShares
   cells-kept i j r = record {
-    travel-in = i;
-    words-in = j;
-    room-in = r;
     urban = encloses w (urbanRoad t) j (urban-in t i) (r .urban-room);
     rural = encloses w (ruralRoad t) j (rural-in t i) (r .rural-room);
     highway = encloses w (highwayRoad t) j (highway-in t i) (r .highway-room);
   }
 
+  refusal : {number : ℕ} → RowSays w t number 0 → RowPromise w t (Refused number 0)
+  unfolding numberOf placeOf
+  refusal says = record { says = says; cells = λ v e. absurd (no-cells v e) }
+
+  answer : TravelIn t → WordsIn w → RoomIn (rowShares w t) → RowPromise w t (Cells given)
+  unfolding numberOf placeOf
+  answer i j r = record {
+    says = record { place-is = refl; meaning = inl (refl, i, j, r) };
+    cells = λ v e. subst (λ (x : RowCells). CellsPromise w t x) (same v e) (cells-kept i j r);
+  }
+    where
+      same : (v : RowCells) → Cells given ≡ Cells v → given ≡ v
+      same v e = cc
+
   -- what the definition answers keeps the promise
   answer-kept : RowPromise w t (rowAnswer w t)
-  unfolding rowAnswer sharedOut rowShares RowPromise
+  unfolding rowAnswer sharedOut rowShares
   answer-kept = travel (travelWrong t) refl
     where
-      room : TravelIn t → WordsIn w → (c : Bool) → (over (roadShares w (urbanRoad t)) || over (roadShares w (ruralRoad t)) || over (roadShares w (highwayRoad t))) ≡ c
-          → RowPromise w t (cond c (Refused 27 0) (Cells given))
-      room i j true e = record { place-is = refl; reason = inr (refl, i, λ m. room-unmet (rowShares w t) e (m .1)) }
-      room i j false e = cells-kept i j (room-met (rowShares w t) e)
+      room : travelWrong t ≡ false → wordsWrong w ≡ false → (c : Bool)
+          → (over (roadShares w (urbanRoad t)) || over (roadShares w (ruralRoad t)) || over (roadShares w (highwayRoad t))) ≡ c → RowPromise w t (rowAnswer w t)
+      room e f true g = rw (e, f, g) (refusal (record { place-is = refl; meaning = inr (inr (refl, travel-met t e, λ m. room-unmet (rowShares w t) g (m .1))) }))
+      room e f false g = rw (e, f, g) (answer (travel-met t e) (words-met w f) (room-met (rowShares w t) g))
 
-      words : TravelIn t → (b : Bool) → wordsWrong w ≡ b → RowPromise w t (cond b (Refused 27 0) (sharedOut (rowShares w t)))
-      words i true e = record { place-is = refl; reason = inr (refl, i, λ m. words-unmet w e (m .0)) }
-      words i false e = room i (words-met w e) _ refl
+      words : travelWrong t ≡ false → (b : Bool) → wordsWrong w ≡ b → RowPromise w t (rowAnswer w t)
+      words e true f = rw (e, f) (refusal (record { place-is = refl; meaning = inr (inr (refl, travel-met t e, λ m. words-unmet w f (m .0))) }))
+      words e false f = room e f _ refl
 
-      travel : (a : Bool) → travelWrong t ≡ a → RowPromise w t (cond a (Refused 28 0) (cond (wordsWrong w) (Refused 27 0) (sharedOut (rowShares w t))))
-      travel true e = record { place-is = refl; reason = inl (refl, travel-unmet t e) }
-      travel false e = words (travel-met t e) _ refl
+      travel : (a : Bool) → travelWrong t ≡ a → RowPromise w t (rowAnswer w t)
+      travel true e = rw e (refusal (record { place-is = refl; meaning = inr (inl (refl, travel-unmet t e)) }))
+      travel false e = words e _ refl
 
   pub promised : (v : RowAnswer) → v ≡ rowAnswer w t → RowPromise w t v
   promised v e = subst (λ (a : RowAnswer). RowPromise w t a) (sym e) answer-kept

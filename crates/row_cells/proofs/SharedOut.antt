@@ -1,22 +1,19 @@
 -- The cells of a row as the program makes them.
-use mathlib.Core.Path.{_≡_, sym, ap, _∙_}
+use mathlib.Core.Path.{_≡_, ap, _∙_}
 use mathlib.Core.Bool.{Bool, true, false, _||_}
-use Prim.Native.Nat.{_≤_}
-use Rattle.cells.specs.Doubles.{massLimit}
 use Rattle.cells.specs.Between.{cellBetween}
 use Rattle.cells.proofs.Between.{between-is}
 use Rattle.shares.specs.declared.Travel.{Travel}
 use Rattle.shares.specs.declared.Words.{Words}
 use Rattle.shares.specs.declared.RoadShares.{RoadShares}
 use Rattle.shares.specs.declared.RowShares.{RowShares}
-use Rattle.shares.specs.Range.{SharesIn, RowIn}
+use Rattle.shares.specs.Range.{RowIn}
 use Rattle.shares.specs.Shares.{total, rowShares}
 use Rattle.row_cells.specs.declared.Limits.{Limits}
 use Rattle.row_cells.specs.declared.RowCells.{RowCells}
 use Rattle.row_cells.specs.declared.RowAnswer.{RowAnswer}
 use Rattle.row_cells.specs.declared.RowAnswer.the-variants.{Cells, Refused}
 use Rattle.row_cells.specs.Limits.{Fits, limitsOf, cellsOf}
-use Rattle.row_cells.specs.Promise.{RoomIn}
 use Rattle.row_cells.specs.Rows.{over, roadCell, sharedOut, travelWrong, wordsWrong, rowAnswer}
 use Rattle.row_cells.proofs.Demanded.{room-met}
 

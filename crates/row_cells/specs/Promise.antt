@@ -15,7 +15,8 @@ use Rattle.shares.specs.Shares.{total, rowShares}
 use Rattle.shares.specs.ExactShares.{ExactMasses, InWords, exactSum}
 use Rattle.row_cells.specs.declared.RowCells.{RowCells}
 use Rattle.row_cells.specs.declared.RowAnswer.{RowAnswer}
-use Rattle.row_cells.specs.declared.RowAnswer.the-variants.{Cells, Refused}
+use Rattle.row_cells.specs.declared.RowAnswer.the-variants.{Cells}
+use Rattle.row_cells.specs.Rows.{numberOf, placeOf}
 
 -- no cell's high is above 2⁵³
 pub record RoomIn (s : RowShares) : Type 0 where
@@ -29,20 +30,18 @@ pub record CellPromise (w : Words) (k : Road) (c : Cell) : Type 0 where
   pub holds : (x : ExactMasses) → InWords w x → InCell c (exactSum x k)
   pub no-minus : NoMinus c
 
--- where cells are given, nothing of 28 and 27 applies
 pub record CellsPromise (w : Words) (t : Travel) (v : RowCells) : Type 0 where
-  pub travel-in : TravelIn t
-  pub words-in : WordsIn w
-  pub room-in : RoomIn (rowShares w t)
   pub urban : CellPromise w (urbanRoad t) (v .urban)
   pub rural : CellPromise w (ruralRoad t) (v .rural)
   pub highway : CellPromise w (highwayRoad t) (v .highway)
 
--- where none are given: 28, or else 27, "place 0"
-pub record Refusal (w : Words) (t : Travel) (number place : ℕ) : Type 0 where
+-- what an answer's number means, "place 0": nothing of 28 and 27 applies; or 28; or, where that does not apply, 27
+pub record RowSays (w : Words) (t : Travel) (number place : ℕ) : Type 0 where
   pub place-is : place ≡ 0
-  pub reason : ((number ≡ 28) × ¬ (TravelIn t)) ⊎ ((number ≡ 27) × TravelIn t × ¬ (WordsIn w × RoomIn (rowShares w t)))
+  pub meaning : ((number ≡ 0) × TravelIn t × WordsIn w × RoomIn (rowShares w t)) ⊎
+      ((number ≡ 28) × ¬ (TravelIn t)) ⊎
+      ((number ≡ 27) × TravelIn t × ¬ (WordsIn w × RoomIn (rowShares w t)))
 
-unfoldable pub RowPromise : Words → Travel → RowAnswer → Type 0
-RowPromise w t (Cells v) = CellsPromise w t v
-RowPromise w t (Refused number place) = Refusal w t number place
+pub record RowPromise (w : Words) (t : Travel) (r : RowAnswer) : Type 0 where
+  pub says : RowSays w t (numberOf r) (placeOf r)
+  pub cells : (v : RowCells) → r ≡ Cells v → CellsPromise w t v

@@ -50,3 +50,12 @@ rowAnswer w t =
     cond (travelWrong t) (Refused 28 0)
     (cond (wordsWrong w) (Refused 27 0)
     (sharedOut (rowShares w t)))
+
+-- "a definition gives this paper's number and values for each of the enum's cases": number 0 stands for cells
+unfoldable pub numberOf : RowAnswer → ℕ
+numberOf (Cells v) = 0
+numberOf (Refused number place) = number
+
+unfoldable pub placeOf : RowAnswer → ℕ
+placeOf (Cells v) = 0
+placeOf (Refused number place) = place

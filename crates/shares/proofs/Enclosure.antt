@@ -1,6 +1,5 @@
 -- A road kind's shares, cut down and cut up, enclose its exact shares.
-use mathlib.Core.Path.{_≡_}
-use Prim.Native.Nat.{ℕ, suc, zero, _+_, _*_, _-_, _/_, _≤_, _<_, max}
+use Prim.Native.Nat.{ℕ, suc, zero, _+_, _*_, _-_, _≤_, _<_}
 use native.Mathlib.Nat.{div-mul-le-self, lt-div-mul-add}
 use native.Mathlib.Omega.{arith}
 use Rattle.numbers.specs.Fraction.{Fraction, _≤ᶠ_, _≈ᶠ_, _+ᶠ_, whole, _over_, _times_}

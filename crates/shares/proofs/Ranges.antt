@@ -1,5 +1,4 @@
 -- The fractions of each road kind and the shares of a row lie in their ranges.
-use mathlib.Core.Path.{_≡_}
 use mathlib.Core.Bool.{Bool, true, false, cond}
 use Prim.Native.Nat.{ℕ, _+_, _*_, _-_, _/_, _^_, _≤_, _<_}
 use native.Mathlib.Nat.{mul-le-mul, mul-le-mul-left, mul-pos, div-mul-le-self, le-div-iff-mul-le, div-lt-iff-lt-mul}
@@ -32,7 +31,14 @@ rest-in false part all s p l = record { some = s; within = p; small = omega arit
 
 module _ (t : Travel) (h : TravelIn t) where
   pub times-some : 0 < bothTimes t
-  times-some = omega (arith, mul-pos (h .rural-mileage .least) (h .highway-speed .least))
+  times-some = omega (arith, mul-pos (h .rural-mileage .least) (h .highway-speed .least), mul-pos (h .highway-mileage .least) (h .rural-speed .least))
+
+  pub rest-some : 0 < restParts t
+  rest-some = go (t .town)
+    where
+      go : (b : Bool) → 0 < cond b (12 * bothTimes t) (bothTimes t)
+      go true = omega (arith, times-some)
+      go false = times-some
 
   times-most : bothTimes t ≤ 2 * 10 ^ 12
   times-most = omega (arith, mul-le-mul (h .rural-mileage .most) (h .highway-speed .most), mul-le-mul (h .highway-mileage .most) (h .rural-speed .most))
@@ -43,8 +49,8 @@ module _ (t : Travel) (h : TravelIn t) where
   pub urban-in : RoadIn (urbanRoad t)
   unfolding urbanRoad
   urban-in = record {
-    diurnal-in = pick (t .town) 11 0 12 (omega arith) (omega arith) (omega arith) (omega arith);
-    soak-in = pick (t .town) 1 0 1 (omega arith) (omega arith) (omega arith) (omega arith);
+    diurnal-in = pick (t .town) _ _ _ (omega arith) (omega arith) (omega arith) (omega arith);
+    soak-in = pick (t .town) _ _ _ (omega arith) (omega arith) (omega arith) (omega arith);
     running-in = drive-in (t .mileage .urban) (omega arith);
   }
 
@@ -52,7 +58,7 @@ module _ (t : Travel) (h : TravelIn t) where
   unfolding ruralRoad
   rural-in = record {
     diurnal-in = rest-in (t .town) (ruralTime t) (bothTimes t) times-some (omega arith) times-most;
-    soak-in = pick (t .town) 0 1 1 (omega arith) (omega arith) (omega arith) (omega arith);
+    soak-in = pick (t .town) _ _ _ (omega arith) (omega arith) (omega arith) (omega arith);
     running-in = drive-in (t .mileage .rural) (omega arith);
   }
 

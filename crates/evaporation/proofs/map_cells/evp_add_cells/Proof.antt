@@ -1,8 +1,7 @@
 -- `evaporation::map_cells::evp_add_cells` meets its contract.
 use borrow.Author.Needs.{needs}
 use mathlib.Core.Path.{ap, _∙_}
-use Rattle.cells.specs.declared.CellAnswer.{CellAnswer}
-use Rattle.evaporation.specs.Cells.{sumNumbers, handedSum}
+use Rattle.evaporation.specs.Cells.{sumNumbers}
 use Rattle.evaporation.proofs.map_cells.evp_add_cells.Statement.{statement}
 use Rattle.evaporation.proofs.map_cells.evp_add_cells.Tie as tie
 

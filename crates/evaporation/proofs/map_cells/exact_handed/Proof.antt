@@ -1,5 +1,4 @@
 -- `evaporation::map_cells::exact_handed` meets its contract.
-use borrow.Author.Needs.{needs}
 use Rattle.evaporation.proofs.CellNumbers.{both-equal, both-differ}
 use Rattle.evaporation.proofs.map_cells.exact_handed.Statement.{statement}
 use Rattle.evaporation.proofs.map_cells.exact_handed.Tie as tie

@@ -5,7 +5,8 @@ use Rattle.evaporation.proofs.map_cells.row_numbers.Statement.{statemen
 use Rattle.evaporation.proofs.map_cells.row_numbers.Tie as tie
 
 returns : tie.Need-returns
-returns c = row-cells _ (c .before .before .before .before .a .given .1) (c .before .before .cell-numbers .ensures) (c .before .cell-numbers2 .ensures) (c .cell-numbers3 .ensures)
+returns c =
+    row-cells _ (c .before .before .before .before .a .given .1) (c .before .before .cell-numbers .ensures) (c .before .cell-numbers2 .ensures) (c .cell-numbers3 .ensures)
 
 returns-2 : tie.Need-returns-2
 returns-2 c =

@@ -4,27 +4,6 @@ use borrow.Author.Needs.{needs}
 use Rattle.road_shares.proofs.roads.highway_road.Statement.{statement}
 use Rattle.road_shares.proofs.roads.highway_road.Tie as tie
 
-time-requires : tie.Need-time-requires
-time-requires c κs = search needs
-
-time-requires-2 : tie.Need-time-requires-2
-time-requires-2 c κs = search needs
-
-add-both : tie.Need-add-both
-add-both c = search needs
-
-mul-in-town : tie.Need-mul-in-town
-mul-in-town c = search needs
-
-in-town-requires : tie.Need-in-town-requires
-in-town-requires c κs = search needs
-
-add-t7 : tie.Need-add-t7
-add-t7 c = search needs
-
-add-t8 : tie.Need-add-t8
-add-t8 c = search needs
-
 returns : tie.Need-returns
 unfolding highwayRoad
 returns c = cc
@@ -33,11 +12,11 @@ pub highway-road-spec : {M : Type 1} → statement M
 highway-road-spec =
     tie.close
     (tie.spec
-    time-requires
-    time-requires-2
-    add-both
-    mul-in-town
-    in-town-requires
-    add-t7
-    add-t8
+    (λ c κs. search needs)
+    (λ c κs. search needs)
+    (λ c. search needs)
+    (λ c. search needs)
+    (λ c κs. search needs)
+    (λ c. search needs)
+    (λ c. search needs)
     returns)

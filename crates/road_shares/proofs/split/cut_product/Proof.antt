@@ -1,6 +1,6 @@
 -- `road_shares::split::cut_product` meets its contract: the mass is taken in three digits.
 use mathlib.Core.Path.{_∙_}
-use Prim.Native.Nat.{_+_, _*_, _/_, _%_}
+use Prim.Native.Nat.{_/_}
 use native.Mathlib.Nat.{mod-lt}
 use native.Mathlib.Omega.{arith}
 use Rattle.road_shares.proofs.Digits.{digit-product, part-below, digit-whole, digit-rest}
@@ -10,12 +10,6 @@ use Rattle.road_shares.proofs.split.cut_product.Tie as tie
 
 mul-n : tie.Need-mul-n
 mul-n c = omega (arith, digit-product {digit = c .args .mass / 262144 / 262144} {part = c .args .part} {all = c .args .all} (omega arith) (omega arith) (omega arith))
-
-div-next-digit : tie.Need-div-next-digit
-div-next-digit c = search needs
-
-rem-next-digit : tie.Need-rem-next-digit
-rem-next-digit c = search needs
 
 next-digit-requires : tie.Need-next-digit-requires
 next-digit-requires c κs =
@@ -46,8 +40,8 @@ cut-product-spec =
     tie.close
     (tie.spec
     mul-n
-    div-next-digit
-    rem-next-digit
+    (λ c. search needs)
+    (λ c. search needs)
     next-digit-requires
     next-digit-requires-2
     returns)
