@@ -1,10 +1,12 @@
 /* The calls from C: reads two sample sheets of version 1, holds their reports and factors against the values below, and the text of
  * the first against document 01's lines, and tries refusals of each call. Then the same for the sheets of version 2 that have the products of their lists as a grid, and for these
- * in versions 3 and 4, without a mileage, which must answer alike. Then a sample of version 3 with mileages, and last the species of some
- * totals. Prints what it found; the exit status is 0 only where all of it is as expected.
+ * in versions 3 and 4, without a mileage, which must answer alike. Then a sample of version 3 with mileages; the species of some totals; the
+ * cells of a row of the second sample, from the words of its report, their sum, and cells that are refused. Prints what it found; the exit
+ * status is 0 only where all of it is as expected.
  *
  * usage: example EXAMPLE.evp TABLE-3-5-DAY.evp ODOMETER.evp */
 #include <inttypes.h>
+#include <math.h>
 #include <stdio.h>
 #include <string.h>
 
@@ -299,6 +301,76 @@ static void expect_table(size_t seasons_start) {
     expect_place(seasons_start);
 }
 
+/* A cell has this kind and, bit by bit, these doubles. */
+static void expect_cell(const char *what, struct evp_cell found, uint64_t kind, double low, double high) {
+    const double expected[2] = {low, high}, doubles[2] = {found.low, found.high};
+    expect(what, found.kind, kind);
+    expect(what, (uint64_t)memcmp(doubles, expected, sizeof doubles), 0);
+}
+
+static struct evp_row_words row_words(size_t row) {
+    const uint64_t *w = words + 6 * row;
+    return (struct evp_row_words){w[0], w[1], w[2], w[3], w[4], w[5]};
+}
+
+static void expect_no_cells(struct evp_row_words row, struct evp_travel travel, uint64_t number) {
+    struct evp_row_cells found = evp_cells_of_row(row, travel);
+    expect("number of a refused row", found.number, number);
+    expect("place of a refused row", found.place, 0);
+    expect_cell("urban cell of a refused row", found.urban, EVP_EMPTY, 0, 0);
+    expect_cell("rural cell of a refused row", found.rural, EVP_EMPTY, 0, 0);
+    expect_cell("highway cell of a refused row", found.highway, EVP_EMPTY, 0, 0);
+}
+
+/* Row 2 of the table's sample, in town, and the same row elsewhere: the worked row of docs/SHEET.md. */
+static void expect_row_cells(void) {
+    struct evp_travel travel = {true, 6000, 4500, 3000, 60, 100};
+    clear_words();
+    evp_report(sheet, sheet_bytes, words, EVP_REPORT_WORDS);
+    struct evp_row_words row = row_words(1);
+    struct evp_row_cells town = evp_cells_of_row(row, travel);
+    expect("number of a row", town.number, EVP_ACCEPTED);
+    expect("place of a row", town.place, 0);
+    expect_cell("urban cell in town", town.urban, EVP_BAND, 12845183, 12845194);
+    expect_cell("rural cell in town", town.rural, EVP_BAND, 845582, 845585);
+    expect_cell("highway cell in town", town.highway, EVP_BAND, 501861, 501863);
+    travel.town = false;
+    struct evp_row_cells other = evp_cells_of_row(row, travel);
+    expect_cell("urban cell", other.urban, EVP_BAND, 818140, 818142);
+    expect_cell("rural cell", other.rural, EVP_BAND, 11851924, 11851935);
+    expect_cell("highway cell", other.highway, EVP_BAND, 1522562, 1522565);
+    struct evp_cell_sum sum = evp_add_cells(town.urban, other.urban);
+    expect("number of a sum", sum.number, EVP_ACCEPTED);
+    expect_cell("sum of two cells", sum.cell, EVP_BAND, 13663323, 13663336);
+    row.soak_low = row.soak_high + 1;
+    expect_no_cells(row, travel, EVP_CELL);
+    travel.highway_speed = 0;
+    expect_no_cells(row, travel, EVP_TRAVEL);
+}
+
+/* Beside an empty cell: refused, or given with this kind and these doubles. */
+static void expect_sum(const char *what, struct evp_cell cell, uint64_t number, uint64_t kind, double low, double high) {
+    struct evp_cell_sum sum = evp_add_cells(cell, (struct evp_cell){EVP_EMPTY, NAN, NAN});
+    expect(what, sum.number, number);
+    expect(what, sum.place, 0);
+    expect_cell(what, sum.cell, kind, low, high);
+}
+
+static void expect_cells(void) {
+    const double most = (double)EVP_MASS_LIMIT;
+    expect_sum("the largest mass", (struct evp_cell){EVP_EXACT, most, most}, EVP_ACCEPTED, EVP_EXACT, most, most);
+    expect_sum("a minus zero", (struct evp_cell){EVP_BAND, -0.0, 7}, EVP_ACCEPTED, EVP_BAND, 0.0, 7);
+    expect_sum("an exact 0", (struct evp_cell){EVP_EXACT, 0, 0}, EVP_CELL, EVP_EMPTY, 0, 0);
+    expect_sum("an exact NaN", (struct evp_cell){EVP_EXACT, NAN, NAN}, EVP_CELL, EVP_EMPTY, 0, 0);
+    expect_sum("two masses as one", (struct evp_cell){EVP_EXACT, 5, 6}, EVP_CELL, EVP_EMPTY, 0, 0);
+    expect_sum("an equal band", (struct evp_cell){EVP_BAND, 7, 7}, EVP_CELL, EVP_EMPTY, 0, 0);
+    expect_sum("an infinity", (struct evp_cell){EVP_BAND, 7, INFINITY}, EVP_CELL, EVP_EMPTY, 0, 0);
+    expect_sum("a fraction", (struct evp_cell){EVP_BAND, 0.5, 7}, EVP_CELL, EVP_EMPTY, 0, 0);
+    expect_sum("a kind that is none", (struct evp_cell){3, 5, 7}, EVP_CELL, EVP_EMPTY, 0, 0);
+    struct evp_cell_sum over = evp_add_cells((struct evp_cell){EVP_EXACT, most, most}, (struct evp_cell){EVP_EXACT, 1, 1});
+    expect("a sum of 2^53 + 1", over.number, EVP_CELL);
+}
+
 int main(int count, char **paths) {
     if (count != 4) {
         fprintf(stderr, "usage: example EXAMPLE.evp TABLE-3-5-DAY.evp ODOMETER.evp\n");
@@ -330,10 +402,14 @@ int main(int count, char **paths) {
         return 2;
     expect_odometer();
     expect_all_species();
+    if (!read_sheet(paths[2]))
+        return 2;
+    expect_row_cells();
+    expect_cells();
     if (mismatches != 0) {
         printf("%d mismatches\n", mismatches);
         return 1;
     }
-    printf("the four calls answer C as expected\n");
+    printf("the calls answer C as expected\n");
     return 0;
 }

@@ -1,5 +1,5 @@
-/* The calls of the evaporation workbook for a program in C: the report of a sheet, in words or as a text, one emission factor, and the
- * species of a mass.
+/* The calls of the evaporation workbook for a program in C: the report of a sheet, in words or as a text, one emission factor, the
+ * species of a mass, and cells of a map made of a row's words.
  *
  * They stand in the static library target/staticlib/libevaporation.a, which `rt staticlib evaporation` makes from the proved
  * crate (x86-64 Linux); it needs only the C library. c/example.c is a program over them.
@@ -18,6 +18,7 @@
 #ifndef EVAPORATION_H
 #define EVAPORATION_H
 
+#include <stdbool.h>
 #include <stddef.h>
 #include <stdint.h>
 
@@ -71,7 +72,11 @@ enum evp_number {
     EVP_MILEAGE = 25,        /* a mileage above 1,000,000 km; or one above 0 with no canister, beside a load, or where the exponent of
                               * the saturating load is above 0 in some season */
     EVP_ROOM = 22,           /* the report call: fewer words than the report has; the species call: fewer than 29; place 0 */
-    EVP_ABSENT = 23          /* the factor call: the sheet has no such season or row, or the factor is not 1 to 7; place 0 */
+    EVP_ABSENT = 23,         /* the factor call: the sheet has no such season or row, or the factor is not 1 to 7; place 0 */
+    EVP_TRAVEL = 28,         /* the call for cells: a mileage or a speed is not 1 to 1,000,000; place 0 */
+    EVP_CELL = 27            /* both calls for cells: a low above its high; a word, cell or sum above EVP_MASS_LIMIT; or a cell handed in that
+                              * is none, as one exact 0, a band whose low is not below its high, a kind above 2, and a double that is no whole
+                              * number from 0 to EVP_MASS_LIMIT; place 0 */
 };
 
 /* The answer of the report call, and of the species call. */
@@ -126,6 +131,57 @@ static const char *const evp_species_names[EVP_SPECIES] = {
  * Accepted: the first 29 words are written, those beyond keep what they had. With fewer words the answer is EVP_ROOM, place 0, and all
  * words keep what they had. */
 struct evp_check evp_species(uint64_t total, uint64_t *milligrams, size_t count);
+/* Cells for a map: masses in milligrams, as doubles that are whole numbers. */
+
+/* The largest mass of a cell: 2^53 milligrams, some nine million tonnes. Up to here every whole number is a double. */
+#define EVP_MASS_LIMIT UINT64_C(9007199254740992)
+
+/* The six words of a row, as they stand in the report. */
+struct evp_row_words {
+    uint64_t diurnal_low, diurnal_high, soak_low, soak_high, running_low, running_high;
+};
+
+/* Whether the row's owners live in town, and where its vehicles drive. Mileages are in any unit, alike for all three, and so are the two
+ * speeds: only their proportions count. Each of the five is from 1 to 1,000,000. */
+struct evp_travel {
+    bool town;
+    uint64_t urban_mileage, rural_mileage, highway_mileage, rural_speed, highway_speed;
+};
+
+enum evp_kind {
+    EVP_EMPTY = 0, /* no mass; low and high are 0 where it is given, and not read where it is handed in */
+    EVP_EXACT = 1, /* one mass above 0, in both low and high */
+    EVP_BAND = 2   /* a low and a high mass, the low below the high */
+};
+
+struct evp_cell {
+    uint64_t kind; /* of enum evp_kind */
+    double low;
+    double high;
+};
+
+/* The answer of the call for a row. Refused: three empty cells. */
+struct evp_row_cells {
+    uint64_t number; /* 0, EVP_TRAVEL or EVP_CELL */
+    uint64_t place;  /* 0 */
+    struct evp_cell urban, rural, highway;
+};
+
+/* The answer of the call for a sum. Refused: an empty cell. */
+struct evp_cell_sum {
+    uint64_t number; /* 0 or EVP_CELL */
+    uint64_t place;  /* 0 */
+    struct evp_cell cell;
+};
+
+/* A row's urban, rural and highway cells: the sums of its shares of the three mechanisms, each share's low rounded down and its high up.
+ * Where the exact masses lie in the row's words, the sum of a cell's exact shares lies in the cell, and is 0 where it is empty.
+ * EVP_TRAVEL is checked first. */
+struct evp_row_cells evp_cells_of_row(struct evp_row_words words, struct evp_travel travel);
+
+/* The sum of two cells, exact; more are added one after the other, in any order. A minus zero handed in counts as 0, and none is given
+ * back. */
+struct evp_cell_sum evp_add_cells(struct evp_cell a, struct evp_cell b);
 
 #ifdef __cplusplus
 }

@@ -1,6 +1,5 @@
-"""The inputs of the programs *_vectors, for the five tools that make them:
-vectors.py, species.py, sheets.py, factors.py and reports.py. No command of its
-own."""
+"""The inputs of the programs *_vectors, for the tools that make them. No command
+of its own."""
 
 import sys
 from pathlib import Path

@@ -1,6 +1,5 @@
 #!/usr/bin/env python3
-"""Checks tools/evaporation.py, tools/sheet.py, tools/picture.py, tools/species.py
-and the samples.
+"""Checks what stands under tools/, and the samples.
 
   python3 tools/selftest.py
 
@@ -14,6 +13,7 @@ import math
 import os
 import random
 import re
+import struct
 import sys
 import tempfile
 import time
@@ -24,6 +24,7 @@ sys.dont_write_bytecode = True
 HERE = os.path.dirname(os.path.abspath(__file__))
 sys.path.insert(0, HERE)
 
+import cells  # noqa: E402
 import districts  # noqa: E402
 import evaporation as ev  # noqa: E402
 import picture  # noqa: E402
@@ -938,6 +939,63 @@ def check_picture():
     return "the picture of figures: each at its place, the even line through the last; faulty texts named"
 
 
+def double_bits(x):
+    return struct.unpack("<Q", struct.pack("<d", x))[0]
+
+
+def check_doubles():
+    """The bits of cells.py against those of the machine's doubles."""
+    for n in [*range(2000), *(2 ** k + d for k in range(11, 53) for d in (-1, 0, 1)), 2 ** 53 - 1, 2 ** 53, 2 ** 53 + 2, 2 ** 64]:
+        same(cells.bits_of(n), double_bits(float(n)), "bits of %d" % n)
+        same(cells.mass_of(cells.bits_of(n)), n if n <= 2 ** 53 else None, "mass of %d" % n)
+    for x in (0.0, -0.0, 0.5, -1.5, 5e-324, -5e-324, 2.2250738585072014e-308, 1e300, 0.1, 1 - 2 ** -53):
+        same(cells.value_of(double_bits(x)), Fraction(x), "value of %r" % x)
+    for x in (math.inf, -math.inf, math.nan, -math.nan):
+        same(cells.value_of(double_bits(x)), None, "value of %r" % x)
+        same(cells.mass_of(double_bits(x)), None, "mass of %r" % x)
+    for bits in cells.NANS:
+        want(math.isnan(struct.unpack("<d", struct.pack("<Q", bits))[0]), "NaN %x", bits)
+    same(cells.mass_of(double_bits(-0.0)), 0, "mass of -0")
+    same(cells.mass_of(double_bits(-5e-324)), None, "mass of the least below 0")
+    return "doubles: bits, values, and which are masses"
+
+
+def check_map_cells():
+    """The worked row; that the parts of each mechanism add up to 1, rural to
+    highway as the products stand; that a row's exact shares lie in its cells;
+    that sums may be added in any order."""
+    number, place, found = cells.cells_of_row(cells.WORKED)
+    worked = [(cell.kind, cells.mass_of(cell.low), cells.mass_of(cell.high)) for cell in found]
+    same((number, place, worked), (0, 0, [(2, 12845183, 12845194), (2, 845582, 845585), (2, 501861, 501863)]), "the worked row")
+    rows, sums = cells.found()
+    for row in rows:
+        reason = cells.refusal_of(row)
+        if reason == "travel":
+            continue
+        travel, parts = row.travel, cells.shares(row.travel)
+        want(all(sum(mechanism) == 1 for mechanism in parts), "shares of %s", travel)
+        diurnal, soak, _ = parts
+        same(diurnal[1] * travel.highway_mileage * travel.rural_speed, diurnal[2] * travel.rural_mileage * travel.highway_speed, "ratio of %s" % (travel,))
+        same((diurnal[0], soak[0]), (Fraction(11, 12), 1) if travel.town else (0, 0), "urban of %s" % (travel,))
+        if reason is None:
+            lows, highs = row.words[::2], row.words[1::2]
+            for (low, high), road in zip(cells.limits_of(row), zip(*parts)):
+                want(low <= sum(m * p for m, p in zip(lows, road)) and sum(m * p for m, p in zip(highs, road)) <= high, "cells of %s", row)
+                want(high - low < sum((h - l) * p for l, h, p in zip(lows, highs, road)) + 6, "width of %s", row)
+    chance = random.Random(6)
+    handed = [cell for pair in sums for cell in pair]
+    for _ in range(2000):
+        a, b, c = chance.choices(handed, k=3)
+        same(cells.add_cells(a, b), cells.add_cells(b, a), "exchange")
+        orders = set()
+        for x, y, z in ((a, b, c), (b, c, a), (c, a, b)):
+            number, place, cell = cells.add_cells(x, y)
+            orders.add((number, place, cell) if number else cells.add_cells(cell, z))
+        want(len(orders) == 1, "three cells: %s", orders)
+    same(list(cells.missing((rows, sums))), [], "vectors of cells")
+    return "cells: a worked row, %d rows whose shares add up and are enclosed, sums in any order" % len(rows)
+
+
 def as_grid(data):
     """The bytes of version 2 for those of version 1: the products of the two
     lists as the grid, else the same."""
@@ -1391,6 +1449,8 @@ CHECKS = (
     check_picture,
     check_n,
     check_cold,
+    check_doubles,
+    check_map_cells,
 )
 
 

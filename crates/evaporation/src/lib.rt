@@ -8,6 +8,7 @@ ghost use Rattle.printout.specs.Text.{TextAnswer};
 ghost use Rattle.evaporation.specs.Export.{checkNumbers, factorNumbers, ReportNumbers, FactorNumbers};
 
 pub mod species;
+pub mod map_cells;
 
 // A refusal's number and place; number 0 where the sheet is accepted.
 #[repr(C)]

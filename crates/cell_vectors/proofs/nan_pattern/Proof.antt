@@ -1,0 +1,11 @@
+-- `cell_vectors::nan_pattern` meets its contract.
+use lib.Ieee.{nanBits}
+use Rattle.cell_vectors.proofs.nan_pattern.Statement.{statement}
+use Rattle.cell_vectors.proofs.nan_pattern.Tie as tie
+
+returns : tie.Need-returns
+unfolding nanBits
+returns c = cc
+
+pub nan-pattern-spec : {M : Type 1} → statement M
+nan-pattern-spec = tie.close (tie.spec returns)

@@ -1,0 +1,5 @@
+pub mod Doubles
+pub mod Cells
+pub mod Sums
+pub mod Values
+pub mod Between

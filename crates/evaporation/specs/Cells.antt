@@ -1,0 +1,59 @@
+-- Cells for a program in another language: numbers and doubles. Definitions only.
+use mathlib.Core.Bool.{cond, false}
+use mathlib.Core.Path.{_≡_}
+use lib.Dec.{eqb}
+use lib.IntN.{pos}
+use lib.Ieee.{Float, fin, eq}
+use Rattle.cells.specs.declared.Cell.{Cell}
+use Rattle.cells.specs.declared.Cell.the-variants.{Empty, Exact, Band}
+use Rattle.cells.specs.declared.CellAnswer.{CellAnswer}
+use Rattle.cells.specs.declared.CellAnswer.the-variants as sum
+use Rattle.cells.specs.Sums.{cellSum}
+use Rattle.shares.specs.declared.Travel.{Travel}
+use Rattle.shares.specs.declared.Words.{Words}
+use Rattle.row_cells.specs.declared.RowAnswer.{RowAnswer}
+use Rattle.row_cells.specs.declared.RowAnswer.the-variants as row
+use Rattle.row_cells.specs.Promise.{RowPromise}
+use Rattle.row_cells.specs.Rows.{rowAnswer}
+use Rattle.evaporation.specs.declared.map_cells.EvpCell.{EvpCell}
+use Rattle.evaporation.specs.declared.map_cells.EvpRowCells.{EvpRowCells}
+use Rattle.evaporation.specs.declared.map_cells.EvpCellSum.{EvpCellSum}
+use Rattle.evaporation.specs.declared.map_cells.Handed.{Handed}
+use Rattle.evaporation.specs.declared.map_cells.Handed.the-variants.{Given, NoCell}
+
+-- kind 0 empty, with 0 in both doubles; 1 one mass, in both; 2 a low and a high
+unfoldable pub cellNumbers : Cell → EvpCell
+cellNumbers Empty = record { kind = 0; low = fin false 0 (pos 0); high = fin false 0 (pos 0) }
+cellNumbers (Exact m) = record { kind = 1; low = m; high = m }
+cellNumbers (Band low high) = record { kind = 2; low = low; high = high }
+
+-- number 0 where the cells are given; a refusal has empty cells
+unfoldable pub rowNumbers : RowAnswer → EvpRowCells
+rowNumbers (row.Cells v) = record { number = 0; place = 0; urban = cellNumbers (v .urban); rural = cellNumbers (v .rural); highway = cellNumbers (v .highway) }
+rowNumbers (row.Refused number place) = record { number = number; place = place; urban = cellNumbers Empty; rural = cellNumbers Empty; highway = cellNumbers Empty }
+
+-- what holds after the call for a row, as `cells_of_row` has it in Rattle: the numbers are those of an answer that keeps the promise
+pub record RowCellsNumbers (w : Words) (t : Travel) (r : EvpRowCells) : Type 0 where
+  pub answer-is : r ≡ rowNumbers (rowAnswer w t)
+  pub promise : RowPromise w t (rowAnswer w t)
+
+unfoldable pub sumNumbers : CellAnswer → EvpCellSum
+sumNumbers (sum.Sum c) = record { number = 0; place = 0; cell = cellNumbers c }
+sumNumbers (sum.Refused number place) = record { number = number; place = place; cell = cellNumbers Empty }
+
+-- one mass has it in both doubles
+unfoldable pub exactHanded : Float → Float → Handed
+exactHanded low high = cond (eq low high) (Given (Exact low)) NoCell
+
+-- a cell handed in, by its kind; the doubles of an empty one are not read, and any other kind is no cell
+unfoldable pub cellHanded : EvpCell → Handed
+cellHanded c =
+    cond (eqb (c .kind) 0) (Given Empty)
+    (cond (eqb (c .kind) 1) (exactHanded (c .low) (c .high))
+    (cond (eqb (c .kind) 2) (Given (Band (c .low) (c .high))) NoCell))
+
+-- "27 .. a cell handed in that is none of these"
+unfoldable pub handedSum : Handed → Handed → CellAnswer
+handedSum (Given a) (Given b) = cellSum a b
+handedSum (Given a) NoCell = sum.Refused 27 0
+handedSum NoCell b = sum.Refused 27 0

@@ -1,0 +1,15 @@
+-- `road_shares::roads::time` meets its contract.
+use native.Mathlib.Omega.{arith}
+use native.Mathlib.Nat.{mul-le-mul}
+use mathlib.Core.Path.{refl}
+use Rattle.road_shares.proofs.roads.time.Statement.{statement}
+use Rattle.road_shares.proofs.roads.time.Tie as tie
+
+mul-result : tie.Need-mul-result
+mul-result c = omega (arith, mul-le-mul (c .pre .0) (c .pre .1))
+
+returns : tie.Need-returns
+returns c = (refl, mul-le-mul (c .pre .0) (c .pre .1))
+
+pub time-spec : {M : Type 1} → statement M
+time-spec = tie.close (tie.spec mul-result returns)

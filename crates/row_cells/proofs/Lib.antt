@@ -1,0 +1,3 @@
+pub mod Demanded
+pub mod SharedOut
+pub mod Promised
