@@ -89,19 +89,19 @@ static const uint64_t example_factors[7][2] = {
 /* Table 3-5, first column: 1,000 vehicles with one trip on one day, so that a mass in milligrams is a factor in micrograms. The
  * guidebook has 3.90, 0.10, 8.48, 11.93, 0.13, 1.84 and 10.05 g. */
 static const uint64_t table_words[EVP_WORDS_OF(3)] = {
-    3897223,  3897225,  102964,   102965,   127906,   127908,   /* row 1 */
-    3897223,  3897225,  8454589,  8454591,  1840815,  1840817,  /* row 2 */
-    3897223,  3897225,  11892289, 11892291, 10061793, 10061795, /* row 3 */
-    11691669, 11691675, 20449842, 20449847, 12030514, 12030520, /* cars */
+    3875007,  3875009,  103054,   103056,   128038,   128040,   /* row 1 */
+    3875007,  3875009,  8463293,  8463295,  1843000,  1843002,  /* row 2 */
+    3875007,  3875009,  11904539, 11904540, 10073831, 10073833, /* row 3 */
+    11625021, 11625027, 20470886, 20470891, 12044869, 12044875, /* cars */
     0,        0,        0,        0,        0,        0,        /* light-duty */
     0,        0,        0,        0,        0,        0,        /* two-wheelers */
-    11691669, 11691675, 20449842, 20449847, 12030514, 12030520, /* all rows */
-    44172025, 44172042,                                         /* grand total */
+    11625021, 11625027, 20470886, 20470891, 12044869, 12044875, /* all rows */
+    44140776, 44140793,                                         /* grand total */
 };
 
 static const uint64_t table_factors[7][2] = {
-    {3897223, 3897225}, {102964, 102965},   {8454589, 8454591},   {11892289, 11892291},
-    {127906, 127908},   {1840815, 1840817}, {10061793, 10061795},
+    {3875007, 3875009}, {103054, 103056},   {8463293, 8463295},   {11904539, 11904540},
+    {128038, 128040},   {1843000, 1843002}, {10073831, 10073833},
 };
 
 /* Document 01's example, as it is printed: 108 bytes. */
@@ -331,17 +331,17 @@ static void expect_row_cells(void) {
     struct evp_row_cells town = evp_cells_of_row(row, travel);
     expect("number of a row", town.number, EVP_ACCEPTED);
     expect("place of a row", town.place, 0);
-    expect_cell("urban cell in town", town.urban, EVP_BAND, 12845183, 12845194);
-    expect_cell("rural cell in town", town.rural, EVP_BAND, 845582, 845585);
-    expect_cell("highway cell in town", town.highway, EVP_BAND, 501861, 501863);
+    expect_cell("urban cell in town", town.urban, EVP_BAND, 12834493, 12834499);
+    expect_cell("rural cell in town", town.rural, EVP_BAND, 844988, 844990);
+    expect_cell("highway cell in town", town.highway, EVP_BAND, 501817, 501819);
     travel.town = false;
     struct evp_row_cells other = evp_cells_of_row(row, travel);
-    expect_cell("urban cell", other.urban, EVP_BAND, 818140, 818142);
-    expect_cell("rural cell", other.rural, EVP_BAND, 11851924, 11851935);
-    expect_cell("highway cell", other.highway, EVP_BAND, 1522562, 1522565);
+    expect_cell("urban cell", other.urban, EVP_BAND, 819111, 819112);
+    expect_cell("rural cell", other.rural, EVP_BAND, 11845488, 11845493);
+    expect_cell("highway cell", other.highway, EVP_BAND, 1516699, 1516702);
     struct evp_cell_sum sum = evp_add_cells(town.urban, other.urban);
     expect("number of a sum", sum.number, EVP_ACCEPTED);
-    expect_cell("sum of two cells", sum.cell, EVP_BAND, 13663323, 13663336);
+    expect_cell("sum of two cells", sum.cell, EVP_BAND, 13653604, 13653611);
     row.soak_low = row.soak_high + 1;
     expect_no_cells(row, travel, EVP_CELL);
     travel.highway_speed = 0;
