@@ -10,7 +10,7 @@ use Rattle.numbers.proofs.Order.{NonNegative, nonNegative-up, whole-nonNegative
 use Rattle.bounds.proofs.Exponential.{E-cong}
 use Rattle.exact.specs.Day.{startMark}
 use Rattle.exact.specs.Vapour.{vapour, stepVapour, parkingVapour}
-use Rattle.marks.specs.Marks.{heat, stepAt, passed}
+use Rattle.marks.specs.Marks.{stepAt}
 use Rattle.marks.proofs.Heat.{heat-most, heat-mono}
 
 -- one half-hour step from T to U: max(0, E(0.0716·U) − E(0.0716·T))

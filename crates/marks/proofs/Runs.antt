@@ -8,16 +8,16 @@ use native.Mathlib.Omega.{arith}
 use native.Mathlib.Nat.{mul-le-mul-right, mul-le-mul-left, le-of-mul-le-mul-right}
 use lib.Dec.{leb}
 use borrow.Author.Tests.{leb-true, leb-false}
-use Rattle.numbers.specs.Fraction.{Fraction, _≤ᶠ_, _≈ᶠ_, _+ᶠ_, _-ᶠ_, _*ᶠ_, whole, _/10^_}
+use Rattle.numbers.specs.Fraction.{Fraction, _≈ᶠ_, _+ᶠ_, _-ᶠ_, _*ᶠ_, whole, _/10^_}
 use Rattle.bounds.specs.Series.{E}
 use Rattle.bounds.specs.Enclosure.{Within, WithinAll}
 use Rattle.bounds.specs.Power.{degrees}
 use Rattle.bounds.proofs.Within.{weaken}
-use Rattle.numbers.proofs.Order.{NonNegative, nonNegative-up, sub-mul, ≈-refl, ≈-sym, ≈-trans, ≈→≥, +-cong, +-assoc, +-zero, +-nonNegative, sub-add, sub-nonNegative, whole-nonNegative}
+use Rattle.numbers.proofs.Order.{NonNegative, whole-nonNegative, sub-mul, ≈-refl, ≈-sym, ≈-trans, +-cong, +-assoc, +-zero, +-nonNegative, sub-add}
 use Rattle.sheet.proofs.Temperature.{degrees-mono}
 use Rattle.exact.specs.Day.{startMark}
 use Rattle.marks.specs.Marks.{heat, heatError, stepAt, passed}
-use Rattle.marks.proofs.Heat.{heat-within, heat-most, heat-mono, heat-grows}
+use Rattle.marks.proofs.Heat.{heat-within, heat-most, heat-grows}
 use Rattle.marks.proofs.Rise.{rises, step-rises, step-falls, step-nonNegative, next-mark}
 
 -- x is at most a below c and at most b above it, in units of 1/s

@@ -83,13 +83,6 @@ fn with_band(
     tally.with(verdict)
 }
 
-// The mass whose bands a pass looks at
-fn mass_of(pass: usize) -> usize
-    ensures { λ r. ⌜ r ≤ 2 ⌝ }
-{
-    pass % DRIVEN % 3
-}
-
 // The bands of one mass of a sheet's rows
 fn with_bands(
     s: &[u8],
@@ -101,7 +94,7 @@ fn with_bands(
 ) -> Tally
     requires { ⌜ length (now rows) ≤ 72000 ⌝ }
 {
-    let mass = mass_of(pass);
+    let mass = pass % DRIVEN % 3;
     let mut tally = before;
     let mut row = 0;
     while row < rows.len() / ROW {

@@ -64,26 +64,19 @@ const MILEAGE: usize = 20;
 
 const ROWS_MOST: u64 = 1000;
 
-// The mileage of a row, counted from 0, where the rows start here; 0 where there is no such row
-fn mileage_from(s: &[u8], rows: usize, row: usize) -> u64
-    requires { ⌜ (rows < 4096) × (row < 1000) ⌝ }
-{
-    let at = rows + ROW * row + MILEAGE;
-    if s.len() < at + 4 { 0 } else { u32_at(s, at) }
-}
-
-// The mileage of a row of a sheet; 0 where the sheet has none
+// The mileage of a row of a sheet, counted from 0; 0 where the sheet has none
 pub fn mileage_at(s: &[u8], row: u64) -> u64 {
     if s.len() < SEASONS {
-        return 0;
-    }
-    if u16_at(s, 3) < 3 {
         return 0;
     }
     if ROWS_MOST <= row {
         return 0;
     }
-    mileage_from(s, SEASONS + SEASON * u8_at(s, 5) as usize, row as usize)
+    let at = SEASONS + SEASON * u8_at(s, 5) as usize + ROW * row as usize + MILEAGE;
+    if s.len() < at + 4 {
+        return 0;
+    }
+    if u16_at(s, 3) < 3 { 0 } else { u32_at(s, at) }
 }
 
 // The record whose head is here. The head starts with the bytes of the sheet and, where the list's items have bytes, how many items
