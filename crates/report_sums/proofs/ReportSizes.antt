@@ -7,9 +7,9 @@ use native.Mathlib.Omega.{arith}
 use Rattle.sheet.specs.Bytes.{rowsOf}
 use Rattle.sheet.proofs.Fleet.{vehicles-most}
 use Rattle.sheet.proofs.Accepted.{Bytes, Accepted}
 use Rattle.report_words.specs.Report.{subtotal, grandTotal}
-use Rattle.report_words.proofs.SumSizes.{subtotal-most, grand-total-most, sums-fit}
+use Rattle.report_sums.proofs.SumSizes.{subtotal-most, grand-total-most, sums-fit}
 use Rattle.report_words.proofs.AcceptedRange.{row-sized}
 
 module _ {s : List ℕ} (bytes : Bytes s) (a : Accepted s) where
   -- a sum over the first rows

@@ -1,11 +1,11 @@
--- `report_words::words::belongs` meets its contract.
+-- `report_sums::belongs` meets its contract.
 -- Assumes nothing.
 use mathlib.Core.Path.{refl, sym}
 use Rattle.report_words.specs.Report.{car, lightDuty, twoWheeler}
 use Rattle.report_words.specs.Years.{category}
 use Rattle.report_words.proofs.ReportPlaces.{category-rest}
-use Rattle.report_words.proofs.words.belongs.Statement.{statement}
-use Rattle.report_words.proofs.words.belongs.Tie as tie
+use Rattle.report_sums.proofs.belongs.Statement.{statement}
+use Rattle.report_sums.proofs.belongs.Tie as tie
 
 returns : tie.Need-returns
 unfolding category car

@@ -1,8 +1,8 @@
--- `report_words::words::counted` meets its contract.
+-- `report_sums::counted` meets its contract.
 -- Assumes nothing.
 use Rattle.report_words.specs.Report.{counted}
-use Rattle.report_words.proofs.words.counted.Statement.{statement}
-use Rattle.report_words.proofs.words.counted.Tie as tie
+use Rattle.report_sums.proofs.counted.Statement.{statement}
+use Rattle.report_sums.proofs.counted.Tie as tie
 
 returns : tie.Need-returns
 unfolding counted

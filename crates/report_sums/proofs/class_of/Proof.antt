@@ -1,9 +1,9 @@
--- `report_words::words::class_of` meets its contract.
+-- `report_sums::class_of` meets its contract.
 -- Assumes nothing.
 use borrow.Author.Needs.{needs}
 use Rattle.sheet.specs.Bytes.{rowFrom, rowAt}
-use Rattle.report_words.proofs.words.class_of.Statement.{statement}
-use Rattle.report_words.proofs.words.class_of.Tie as tie
+use Rattle.report_sums.proofs.class_of.Statement.{statement}
+use Rattle.report_sums.proofs.class_of.Tie as tie
 
 returns : tie.Need-returns
 unfolding rowAt rowFrom
