@@ -1,4 +1,5 @@
-/* The calls of the evaporation workbook for a program in C: the report of a sheet, in words or as a text, and one emission factor.
+/* The calls of the evaporation workbook for a program in C: the report of a sheet, in words or as a text, one emission factor, and
+ * a ledger, in which vehicles arrive and depart and the report is kept in step.
  *
  * They stand in the static library target/staticlib/libevaporation.a, which `rt staticlib evaporation` makes from the proved
  * crate (x86-64 Linux); it needs only the C library. c/example.c is a program over them.
@@ -11,8 +12,8 @@
  *
  * A sheet, words and a text are passed as a pointer and a number of elements. A pointer is never null, also where the number is 0,
  * and points to that many elements; `words` is aligned for uint64_t, and the bytes of sheet, words and text must not overlap. Those
- * of the sheet are not written. No call keeps a pointer, takes memory, reads or writes a file or holds state: two threads may call
- * at once with words and a text of their own.
+ * of the sheet are written by evp_arrive and evp_depart alone. No call keeps a pointer, takes memory, reads or writes a file or
+ * holds state: two threads may call at once with words and a text of their own, and with a sheet of their own where it is written.
  */
 #ifndef EVAPORATION_H
 #define EVAPORATION_H
@@ -70,10 +71,12 @@ enum evp_number {
     EVP_MILEAGE = 25,        /* a mileage above 1,000,000 km; or one above 0 with no canister, beside a load, or where the exponent of
                               * the saturating load is above 0 in some season */
     EVP_ROOM = 22,           /* the report call: fewer words than the report has; place 0 */
-    EVP_ABSENT = 23          /* the factor call: the sheet has no such season or row, or the factor is not 1 to 7; place 0 */
+    EVP_ABSENT = 23,         /* the factor call: the sheet has no such season or row, or the factor is not 1 to 7; place 0 */
+    EVP_COUNT = 29           /* a ledger: no such row, a departure larger than its count, or an arrival after which the row would have
+                              * more than 10,000,000 vehicles or, in version 4, all rows more than 100,000,000; place 0 */
 };
 
-/* The answer of the report call. */
+/* The answer of the report call, and of the calls on a ledger. */
 struct evp_check {
     uint64_t number; /* of enum evp_number */
     uint64_t place;  /* the byte of the sheet where it stops; 0 where it is accepted */
@@ -104,6 +107,14 @@ size_t evp_text(const uint8_t *sheet, size_t sheet_bytes, uint64_t *words, size_
 /* One factor of a season and a row, both counted from 0. 1 is diurnal (a day); hot soak (a parking): 2 injection, 3 carburettor
  * warm, 4 carburettor hot; running (a trip): 5 injection, 6 carburettor warm, 7 carburettor hot. */
 struct evp_factor_band evp_factor(const uint8_t *sheet, size_t sheet_bytes, uint64_t season, uint64_t row, uint64_t factor);
+
+/* A ledger is a sheet and the words of its report. It is opened by evp_report; then vehicles arrive at a row, counted from 0, or depart
+ * from it. Accepted: the four bytes of the row's vehicles are changed, the row's six words are made anew and all sums with them, so
+ * that the words are those that evp_report writes for the changed sheet. Refused: sheet and words keep what they had. Each call checks
+ * the sheet and the number of words first, as evp_report does and with its numbers, and then EVP_COUNT; the words themselves it cannot
+ * check: where they are not those of the sheet, the sums are taken of what stands there. */
+struct evp_check evp_arrive(uint8_t *sheet, size_t sheet_bytes, uint64_t *words, size_t words_count, uint64_t row, uint64_t vehicles);
+struct evp_check evp_depart(uint8_t *sheet, size_t sheet_bytes, uint64_t *words, size_t words_count, uint64_t row, uint64_t vehicles);
 
 #ifdef __cplusplus
 }

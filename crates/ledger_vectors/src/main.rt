@@ -41,6 +41,17 @@ struct Tallies {
     refused: Tally,
 }
 
+impl Tallies {
+    fn none() -> Self {
+        let none = Tally::none();
+        Self {
+            openings: none,
+            passed: none,
+            refused: none,
+        }
+    }
+}
+
 // Whether the answer is the one that is expected
 fn answers(found: Check, number: u64, place: u64) -> bool {
     match found {
@@ -140,40 +151,26 @@ fn with_verdict(right: bool, what: &[u8], ledger: u64, call: u64, tally: Tally) 
     tally.with(Verdict::bare(right))
 }
 
-// One call
-fn with_call(
-    sheet: &mut [u8],
-    expected: &mut [u8],
-    words: &mut [u64],
-    c: &[u8],
-    ledger: u64,
-    all: Tallies,
-) -> Tallies
+// Makes a call. Whether it is answered as expected and leaves the bytes that are expected, and the words of a fresh report
+fn call_right(sheet: &mut [u8], expected: &mut [u8], words: &mut [u64], c: &[u8]) -> bool
     requires { ⌜ (26 ≤ length (now c)) × (length (now words) ≤ 6144) ⌝ }
 {
     let found = ledger_calls::change(sheet, words, call_at(c));
     expect(expected, c);
-    let number = u8_at(c, 17);
-    let answered = answers(found, number, u16_at(c, 18));
-    let right = answered & same_bytes(sheet, expected) & is_fresh(sheet, words);
-    let at = next(std::num::wrapping_add_u64(all.passed.tried, all.refused.tried));
-    let openings = all.openings;
-    let passed = all.passed;
-    let refused = all.refused;
-    if number == 0 {
-        let more = with_verdict(right, b" call ", ledger, at, passed);
-        return Tallies {
-            openings,
-            passed: more,
-            refused,
-        };
+    let answered = answers(found, u8_at(c, 17), u16_at(c, 18));
+    answered & same_bytes(sheet, expected) & is_fresh(sheet, words)
+}
+
+// The tallies with one call more, which was to pass or to be refused
+fn with_call(right: bool, refused: bool, ledger: u64, all: Tallies) -> Tallies {
+    let call = next(std::num::wrapping_add_u64(all.passed.tried, all.refused.tried));
+    let mut more = all;
+    if refused {
+        more.refused = with_verdict(right, b" call ", ledger, call, all.refused);
+    } else {
+        more.passed = with_verdict(right, b" call ", ledger, call, all.passed);
     }
-    let more = with_verdict(right, b" call ", ledger, at, refused);
-    Tallies {
-        openings,
-        passed,
-        refused: more,
-    }
+    more
 }
 
 // The calls on a ledger, one after another
@@ -191,24 +188,13 @@ fn with_calls(
     let mut at: usize = 0;
     while CALL <= calls.len() - at {
         let end = at + CALL;
-        let more = with_call(sheet, expected, words, &calls[at..end], ledger, all);
+        let refused = u8_at(calls, at + 17) != 0;
+        let right = call_right(sheet, expected, words, &calls[at..end]);
+        let more = with_call(right, refused, ledger, all);
         all = more;
         at = end;
     }
     all
-}
-
-// A tally of the openings with one more
-fn with_opening(right: bool, ledger: u64, all: Tallies) -> Tallies {
-    let openings = all.openings;
-    let passed = all.passed;
-    let refused = all.refused;
-    let more = with_verdict(right, b" opening ", ledger, 0, openings);
-    Tallies {
-        openings: more,
-        passed,
-        refused,
-    }
 }
 
 // The words that are lent, as far as there is room
@@ -258,7 +244,8 @@ fn with_copy(sheet: &mut [u8], room: usize, calls: &[u8], ledger: u64, all: Tall
 fn with_ledger(s: &[u8], calls: &[u8], head: &[u8], ledger: u64, before: Tallies) -> Tallies
     requires { ⌜ (length (now s) ≤ 25256) × (10 ≤ length (now head)) ⌝ }
 {
-    let all = with_opening(opens(s, head), ledger, before);
+    let mut all = before;
+    all.openings = with_verdict(opens(s, head), b" opening ", ledger, 0, before.openings);
     let room = room_of(head);
     let n = s.len();
     let mut sheet = [0u8; 25256];
@@ -268,11 +255,7 @@ fn with_ledger(s: &[u8], calls: &[u8], head: &[u8], ledger: u64, before: Tallies
 
 // The ledgers, up to the first that the end of the input cuts
 fn tallies_of(s: &[u8]) -> Tallies {
-    let mut all = Tallies {
-        openings: Tally::none(),
-        passed: Tally::none(),
-        refused: Tally::none(),
-    };
+    let mut all = Tallies::none();
     let mut ledger: u64 = 0;
     let mut at = 0;
     while HEAD <= s.len() - at {
