@@ -8,11 +8,11 @@ use Rattle.ledger_vectors.proofs.with_calls.Statement.{statement}
 use Rattle.ledger_vectors.proofs.with_calls.Tie as tie
 
 abbrev Inv-loop : tie.InvT-loop
-Inv-loop sheet₀ expected₀ words₀ calls ledger all₀ at₀ sheet expected words all at =
+Inv-loop sheet₀ expected₀ words₀ calls look tally₀ call₀ at₀ sheet expected words tally call at =
     (at ≤ length calls) × (length sheet ≡ length sheet₀) × (length expected ≡ length expected₀) × (length words ≡ length words₀)
 
 abbrev μ-loop : tie.MeasureT-loop
-μ-loop sheet₀ expected₀ words₀ calls ledger all₀ at₀ sheet expected words all at = length calls - at
+μ-loop sheet₀ expected₀ words₀ calls look tally₀ call₀ at₀ sheet expected words tally call at = length calls - at
 
 pub with-calls-spec : {M : Type 1} → statement M
 with-calls-spec =
@@ -24,9 +24,10 @@ with-calls-spec =
     (λ c. search needs)
     (λ c. search needs)
     (λ c. search needs)
+    (λ c. search needs)
+    (λ c. search needs)
     (λ c κs. search needs)
-    (λ c. search needs)
-    (λ c. search needs)
+    (λ c κs. search needs)
     (λ c. search needs)
     (λ c κs. search needs)
     (λ c κs. search needs)

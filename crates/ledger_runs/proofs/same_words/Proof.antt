@@ -1,22 +1,23 @@
--- `ledger_vectors::same_bytes` is safe and ends. The loop's test bounds the index. The measure is the bytes that are left.
+-- `ledger_runs::same_words` is safe and ends. The loop's test bounds the index. The measure is the words that are left.
 use Prim.Native.Nat.{_≤_, _-_}
 use borrow.Author.Needs.{needs}
 use lib.ListN.{length}
-use Rattle.ledger_vectors.proofs.same_bytes.Statement.{statement}
-use Rattle.ledger_vectors.proofs.same_bytes.Tie as tie
+use Rattle.ledger_runs.proofs.same_words.Statement.{statement}
+use Rattle.ledger_runs.proofs.same_words.Tie as tie
 
 abbrev Inv-loop : tie.InvT-loop
-Inv-loop a b i₀ i = i ≤ i
+Inv-loop words buffer i₀ i = i ≤ i
 
 abbrev μ-loop : tie.MeasureT-loop
-μ-loop a b i₀ i = length a - i
+μ-loop words buffer i₀ i = length words - i
 
-pub same-bytes-spec : {M : Type 1} → statement M
-same-bytes-spec =
+pub same-words-spec : {M : Type 1} → statement M
+same-words-spec =
     tie.close
     (tie.spec
     Inv-loop
     μ-loop
+    (λ c. search needs)
     (λ c. search needs)
     (λ c. search needs)
     (λ c. search needs)
