@@ -5,9 +5,9 @@
 use std::hint::black_box;
 
 #[repr(C)]
-struct Check {
-    number: u64,
-    place: u64,
+pub struct Check {
+    pub number: u64,
+    pub place: u64,
 }
 
 #[link(name = "evaporation", kind = "static")]
@@ -35,19 +35,19 @@ fn processor_time() -> f64 {
     time.seconds as f64 * 1e9 + time.nanoseconds as f64
 }
 
-const SEASONS: usize = 12;
+pub const SEASONS: usize = 12;
 const ROWS: usize = 32;
-const ROUNDS: usize = 10;
-const CALLS: usize = 20;
+pub const ROUNDS: usize = 10;
+pub const CALLS: usize = 20;
 
-struct Season {
+pub struct Season {
     days: f64,
     lowest: f64,
     highest: f64,
     vp: f64,
 }
 
-struct Row {
+pub struct Row {
     class: u8,
     // s, and 0 without canister
     size: f64,
@@ -65,7 +65,7 @@ struct Row {
 
 // which canisters the rows have; the last two in version 3, where a + b s m_sat is at most 0
 #[derive(Clone, Copy, PartialEq)]
-enum Canisters {
+pub enum Canisters {
     InTurn,
     None,
     Load,
@@ -79,7 +79,7 @@ fn u16_bytes(out: &mut Vec<u8>, x: i32) {
 }
 
 // the sheet's bytes, and the same values in units
-fn full_sheet(canisters: Canisters, count: usize) -> (Vec<u8>, Vec<f64>, Vec<Season>, Vec<Row>) {
+pub fn full_sheet(canisters: Canisters, count: usize) -> (Vec<u8>, Vec<f64>, Vec<Season>, Vec<Row>) {
     let (version, grid) = match canisters {
         Canisters::InTurn | Canisters::None => (1, false),
         Canisters::Load | Canisters::Mileage => (3, true),
@@ -255,13 +255,13 @@ fn plain_report(cells: &[f64], seasons: &[Season], rows: &[Row]) -> Vec<[f64; 3]
         .collect()
 }
 
-fn proved_report(sheet: &[u8], words: &mut [u64]) {
+pub fn proved_report(sheet: &[u8], words: &mut [u64]) {
     let check = unsafe { evp_report(sheet.as_ptr(), sheet.len(), words.as_mut_ptr(), words.len()) };
     assert_eq!((check.number, check.place), (0, 0), "the sheet is refused");
 }
 
 // microseconds of one call
-fn measured(mut call: impl FnMut()) -> f64 {
+pub fn measured(mut call: impl FnMut()) -> f64 {
     let start = processor_time();
     for _ in 0..CALLS {
         call();
@@ -269,7 +269,7 @@ fn measured(mut call: impl FnMut()) -> f64 {
     (processor_time() - start) / CALLS as f64 / 1e3
 }
 
-fn median(mut times: Vec<f64>) -> f64 {
+pub fn median(mut times: Vec<f64>) -> f64 {
     times.sort_by(f64::total_cmp);
     (times[ROUNDS / 2 - 1] + times[ROUNDS / 2]) / 2.0
 }

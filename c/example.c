@@ -1,8 +1,8 @@
 /* The calls from C: reads two sample sheets of version 1, holds their reports and factors against the values below, and the text of
  * the first against document 01's lines, and tries refusals of each call. Then the same for the sheets of version 2 that have the products of their lists as a grid, and for these
  * in versions 3 and 4, without a mileage, which must answer alike. Then a sample of version 3 with mileages; the species of some totals; the
- * cells of a row of the second sample, from the words of its report, their sum, and cells that are refused. Prints what it found; the exit
- * status is 0 only where all of it is as expected.
+ * cells of a row of the second sample, from the words of its report, their sum, and cells that are refused; a ledger on the second sample,
+ * in versions 1 and 4. Prints what it found; the exit status is 0 only where all of it is as expected.
  *
  * usage: example EXAMPLE.evp TABLE-3-5-DAY.evp ODOMETER.evp */
 #include <inttypes.h>
@@ -371,6 +371,56 @@ static void expect_cells(void) {
     expect("a sum of 2^53 + 1", over.number, EVP_CELL);
 }
 
+/* The vehicles of a row behind one season. */
+static uint64_t vehicles_of(size_t seasons_start, size_t row) {
+    const size_t at = seasons_start + 8 + 24 * row + 8;
+    return count_at(at) + UINT64_C(65536) * count_at(at + 2);
+}
+
+/* What a call on the ledger answers, with the vehicles that the row then has; and its words are those of a fresh report. */
+static void expect_change(size_t seasons_start, struct evp_check answer, uint64_t number, size_t row, uint64_t vehicles) {
+    static uint64_t fresh[EVP_REPORT_WORDS];
+    expect("number of a change", answer.number, number);
+    expect("place of a change", answer.place, 0);
+    expect("vehicles of the row", vehicles_of(seasons_start, row), vehicles);
+    for (size_t i = 0; i < EVP_REPORT_WORDS; i++)
+        fresh[i] = UNTOUCHED;
+    expect("number of the fresh report", evp_report(sheet, sheet_bytes, fresh, EVP_REPORT_WORDS).number, EVP_ACCEPTED);
+    for (size_t i = 0; i < EVP_REPORT_WORDS; i++)
+        expect("a word of the ledger", words[i], fresh[i]);
+}
+
+static struct evp_check arrive(uint64_t row, uint64_t vehicles) {
+    return evp_arrive(sheet, sheet_bytes, words, EVP_REPORT_WORDS, row, vehicles);
+}
+
+static struct evp_check depart(uint64_t row, uint64_t vehicles) {
+    return evp_depart(sheet, sheet_bytes, words, EVP_REPORT_WORDS, row, vehicles);
+}
+
+/* Three rows of 1,000 vehicles: some arrive and depart, some are refused, and at last all are as they were. */
+static void expect_ledger(size_t seasons_start) {
+    clear_words();
+    expect("opening the ledger", evp_report(sheet, sheet_bytes, words, EVP_REPORT_WORDS).number, EVP_ACCEPTED);
+    expect_change(seasons_start, arrive(0, 250), EVP_ACCEPTED, 0, 1250);
+    printf("version %" PRIu64 " with 250 more vehicles: %" PRIu64 " to %" PRIu64 " milligrams\n", count_at(3),
+           words[EVP_WORDS_OF(3) - 2], words[EVP_WORDS_OF(3) - 1]);
+    expect_change(seasons_start, depart(2, 1000), EVP_ACCEPTED, 2, 0);
+    expect_change(seasons_start, depart(2, 1), EVP_COUNT, 2, 0);
+    expect_change(seasons_start, arrive(3, 1), EVP_COUNT, 2, 0);
+    expect_change(seasons_start, arrive(1, 9999001), EVP_COUNT, 1, 1000);
+    expect_change(seasons_start, arrive(1, UINT64_MAX), EVP_COUNT, 1, 1000);
+    expect_change(seasons_start, arrive(1, 9999000), EVP_ACCEPTED, 1, 10000000);
+    expect("a ledger without room", evp_arrive(sheet, sheet_bytes, words, EVP_WORDS_OF(3) - 1, 1, 1).number, EVP_ROOM);
+    expect("a ledger of a cut sheet", evp_depart(sheet, sheet_bytes - 1, words, EVP_REPORT_WORDS, 1, 1).number, EVP_LENGTH);
+    expect_change(seasons_start, depart(1, 9999000), EVP_ACCEPTED, 1, 1000);
+    expect_change(seasons_start, depart(0, 250), EVP_ACCEPTED, 0, 1000);
+    expect_change(seasons_start, arrive(2, 1000), EVP_ACCEPTED, 2, 1000);
+    for (size_t i = 0; i < EVP_WORDS_OF(3); i++)
+        expect("a word of the ledger at last", words[i], table_words[i]);
+    expect_untouched(EVP_WORDS_OF(3));
+}
+
 int main(int count, char **paths) {
     if (count != 4) {
         fprintf(stderr, "usage: example EXAMPLE.evp TABLE-3-5-DAY.evp ODOMETER.evp\n");
@@ -406,6 +456,10 @@ int main(int count, char **paths) {
         return 2;
     expect_row_cells();
     expect_cells();
+    expect_ledger(EVP_LISTS_END);
+    make_grid();
+    put_count(3, 4);
+    expect_ledger(EVP_GRID_END);
     if (mismatches != 0) {
         printf("%d mismatches\n", mismatches);
         return 1;

@@ -1,5 +1,5 @@
 /* The calls of the evaporation workbook for a program in C: the report of a sheet, in words or as a text, one emission factor, the
- * species of a mass, and cells of a map made of a row's words.
+ * species of a mass, cells of a map made of a row's words, and a ledger, in which vehicles arrive and depart and the report is kept in step.
  *
  * They stand in the static library target/staticlib/libevaporation.a, which `rt staticlib evaporation` makes from the proved
  * crate (x86-64 Linux); it needs only the C library. c/example.c is a program over them.
@@ -12,8 +12,8 @@
  *
  * A sheet, words, a text and milligrams are passed as a pointer and a number of elements. A pointer is never null, also where the number
  * is 0, and points to that many elements; `words` and `milligrams` are aligned for uint64_t, and the bytes of sheet, words and text must not
- * overlap. Those of the sheet are not written. No call keeps a pointer, takes memory, reads or writes a file or holds state: two threads may call
- * at once with words and a text of their own.
+ * overlap. Those of the sheet are written by evp_arrive and evp_depart alone. No call keeps a pointer, takes memory, reads or writes a file or
+ * holds state: two threads may call at once with words and a text of their own, and with a sheet of their own where it is written.
  */
 #ifndef EVAPORATION_H
 #define EVAPORATION_H
@@ -74,12 +74,14 @@ enum evp_number {
     EVP_ROOM = 22,           /* the report call: fewer words than the report has; the species call: fewer than 29; place 0 */
     EVP_ABSENT = 23,         /* the factor call: the sheet has no such season or row, or the factor is not 1 to 7; place 0 */
     EVP_TRAVEL = 28,         /* the call for cells: a mileage or a speed is not 1 to 1,000,000; place 0 */
-    EVP_CELL = 27            /* both calls for cells: a low above its high; a word, cell or sum above EVP_MASS_LIMIT; or a cell handed in that
+    EVP_CELL = 27,           /* both calls for cells: a low above its high; a word, cell or sum above EVP_MASS_LIMIT; or a cell handed in that
                               * is none, as one exact 0, a band whose low is not below its high, a kind above 2, and a double that is no whole
                               * number from 0 to EVP_MASS_LIMIT; place 0 */
+    EVP_COUNT = 29           /* a ledger: no such row, a departure larger than its count, or an arrival after which the row would have
+                              * more than 10,000,000 vehicles or, in version 4, all rows more than 100,000,000; place 0 */
 };
 
-/* The answer of the report call, and of the species call. */
+/* The answer of the report call, of the species call, and of the calls on a ledger. */
 struct evp_check {
     uint64_t number; /* of enum evp_number */
     uint64_t place;  /* the byte of the sheet where it stops; 0 where it is accepted */
@@ -131,6 +133,7 @@ static const char *const evp_species_names[EVP_SPECIES] = {
  * Accepted: the first 29 words are written, those beyond keep what they had. With fewer words the answer is EVP_ROOM, place 0, and all
  * words keep what they had. */
 struct evp_check evp_species(uint64_t total, uint64_t *milligrams, size_t count);
+
 /* Cells for a map: masses in milligrams, as doubles that are whole numbers. */
 
 /* The largest mass of a cell: 2^53 milligrams, some nine million tonnes. Up to here every whole number is a double. */
@@ -182,6 +185,14 @@ struct evp_row_cells evp_cells_of_row(struct evp_row_words words, struct evp_tra
 /* The sum of two cells, exact; more are added one after the other, in any order. A minus zero handed in counts as 0, and none is given
  * back. */
 struct evp_cell_sum evp_add_cells(struct evp_cell a, struct evp_cell b);
+
+/* A ledger is a sheet and the words of its report. It is opened by evp_report; then vehicles arrive at a row, counted from 0, or depart
+ * from it. Accepted: the four bytes of the row's vehicles are changed, the row's six words are made anew and all sums with them, so
+ * that the words are those that evp_report writes for the changed sheet. Refused: sheet and words keep what they had. Each call checks
+ * the sheet and the number of words first, as evp_report does and with its numbers, and then EVP_COUNT; the words themselves it cannot
+ * check: where they are not those of the sheet, the sums are taken of what stands there. */
+struct evp_check evp_arrive(uint8_t *sheet, size_t sheet_bytes, uint64_t *words, size_t words_count, uint64_t row, uint64_t vehicles);
+struct evp_check evp_depart(uint8_t *sheet, size_t sheet_bytes, uint64_t *words, size_t words_count, uint64_t row, uint64_t vehicles);
 
 #ifdef __cplusplus
 }

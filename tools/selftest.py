@@ -27,6 +27,7 @@ sys.path.insert(0, HERE)
 import cells  # noqa: E402
 import districts  # noqa: E402
 import evaporation as ev  # noqa: E402
+import ledgers  # noqa: E402
 import picture  # noqa: E402
 import pressures  # noqa: E402
 import sheet as writer  # noqa: E402
@@ -1420,6 +1421,49 @@ def check_species():
     return "species: 29 in four groups; 200 totals in fractions and whole numbers; names in the header, table in the crate"
 
 
+def check_ledgers():
+    """The plain machine by hand; and each of its refusals against the checks of
+    the sheet that the call would leave, which know nothing of the machine."""
+    arrival, departure = ledgers.arrival, ledgers.departure
+    million = 10 ** 6
+    for limited, counts, call, fault, after in (
+        (False, [5, 7], arrival(1, 3), None, [5, 10]),
+        (False, [5, 7], departure(0, 5), None, [0, 7]),
+        (False, [5, 7], departure(0, 6), "departure", [5, 7]),
+        (False, [5, 7], arrival(2, 0), "row", [5, 7]),
+        (False, [5, 7], departure(2, 9), "row", [5, 7]),
+        (False, [5, 7], arrival(0, 10 * million - 5), None, [10 * million, 7]),
+        (False, [5, 7], arrival(0, 10 * million - 4), "16", [5, 7]),
+        (False, [10 * million] * 11, departure(3, 1), None, [10 * million] * 3 + [10 * million - 1] + [10 * million] * 7),
+        (True, [10 * million] * 9 + [10 * million - 1, 1], arrival(10, 1), "26", [10 * million] * 9 + [10 * million - 1, 1]),
+        (False, [10 * million] * 9 + [10 * million - 1, 1], arrival(10, 1), None, [10 * million] * 9 + [10 * million - 1, 2]),
+        (True, [10 * million] * 10 + [0], arrival(0, 1), "16", [10 * million] * 10 + [0]),
+    ):
+        same(ledgers.fault(limited, counts, call), fault, "the fault of %r on %r" % (call, counts))
+        same(ledgers.step(limited, counts, call), after, "the counts after %r" % (call,))
+    calls = [arrival(0, 4), departure(1, 9), departure(1, 7), arrival(1, 1), departure(0, 9)]
+    same(ledgers.machine(False, [5, 7], calls), [0, 1], "the counts after a list of calls")
+    held = 0
+    for vector in ledgers.all_vectors():
+        data = bytearray(vector.case.data)
+        if vector.opening != (0, 0):
+            continue
+        rows = ev.row_count(data)
+        for told in vector.told:
+            row, vehicles = told.call.row, told.call.vehicles
+            place = ledgers.row_place(data, row) + 8
+            new = row < rows and ev.row_at(data, place - 8).vehicles + (vehicles if told.call.kind == ledgers.ARRIVAL else -vehicles)
+            there = row < rows and 0 <= new < 2 ** 32
+            left = data[:place] + new.to_bytes(4, "little") + data[place + 4:] if there else None
+            passes = there and ev.check(left) is None
+            same(told.fault is None, passes, "%s: %r" % (vector.case.words, told.call))
+            if passes:
+                same((told.place, told.count), (place, new), "%s: what %r leaves" % (vector.case.words, told.call))
+                data = left
+            held += 1
+    return "the plain machine of a ledger, and %d calls against the sheets that they would leave" % held
+
+
 CHECKS = (
     check_samples,
     check_writer,
@@ -1446,6 +1490,7 @@ CHECKS = (
     check_districts,
     check_pressures,
     check_species,
+    check_ledgers,
     check_picture,
     check_n,
     check_cold,

@@ -1,3 +1,4 @@
 pub mod Numbers
 pub mod MassesWritten
 pub mod CellNumbers
+pub mod ChangeNumbers

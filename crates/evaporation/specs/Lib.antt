@@ -1,3 +1,4 @@
 pub mod Export
 pub mod SpeciesCall
 pub mod Cells
+pub mod Change

@@ -1,8 +1,8 @@
 // The two calls of the inventory: one emission factor, and the report.
 use crate::check::factor_check;
 use crate::check::report_check;
+use report_sums::write_report;
 use report_words::factors_at::factors_at;
-use report_words::words::write_report;
 use row_factors::micrograms::high_micrograms;
 use row_factors::micrograms::low_micrograms;
 use sheet::Check;
@@ -12,7 +12,7 @@ ghost use Rattle.sheet.specs.declared.Check.the-variants.{Pass};
 ghost use Rattle.inventory.specs.FactorCall.{factorCheck, unitsAt, FactorReply};
 ghost use Rattle.inventory.specs.ReportCall.{ReportAnswer};
 
-mod check;
+pub mod check;
 
 // What the factor call answers.
 pub enum FactorAnswer {

@@ -64,7 +64,7 @@ fn rounded_all(units: [u64; 7], up: bool) -> [u64; 7]
 }
 
 // Diurnal, soak and running, each low then high.
-fn six_figures(units: [u64; 7], row: Row) -> [u64; 6]
+pub fn six_figures(units: [u64; 7], row: Row) -> [u64; 6]
     requires { ⌜ UnitsInRange units × UseInRange row ⌝ }
     ensures { λ r. ⌜ r ≡ sixFigures row units ⌝ }
 {

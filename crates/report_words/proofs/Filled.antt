@@ -7,9 +7,10 @@ use native.Mathlib.Nat.{le-antisymm, le-dest}
 use native.Mathlib.Numerals.{add-one}
 use native.Mathlib.Omega.{arith}
 use lib.ListN.{length, getD, set, take, drop, length-append, take-append-drop, List·getD-append}
-use lib.Seq.{length-take-le, sets, set-at, drop-at, drop-cons, drop-drop, getD-append-add, getD-drop, getD-take, ext-getD, getD-set-other}
+use lib.Seq.{length-take-le, sets, set-at, drop-at, drop-cons, drop-drop, getD-append-add, getD-drop, getD-take, ext-getD}
 use Rattle.numbers.specs.Lists.{tab}
 use Rattle.numbers.proofs.Lists.{tab-length, getD-tab}
+use Rattle.numbers.proofs.Stores.{sets-more, sets-beyond}
 use Rattle.report_words.specs.Years.{filled}
 
 module _ (f : ℕ → ℕ) (old : List ℕ) where
@@ -85,20 +86,6 @@ pub tab-getD : (xs : List ℕ) → tab (λ (k : ℕ). getD xs k 0) (length xs) �
 tab-getD xs =
     ext-getD 0 (tab (λ (k : ℕ). getD xs k 0) (length xs)) xs (tab-length _ (length xs))
     (λ k l. getD-tab (λ (k : ℕ). getD xs k 0) (length xs) k (rw (tab-length _ (length xs)) at l))
-
--- Stores one after another.
-
--- a store past the others
-pub sets-more : (l : List ℕ) (i : ℕ) (vs : List ℕ) (v : ℕ) → set (sets l i vs) (i + length vs) v ≡ sets l i (vs ++ (v ∷ []))
-sets-more l i [] v = ap (λ (k : ℕ). set l k v) {x = i + 0} {y = i} (omega arith)
-sets-more l i (a ∷ vs) v =
-    ap (λ (k : ℕ). set (sets (set l i a) (suc i) vs) k v) {x = i + suc (length vs)} {y = suc i + length vs} (omega arith) ∙
-    sets-more (set l i a) (suc i) vs v
-
--- a word past them
-pub sets-beyond : (l : List ℕ) (i : ℕ) (vs : List ℕ) (j : ℕ) → i + length vs ≤ j → getD (sets l i vs) j 0 ≡ getD l j 0
-sets-beyond l i [] j h = refl
-sets-beyond l i (a ∷ vs) j h = sets-beyond (set l i a) (suc i) vs j (omega arith) ∙ getD-set-other l i j a 0 (λ e. omega arith)
 
 -- A run of stores, those of g from a place on.
 module _ (g : ℕ → ℕ) (old : List ℕ) (at m : ℕ) {words : List ℕ} (e : words ≡ sets old at (tab g m)) where

@@ -1,11 +1,8 @@
 pub mod AcceptedRange
 pub mod ReportPlaces
-pub mod SumSizes
-pub mod ReportSizes
 pub mod Filled
 pub mod Places
 pub mod YearWords
 pub mod SeasonWork
 pub mod SeasonWords
-pub mod Totals
 pub mod Promised

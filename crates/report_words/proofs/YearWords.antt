@@ -40,7 +40,7 @@ module _ (micrograms : ℕ → ℕ) (s : List ℕ) (row : Row) (mechanism : Mech
   year-sum = omega (arith, year-from 0 (seasonsOf s) (seasonsOf s) (omega arith))
 
 -- figure m of row i over all seasons, for all vehicles and in milligrams: a low cut down, a high cut up
-word-from-year : (s : List ℕ) (i m : ℕ) → m < 6
+pub word-from-year : (s : List ℕ) (i m : ℕ) → m < 6
     → (sum (seasonFigure s i m) (seasonsOf s) * (rowAt s i) .vehicles + m % 2 * (10 ^ 9 - 1)) / 10 ^ 9 ≡ getD (wordsOf s i) m 0
 unfolding wordsOf rowFigures lowFigure highFigure seasonFigure dayFigures
 word-from-year s i zero h = rw (year-sum lowMicrograms s (rowAt s i) diurnal) (omega arith)
@@ -108,7 +108,11 @@ module _ {s : List ℕ} (bytes : Bytes s) (a : Accepted s) where
   days-most zero h = omega arith
   days-most (suc n) h = a .season n h .days-together
 
-  -- a word of the rows over the first n seasons
+  -- figure m of row i over the first n seasons,
+  pub row-year-most : (i m n : ℕ) → i < rowsOf s → n ≤ seasonsOf s → sum (seasonFigure s i m) n ≤ yearMost
+  row-year-most i m n row h = omega (arith, seasons-most i m n row h, days-most n h)
+
+  -- and so word k of the rows
   pub year-word-most : (n k : ℕ) → n ≤ seasonsOf s → k < 6 * rowsOf s → yearWord s n k ≤ yearMost
   unfolding yearWord
-  year-word-most n k h l = omega (arith, seasons-most (k / 6) (k % 6) n (omega arith) h, days-most n h)
+  year-word-most n k h l = row-year-most (k / 6) (k % 6) n (omega arith) h

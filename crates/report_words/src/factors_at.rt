@@ -17,7 +17,7 @@ ghost use Rattle.sheet.specs.Sheet.{sheetCheck};
 ghost use Rattle.report_words.specs.Years.{SheetLent};
 
 // With the tables and the grid, in units of 2^-28 g.
-fn units_with(
+pub fn units_with(
     tables: &[u64; 578],
     grid: &[u64; 673],
     s: &[u8],

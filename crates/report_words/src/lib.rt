@@ -1,5 +1,5 @@
 // The words of the report of an accepted sheet, and the seven factors of one of its seasons and rows.
 pub mod factors_at;
-mod parkings;
+pub mod parkings;
 pub mod words;
-mod year;
+pub mod year;

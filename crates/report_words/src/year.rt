@@ -33,7 +33,7 @@ pub fn clear(words: &mut [u64], n: usize)
 }
 
 // Six figures of a day, for so many days, are added to the six words that start at a place.
-fn add_days(words: &mut [u64], at: usize, days: u64, figures: [u64; 6])
+pub fn add_days(words: &mut [u64], at: usize, days: u64, figures: [u64; 6])
     requires { ⌜ (at + 6 ≤ length (now words)) × SumsFit (now words) at days figures ⌝ }
     ensures { λ _. ⌜ now (words .exit) ≡ sets (now (words .entry)) at (tab (daysAdded (now (words .entry)) at days figures) 6) ⌝ }
 {

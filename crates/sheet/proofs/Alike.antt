@@ -1,7 +1,6 @@
 -- A canister or a tank that is written, and one left to the class that stands for the same, count alike: the sheet is accepted
 -- or refused alike, and gives the same values to all that follows.
 -- Assumes nothing.
-use mathlib.Core.Bool.{Bool, true, false}
 use mathlib.Core.List.{List}
 use mathlib.Core.Logic.{_⊎_, inl, inr, ⊎-elim}
 use mathlib.Core.Path.{_≡_, refl, ap, _∙_}
@@ -15,18 +14,16 @@ use lib.Seq.{getD-set-same, getD-set-other}
 use Rattle.exact.specs.declared.Canister.{Canister}
 use Rattle.exact.specs.declared.Canister.the-variants.{None, Small, Medium, Large}
 use Rattle.exact.specs.declared.Equipment.the-variants.{Fitted}
-use Rattle.exact.specs.declared.Season.{Season}
 use Rattle.exact.specs.declared.Row.{Row}
-use Rattle.sheet.specs.declared.Check.{Check}
 use Rattle.sheet.specs.Limits.{tankLimit}
 use Rattle.sheet.specs.Integers.{u8At, u16At}
-use Rattle.sheet.specs.Versions.{versionOf, hasGrid, rowsMost, seasonsStart}
-use Rattle.sheet.specs.Bytes.{seasonsOf, rowsOf, durationCounts, hourCounts, gridCounts, cellsOf, seasonPlace, rowPlace, seasonAt, seasonsFrom, seasonList, rowFrom, rowAt, equipmentAt, fittedCanister, fittedTank, writtenCanister, canisterOf, tankOf}
+use Rattle.sheet.specs.Versions.{seasonsStart}
+use Rattle.sheet.specs.Bytes.{seasonsOf, rowsOf, cellsOf, rowPlace, seasonAt, seasonList, rowFrom, rowAt, equipmentAt, fittedCanister, fittedTank, writtenCanister, canisterOf, tankOf}
 use Rattle.sheet.specs.Check.{each}
-use Rattle.sheet.specs.Sheet.{lettersMissing, markCheck, numbersCheck, headCheck, lengthCheck, parkingCheck, daysBefore, vehiclesBefore, seasonCheck, codeWrong, saturationAbove, someSeason, mileageWrong, rowCheck, sheetCheck}
-use Rattle.sheet.proofs.Versions.{start-grid, start-between, start-same}
+use Rattle.sheet.specs.Sheet.{lengthCheck, vehiclesBefore, codeWrong, saturationAbove, mileageWrong, rowCheck, sheetCheck}
 use Rattle.sheet.proofs.Equipment.{equipment-tank}
-use Rattle.sheet.proofs.Local.{Same, byte-at, word-at, season-same, equipment-same, row-counts, row-same, counts-same}
+use Rattle.sheet.proofs.Local.{Same, byte-at, word-at, equipment-same, row-counts, row-same}
+use Rattle.sheet.proofs.BeforeRows.{BeforeRows, each-cong, version, start, seasons, rows, season, season-list, some, head, parking, cells, season-checks}
 
 -- "canister (0 none, 1 small, 2 medium, 3 large, 255 by class)"
 abbrev pub codeOf : Canister → ℕ
@@ -52,12 +49,6 @@ pub record Alike (s s' : List ℕ) : Type 0 where
   pub season-same : (j : ℕ) → j < seasonsOf s → seasonAt s' j ≡ seasonAt s j
   pub season-list-same : seasonList s' ≡ seasonList s
   pub row-same : (j : ℕ) → j < rowsOf s → rowAt s' j ≡ rowAt s j
-
--- the same checks, one by one, are the same together
-each-cong : (f g : ℕ → Check) (n : ℕ) → ((j : ℕ) → j < n → f j ≡ g j) → each f n ≡ each g n
-unfolding each
-each-cong f g zero h = refl
-each-cong f g (suc n) h = cc (each-cong f g n (λ j l. h j (omega arith)), h n (omega arith))
 
 -- records of 24 bytes do not overlap
 rows-apart : (q j i k m : ℕ) → k < 24 → m < 24 → q + 24 * j + k ≡ q + 24 * i + m → j ≡ i
@@ -127,92 +118,8 @@ written-alike {s} {s'} {p} {t} {c} fitted w =
 
 module _ (s s' : List ℕ) (i : ℕ) (c : Canister) (t : ℕ) (fitted : equipmentAt s (rowPlace s i) ≡ Fitted c t) (w : Written s s' (rowPlace s i) c t) where
   -- bytes before the rows are the same
-  early : (k : ℕ) → k < rowPlace s 0 → u8At s' k ≡ u8At s k
-  early k h = w .elsewhere k (λ e. omega arith) (λ e. omega arith) (λ e. omega arith)
-
-  before : (p n : ℕ) → p + n ≤ rowPlace s 0 → Same s' s p p n
-  before p n h = record { byte = λ k l. early (p + k) (omega arith) }
-
-  -- so the head,
-  head-byte : (k : ℕ) → k < 104 → u8At s' k ≡ u8At s k
-  head-byte k h = early k (omega (arith, start-between s))
-
-  -- the version, and with it where the seasons start,
-  version : versionOf s' ≡ versionOf s
-  version = cc (head-byte 3 (omega arith), head-byte 4 (omega arith))
-
-  start : seasonsStart s' ≡ seasonsStart s
-  start = start-same s s' version
-
-  -- the counts of seasons and rows,
-  seasons : seasonsOf s' ≡ seasonsOf s
-  seasons = head-byte 5 (omega arith)
-
-  rows : rowsOf s' ≡ rowsOf s
-  unfolding rowsOf
-  rows = cc (version, head-byte 6 (omega arith), head-byte 7 (omega arith))
-
-  rows-most : rowsMost s' ≡ rowsMost s
-  unfolding rowsMost
-  rows-most = cc (version)
-
-  -- each season,
-  season : (j : ℕ) → j < seasonsOf s → seasonAt s' j ≡ seasonAt s j
-  unfolding seasonAt
-  season j h = rw start (season-same (before (seasonPlace s j) 8 (omega arith)) (omega arith))
-
-  -- all of them,
-  season-list : (j n : ℕ) → j + n ≤ seasonsOf s → seasonsFrom s' j n ≡ seasonsFrom s j n
-  unfolding seasonsFrom
-  season-list j zero h = refl
-  season-list j (suc n) h = cc (season j (omega arith), season-list (suc j) n (omega arith))
-
-  -- the days before a season,
-  days : (n : ℕ) → n ≤ seasonsOf s → daysBefore s' n ≡ daysBefore s n
-  unfolding daysBefore
-  days zero h = refl
-  days (suc n) h = cc (days n (omega arith), season n h)
-
-  -- and what holds in some season are the same;
-  some : (wrong : Season → Bool) (n : ℕ) → n ≤ seasonsOf s → someSeason wrong s' n ≡ someSeason wrong s n
-  unfolding someSeason
-  some wrong zero h = refl
-  some wrong (suc n) h = cc (some wrong n (omega arith), season n h)
-
-  -- the head passes or is refused alike,
-  head : headCheck s' ≡ headCheck s
-  unfolding headCheck markCheck numbersCheck lettersMissing
-  head = cc (w .same-length, head-byte 0 (omega arith), head-byte 1 (omega arith), head-byte 2 (omega arith), version, seasons, rows, rows-most, head-byte 7 (omega arith))
-
-  -- the parking counts are the same,
-  durations : durationCounts s' ≡ durationCounts s
-  unfolding durationCounts
-  durations = counts-same 8 8 24 (before 8 48 (omega (arith, start-between s)))
-
-  hours : hourCounts s' ≡ hourCounts s
-  unfolding hourCounts
-  hours = counts-same 56 56 24 (before 56 48 (omega (arith, start-between s)))
-
-  grid : hasGrid s ≡ true → gridCounts s' ≡ gridCounts s
-  unfolding gridCounts
-  grid h = counts-same 8 8 576 (before 8 1152 (omega (arith, start-grid s h)))
-
-  -- so they pass or are refused alike, whichever count,
-  parking : (b : Bool) → hasGrid s ≡ b → parkingCheck s' ≡ parkingCheck s
-  unfolding parkingCheck
-  parking true h = rw (version, h) (cc (grid h))
-  parking false h = rw (version, h) (cc (durations, hours))
-
-  -- and the cells are the same,
-  cells : (b : Bool) → hasGrid s ≡ b → cellsOf s' ≡ cellsOf s
-  unfolding cellsOf
-  cells true h = rw (cellsOf, version, h) (grid h)
-  cells false h = rw (cellsOf, version, h) (cc (durations, hours))
-
-  -- and each season passes or is refused alike.
-  season-check : (j : ℕ) → j < seasonsOf s → seasonCheck s' j ≡ seasonCheck s j
-  unfolding seasonCheck
-  season-check j h = cc (start, season j h, days j (omega arith))
+  before : BeforeRows s s'
+  before = record { same-length = w .same-length; early = λ k h. w .elsewhere k (λ e. omega arith) (λ e. omega arith) (λ e. omega arith) }
 
   -- In another row than i all bytes are the same,
   other : (j : ℕ) → ¬ (j ≡ i) → Same s' s (rowPlace s j) (rowPlace s j) 24
@@ -227,7 +134,7 @@ module _ (s s' : List ℕ) (i : ℕ) (c : Canister) (t : ℕ) (fitted : equipmen
   -- its values are the same,
   row : (j : ℕ) → rowAt s' j ≡ rowAt s j
   unfolding rowAt
-  row j = rw (start, seasons) (row-alike j .row)
+  row j = rw (start before, seasons before) (row-alike j .row)
 
   -- and so are the vehicles before it,
   vehicles : (n : ℕ) → vehiclesBefore s' n ≡ vehiclesBefore s n
@@ -238,27 +145,26 @@ module _ (s s' : List ℕ) (i : ℕ) (c : Canister) (t : ℕ) (fitted : equipmen
   -- and it passes or is refused alike.
   mileage : (r : Row) → mileageWrong s' r ≡ mileageWrong s r
   unfolding mileageWrong
-  mileage r = cc (seasons, some (saturationAbove 0 (r .canister) (r .saturation)) (seasonsOf s) (omega arith))
+  mileage r = cc (seasons before, some before (saturationAbove 0 (r .canister) (r .saturation)) (seasonsOf s) (omega arith))
 
   row-check : (j : ℕ) → rowCheck s' j ≡ rowCheck s j
   unfolding rowCheck
   row-check j =
       let r = row-alike j in
-      rw (start, seasons, version, row j, vehicles j, r .equipment, r .code, r .limit, mileage (rowAt s j), some (saturationAbove 3 ((rowAt s j) .canister) ((rowAt s j) .saturation)) (seasonsOf s) (omega arith))
+      rw (start before, seasons before, version before, row j, vehicles j, r .equipment, r .code, r .limit, mileage (rowAt s j), some before (saturationAbove 3 ((rowAt s j) .canister) ((rowAt s j) .saturation)) (seasonsOf s) (omega arith))
 
   -- accepted or refused alike, with the same values
   pub alike : Alike s s'
-  unfolding sheetCheck lengthCheck seasonList
+  unfolding sheetCheck lengthCheck
   alike = record {
-    seasons-same = seasons;
-    rows-same = rows;
+    seasons-same = seasons before;
+    rows-same = rows before;
     check-same =
-        let checks : each (seasonCheck s') (seasonsOf s) ≡ each (seasonCheck s) (seasonsOf s) = each-cong (seasonCheck s') (seasonCheck s) (seasonsOf s) season-check in
         let rest : each (rowCheck s') (rowsOf s) ≡ each (rowCheck s) (rowsOf s) = each-cong (rowCheck s') (rowCheck s) (rowsOf s) (λ j _. row-check j) in
-        cc (w .same-length, start, seasons, rows, head, parking (hasGrid s) refl, checks, rest);
-    cells-same = cells (hasGrid s) refl;
-    season-same = season;
-    season-list-same = cc (seasons, season-list 0 (seasonsOf s) (omega arith));
+        cc (w .same-length, start before, seasons before, rows before, head before, parking before, season-checks before, rest);
+    cells-same = cells before;
+    season-same = season before;
+    season-list-same = season-list before;
     row-same = λ j _. row j;
   }
 

@@ -26,6 +26,16 @@ pub vehicles-more : (s : List ℕ) (i : ℕ) {before vehicles : ℕ} → before 
 unfolding vehiclesBefore
 vehicles-more s i e f = rw (add-one, e, f)
 
+-- more rows have no fewer
+pub vehicles-rise : (s : List ℕ) (m n : ℕ) → m ≤ n → vehiclesBefore s m ≤ vehiclesBefore s n
+unfolding vehiclesBefore
+vehicles-rise s m zero h = let none : m ≡ 0 = omega arith in rw none (omega arith)
+vehicles-rise s m (suc n) h =
+    elim (decLe m n) [
+      | yes l ↦ omega (arith, vehicles-rise s m n l)
+      | no l ↦ let all : m ≡ suc n = omega arith in rw all (omega arith)
+    ]
+
 module _ {s : List ℕ} (a : Accepted s) where
   -- each row has its limit,
   vehicles-each : (n : ℕ) → n ≤ rowsOf s → vehiclesBefore s n ≤ n * vehiclesLimit

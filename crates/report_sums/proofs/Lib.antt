@@ -1,0 +1,4 @@
+pub mod SumSizes
+pub mod ReportSizes
+pub mod GrandTotal
+pub mod BufferSums
