@@ -52,7 +52,8 @@ fn fleet_past(s: &[u8], count: u64) -> bool
 // So many more would be too many in a row of v vehicles, or together.
 fn arrival_past(s: &[u8], v: u64, count: u64) -> bool
     requires { ⌜ (sheetCheck (now s) ≡ Pass) × (v ≤ vehiclesLimit) ⌝ }
-    ensures { λ r. ⌜ r ≡ (ltb vehiclesLimit (v + count) || (hasManyRows (now (s .entry)) && ltb fleetLimit (total (countsOf (now (s .entry))) + count))) ⌝ }
+    ensures { λ r. ⌜ r ≡ (ltb vehiclesLimit (v + count)
+        || (hasManyRows (now (s .entry)) && ltb fleetLimit (total (countsOf (now (s .entry))) + count))) ⌝ }
 {
     if VEHICLES_LIMIT - v < count {
         return true;
