@@ -54,7 +54,7 @@ pub record Alike (s s' : List ℕ) : Type 0 where
   pub row-same : (j : ℕ) → j < rowsOf s → rowAt s' j ≡ rowAt s j
 
 -- the same checks, one by one, are the same together
-each-cong : (f g : ℕ → Check) (n : ℕ) → ((j : ℕ) → j < n → f j ≡ g j) → each f n ≡ each g n
+pub each-cong : (f g : ℕ → Check) (n : ℕ) → ((j : ℕ) → j < n → f j ≡ g j) → each f n ≡ each g n
 unfolding each
 each-cong f g zero h = refl
 each-cong f g (suc n) h = cc (each-cong f g n (λ j l. h j (omega arith)), h n (omega arith))

@@ -1,0 +1,5 @@
+pub mod PoolBytes
+pub mod PoolChecks
+pub mod PoolAnswers
+pub mod RefusedOnly
+pub mod PooledReport
