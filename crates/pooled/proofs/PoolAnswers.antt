@@ -16,6 +16,7 @@ use Rattle.sheet.specs.Check.{refuse, _then_}
 use Rattle.sheet.specs.Sheet.{sheetCheck}
 use Rattle.sheet.proofs.Checks.{Tests, Judges, then-pass, below-suc, tests-as, ||-tests, not-tests, eqb-shows, ltb-tests, true-is-not-false, judges-refuse, judges-then, _⊳_}
 use Rattle.sheet.proofs.Conditions.{mark-judged, sheet-judged, met-accepted}
+use Rattle.pooled.specs.declared.PoolAnswer.the-variants.{Accepted, First, Second, Pooled}
 use Rattle.pooled.specs.Pool.{pool, regionCheck, sharedBytes, someDiffers, differ, pairCheck, poolCheck}
 use Rattle.pooled.specs.PoolCall.{answered, poolAnswer, checkOf, regionDemands, Agree, pairDemands, PoolSays}
 use Rattle.pooled.specs.Late.{lateCheck}
@@ -56,6 +57,24 @@ answered-check Pass Pass Pass = refl
 pub answer-check : (a b : List ℕ) (room : ℕ) → checkOf (poolAnswer a b room) ≡ poolCheck a b room
 unfolding poolAnswer poolCheck
 answer-check a b room = answered-check (regionCheck a) (regionCheck b) (pairCheck a b room)
+
+-- Each outcome of the checks is the answer.
+module _ (a b : List ℕ) (room : ℕ) {number place : ℕ} where
+  pub first-is : regionCheck a ≡ Refused number place → First number place ≡ poolAnswer a b room
+  unfolding poolAnswer answered
+  first-is p = rw p
+
+  pub second-is : regionCheck a ≡ Pass → regionCheck b ≡ Refused number place → Second number place ≡ poolAnswer a b room
+  unfolding poolAnswer answered
+  second-is p q = rw (p, q)
+
+  pub pooled-is : regionCheck a ≡ Pass → regionCheck b ≡ Pass → pairCheck a b room ≡ Refused number place → Pooled number place ≡ poolAnswer a b room
+  unfolding poolAnswer answered
+  pooled-is p q r = rw (p, q, r)
+
+pub accepted-is : (a b : List ℕ) (room : ℕ) → regionCheck a ≡ Pass → regionCheck b ≡ Pass → pairCheck a b room ≡ Pass → Accepted ≡ poolAnswer a b room
+unfolding poolAnswer answered
+accepted-is a b room p q r = rw (p, q, r)
 
 -- and it says of which sheet
 told : (a b : List ℕ) (room : ℕ) (c d e : Check) → regionCheck a ≡ c → regionCheck b ≡ d → pairCheck a b room ≡ e → PoolSays a b room (answered c d e)

@@ -43,6 +43,9 @@ module _ {s : List ℕ} (r : Region s) where
   pub rows-most : rowsOf s ≤ manyRowsLimit
   rows-most = omega (arith, accepted s (r .passed) .rows-most, most-many s many)
 
+  pub length-most : length s ≤ 25256
+  length-most = omega (arith, length-is, rows-most, accepted s (r .passed) .seasons-most)
+
 -- two such sheets with equal seasons and parking bytes
 pub record Pair (a b : List ℕ) : Type 0 where
   pub first : Region a
