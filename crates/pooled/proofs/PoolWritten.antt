@@ -3,13 +3,15 @@
 use mathlib.Core.List.{List, _++_}
 use mathlib.Core.Path.{_≡_, sym, ap, _∙_}
 use Prim.Native.Nat.{ℕ, _≤_}
-use lib.ListN.{length, drop}
+use lib.ListN.{length, take, drop}
+use lib.Seq.{take-append-seam}
 use Rattle.sheet.specs.declared.Check.the-variants.{Pass}
 use Rattle.sheet.specs.Integers.{u8At}
 use Rattle.report_words.specs.Years.{filled}
 use Rattle.report_words.proofs.Filled.{tab-getD}
 use Rattle.inventory.specs.ReportCall.{written}
 use Rattle.pooled.specs.declared.PoolAnswer.{PoolAnswer}
+use Rattle.pooled.specs.declared.PoolAnswer.the-variants.{Accepted}
 use Rattle.pooled.specs.Pool.{pool, poolCheck}
 use Rattle.pooled.specs.Late.{Regions}
 use Rattle.pooled.specs.PoolCall.{poolAnswer, checkOf, PoolReply}
@@ -32,3 +34,22 @@ answer-passes {a} {b} {room} e h =
     let pass : poolCheck a b room ≡ Pass = sym (ap checkOf e ∙ answer-check a b room) ∙ h in
     let (first, second) = regions a b room pass in
     (record { first = first; second = second }, poolable a b room pass .fits)
+
+-- what is known where the pool is accepted: the buffer starts with it
+pub record Pools (a b old out : List ℕ) : Type 0 where
+  pub passes : poolCheck a b (length old) ≡ Pass
+  pub regions : Regions a b
+  pub fits : length (pool a b) ≤ length old
+  pub first : take (length (pool a b)) out ≡ pool a b
+
+pub pools : {a b old out : List ℕ} {r : PoolAnswer} → PoolReply a b old out r → r ≡ Accepted → Pools a b old out
+unfolding checkOf written
+pools {a} {b} {old} reply e =
+    let pass : poolCheck a b (length old) ≡ Pass = sym (reply .check-is) ∙ ap checkOf e in
+    let (regions, fits) = answer-passes (reply .answer-is) (ap checkOf e) in
+    record {
+      passes = pass;
+      regions = regions;
+      fits = fits;
+      first = ap (take (length (pool a b))) (reply .bytes-are ∙ rw pass) ∙ take-append-seam (pool a b) (drop (length (pool a b)) old);
+    }

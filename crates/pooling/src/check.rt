@@ -1,5 +1,6 @@
 // Where pooling stops: the first sheet, the second, and the two together. The pooled sheet is not made for its checks: where both sheets
 // pass and agree, the number of its rows and of its vehicles are all that can refuse it, as is proved in the crate pooled.
+use crate::pool_length;
 use checks::check_sheet;
 use checks::head::mark_check;
 use fields::GRID_START;
@@ -122,7 +123,7 @@ fn pair_check(a: &[u8], b: &[u8], room: usize) -> Check
     if let Check::Refused(_, _) = late {
         return late;
     }
-    if room < a.len() + ROW_BYTES * rows_of(b) {
+    if room < pool_length(a, b) {
         return Check::Refused(22, 0);
     }
     Check::Pass

@@ -41,12 +41,20 @@ fn pool_byte(a: &[u8], b: &[u8], k: usize) -> u8
     b[row_place(b, 0) + (k - a.len())]
 }
 
+// How long the pooled sheet is: the first sheet, and the second's rows.
+pub fn pool_length(a: &[u8], b: &[u8]) -> usize
+    requires { ⌜ Regions (now a) (now b) ⌝ }
+    ensures { λ r. ⌜ r ≡ length (pool (now (a .entry)) (now (b .entry))) ⌝ }
+{
+    a.len() + ROW_BYTES * rows_of(b)
+}
+
 // The pooled sheet at the front of a buffer that has room for it.
 fn write_pool(a: &[u8], b: &[u8], out: &mut [u8])
     requires { ⌜ Regions (now a) (now b) × (length (pool (now a) (now b)) ≤ length (now out)) ⌝ }
     ensures { λ r. ⌜ now (out .exit) ≡ written Pass (pool (now (a .entry)) (now (b .entry))) (now (out .entry)) ⌝ }
 {
-    let n = a.len() + ROW_BYTES * rows_of(b);
+    let n = pool_length(a, b);
     let mut i: usize = 0;
     while i < n {
         out[i] = pool_byte(a, b, i);

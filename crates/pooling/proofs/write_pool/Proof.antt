@@ -9,8 +9,6 @@ use Rattle.sheet.specs.Integers.{u8At}
 use Rattle.report_words.specs.Years.{filled}
 use Rattle.report_words.proofs.Filled.{filled-none, filled-more}
 use Rattle.pooled.specs.Pool.{pool}
-use Rattle.pooled.proofs.PoolBytes.{length-is, pool-long}
-use Rattle.pooled.proofs.PoolAnswers.{region}
 use Rattle.pooled.proofs.PoolWritten.{filled-pool}
 use Rattle.pooling.proofs.write_pool.Statement.{statement}
 use Rattle.pooling.proofs.write_pool.Tie as tie
@@ -24,15 +22,14 @@ abbrev μ-loop : tie.MeasureT-loop
 loop-again : tie.Need-loop-again Inv-loop μ-loop
 loop-again c =
     let l = c .before .before .loop in
-    let x = c .before .before .before .before .before .before .before in
-    let room : l .i < length (x .args .out .now) = omega (arith, pool-long (x .args .a .now) (region _ (x .pre .0 .second))) in
+    let room : l .i < length (c .before .before .before .before .before .before .before .args .out .now) = omega arith in
     (search needs, simp length-set (l .inv .1), rw (l .inv .2) (filled-more _ _ (l .i) room (c .pool-byte .ensures)))
 
 returns : tie.Need-returns Inv-loop μ-loop
 returns c =
     let l = c .before .loop in
-    let x = c .before .before .before .before .before .before in
-    l .inv .2 ∙ filled-pool (x .args .a .now) (x .args .b .now) (x .args .out .now) (omega (arith, l .inv .0, pool-long (x .args .a .now) (region _ (x .pre .0 .second))))
+    let x = c .before .before .before .before .before .before .args in
+    l .inv .2 ∙ filled-pool (x .a .now) (x .b .now) (x .out .now) (omega arith)
 
 pub write-pool-spec : {M : Type 1} → statement M
 write-pool-spec =
@@ -40,12 +37,10 @@ write-pool-spec =
     (tie.spec
     Inv-loop
     μ-loop
-    (λ c κs. omega (arith, length-is (region _ (c .before .before .before .pre .0 .second))))
-    (λ c. search needs)
-    (λ c. let x = c .before .before .before .before in omega (arith, x .pre .1, pool-long (x .args .a .now) (region _ (x .pre .0 .second))))
+    (λ c κs. search needs)
     (λ c. (search needs, refl, filled-none _ _))
-    (λ c κs. let x = c .before .before .before .before .before .before in (x .pre .0, omega (arith, pool-long (x .args .a .now) (region _ (x .pre .0 .second)))))
-    (λ c. let x = c .before .before .before .before .before .before .before in omega (arith, x .pre .1, c .before .before .loop .inv .1, pool-long (x .args .a .now) (region _ (x .pre .0 .second))))
+    (λ c κs. let x = c .before .before .before .before .before .before in (x .pre .0, omega arith))
+    (λ c. omega arith)
     (λ c. search needs)
     (λ c. search needs)
     loop-again

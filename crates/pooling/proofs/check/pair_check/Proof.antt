@@ -9,7 +9,7 @@ use lib.ListN.{length}
 use Rattle.sheet.specs.Bytes.{rowsOf}
 use Rattle.sheet.proofs.Stages.{stop, go, passed}
 use Rattle.inventory.proofs.CallConditions.{refused, allowed}
-use Rattle.pooled.proofs.PoolBytes.{length-is, length-most, rows-most}
+use Rattle.pooled.proofs.PoolBytes.{pool-long}
 use Rattle.pooled.proofs.PoolAnswers.{region, late}
 use Rattle.pooling.proofs.check.pair_check.Statement.{statement}
 use Rattle.pooling.proofs.check.pair_check.Tie as tie
@@ -33,7 +33,7 @@ returns-3 c =
     let l = e .before .before in
     let a = x .args .a .now in
     passed 32 0 _ (sym (l .before .before .differ .ensures) ∙ l .before .if1 .left)
-    (go _ _ (l .late-check .ensures) (e .enum-told2 .given .1) (refused 22 0 (lt-ltb (x .args .room) (length a + 24 * rowsOf (x .args .b .now)) (omega arith)))) ∙
+    (go _ _ (l .late-check .ensures) (e .enum-told2 .given .1) (refused 22 0 (lt-ltb (x .args .room) (length a + 24 * rowsOf (x .args .b .now)) (omega (arith, pool-long a (region _ (x .pre .second))))))) ∙
     sym (late _ _ _ (x .pre .first) (x .pre .second))
 
 returns-4 : tie.Need-returns-4
@@ -43,7 +43,7 @@ returns-4 c =
     let l = e .before .before in
     let a = x .args .a .now in
     passed 32 0 _ (sym (l .before .before .differ .ensures) ∙ l .before .if1 .left)
-    (go _ _ (l .late-check .ensures) (e .enum-told2 .given .1) (allowed 22 0 (le-ltb (x .args .room) (length a + 24 * rowsOf (x .args .b .now)) (omega arith)))) ∙
+    (go _ _ (l .late-check .ensures) (e .enum-told2 .given .1) (allowed 22 0 (le-ltb (x .args .room) (length a + 24 * rowsOf (x .args .b .now)) (omega (arith, pool-long a (region _ (x .pre .second))))))) ∙
     sym (late _ _ _ (x .pre .first) (x .pre .second))
 
 pub pair-check-spec : {M : Type 1} → statement M
@@ -56,10 +56,6 @@ pair-check-spec =
     (λ c. search needs)
     returns-2
     (λ c. search needs)
-    (λ c κs. omega (arith, length-is (region _ (c .before .before .before .before .before .before .before .pre .second))))
-    (λ c. search needs)
-    (λ c.
-    let p = c .before .before .before .before .before .before .before .before .pre in
-    omega (arith, length-most (region _ (p .first)), rows-most (region _ (p .second))))
+    (λ c κs. search needs)
     returns-3
     returns-4)
