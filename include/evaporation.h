@@ -1,4 +1,5 @@
-/* The calls of the evaporation workbook for a program in C: the report of a sheet, in words or as a text, and one emission factor.
+/* The calls of the evaporation workbook for a program in C: the report of a sheet, in words or as a text, one emission factor, and two
+ * sheets pooled into one.
  *
  * They stand in the static library target/staticlib/libevaporation.a, which `rt staticlib evaporation` makes from the proved
  * crate (x86-64 Linux); it needs only the C library. c/example.c is a program over them.
@@ -9,9 +10,9 @@
  * is above 0; in version 4, which is version 3 otherwise, bytes 6 and 7 of the head count the rows. What a call answers has the
  * same form for all.
  *
- * A sheet, words and a text are passed as a pointer and a number of elements. A pointer is never null, also where the number is 0,
- * and points to that many elements; `words` is aligned for uint64_t, and the bytes of sheet, words and text must not overlap. Those
- * of the sheet are not written. No call keeps a pointer, takes memory, reads or writes a file or holds state: two threads may call
+ * A sheet, words, a text and a pooled sheet are passed as a pointer and a number of elements. A pointer is never null, also where the
+ * number is 0, and points to that many elements; `words` is aligned for uint64_t, and what a call writes must overlap nothing else that it
+ * is handed. The bytes of a sheet are not written. No call keeps a pointer, takes memory, reads or writes a file or holds state: two threads may call
  * at once with words and a text of their own.
  */
 #ifndef EVAPORATION_H
@@ -69,9 +70,23 @@ enum evp_number {
     EVP_ROW_ZEROS = 21,      /* the last four bytes of a row are not zero */
     EVP_MILEAGE = 25,        /* a mileage above 1,000,000 km; or one above 0 with no canister, beside a load, or where the exponent of
                               * the saturating load is above 0 in some season */
-    EVP_ROOM = 22,           /* the report call: fewer words than the report has; place 0 */
-    EVP_ABSENT = 23          /* the factor call: the sheet has no such season or row, or the factor is not 1 to 7; place 0 */
+    EVP_ROOM = 22,           /* the report call: fewer words than the report has; the pool call: fewer bytes than the pooled sheet has;
+                              * place 0 */
+    EVP_ABSENT = 23,         /* the factor call: the sheet has no such season or row, or the factor is not 1 to 7; place 0 */
+    EVP_DIFFER = 32          /* the pool call: the seasons or the parking of the two sheets differ; place 0; see there for the order */
 };
+
+/* Which sheet a refusal of the pool call is of. */
+enum evp_pool_sheet {
+    EVP_FIRST = 1,
+    EVP_SECOND = 2,
+    EVP_POOLED = 3           /* the two together: their pooled sheet, EVP_DIFFER or EVP_ROOM */
+};
+
+/* The bytes of the pooled sheet of two sheets of these lengths, which have the same number of seasons; never more than EVP_SHEET_BYTES
+ * where the pool is accepted. */
+#define EVP_POOL_BYTES(first_bytes, second_bytes, seasons) \
+    ((size_t)(first_bytes) + (size_t)(second_bytes) - EVP_GRID_END - 8 * (size_t)(seasons))
 
 /* The answer of the report call. */
 struct evp_check {
@@ -85,6 +100,13 @@ struct evp_factor_band {
     uint64_t place;  /* as above */
     uint64_t low;    /* micrograms, at most the exact factor; 0 where the sheet is refused */
     uint64_t high;   /* micrograms, at least the exact factor, at most low + 1,000; 0 where the sheet is refused */
+};
+
+/* The answer of the pool call. */
+struct evp_pool_check {
+    uint64_t number; /* of enum evp_number */
+    uint64_t place;  /* the byte where it stops, counted from the start of the sheet that is refused; 0 where the pool is accepted */
+    uint64_t sheet;  /* of enum evp_pool_sheet; 0 where the pool is accepted */
 };
 
 /* The report: masses of the year in milligrams, each a low and a high with the exact mass between them.
@@ -104,6 +126,15 @@ size_t evp_text(const uint8_t *sheet, size_t sheet_bytes, uint64_t *words, size_
 /* One factor of a season and a row, both counted from 0. 1 is diurnal (a day); hot soak (a parking): 2 injection, 3 carburettor
  * warm, 4 carburettor hot; running (a trip): 5 injection, 6 carburettor warm, 7 carburettor hot. */
 struct evp_factor_band evp_factor(const uint8_t *sheet, size_t sheet_bytes, uint64_t season, uint64_t row, uint64_t factor);
+
+/* Two sheets of version 4 with the same seasons and parking, byte for byte, pooled: the first's rows, then the second's.
+ *
+ * Accepted: the first EVP_POOL_BYTES bytes of `pool` are the pooled sheet, those beyond keep what they had. Its report has both sheets'
+ * row words, and every subtotal and total is the sum of theirs. Refused: all bytes keep what they had. The checks are made in this order: the
+ * first sheet's, from EVP_HEAD_SHORT on, with EVP_VERSION where its version is not 4; the second's likewise; EVP_DIFFER; the pooled
+ * sheet's, of which EVP_ROWS and EVP_FLEET alone can apply; EVP_ROOM. */
+struct evp_pool_check evp_pool(const uint8_t *first, size_t first_bytes, const uint8_t *second, size_t second_bytes, uint8_t *pool,
+                               size_t pool_bytes);
 
 #ifdef __cplusplus
 }
