@@ -26,8 +26,8 @@ from factors import FIVE
 from inputs import TOP, answer_text, packed, serve
 from reports import HOT_AND_COLD, KINDS, varied
 from sheets import (
-    BASE_MANY, DRIVEN, MOST_OF_ALL, MOST_OF_ROW, ROW, SEASON, SMALL_MANY, WITHOUT, chance_many_plan, counted, in_turn, many,
-    patched, rows_of, version_of, with_vehicles,
+    DRIVEN, MOST_OF_ALL, MOST_OF_ROW, ROW, SEASON, SMALL_MANY, WITHOUT, chance_many_plan, in_turn, many, patched, rows_of,
+    version_of, with_vehicles,
 )
 
 ROOM = 25_344  # the bytes of the program's buffer
