@@ -14,7 +14,6 @@ use vectors::tally::Tally;
 use vectors::tally::Verdict;
 use vectors::tally::next;
 use vectors::tally::smaller;
-ghost use mathlib.Core.Path.{_≡_};
 ghost use Prim.Native.Nat.{_+_, _≤_};
 ghost use lib.ListN.{length};
 

@@ -3,7 +3,6 @@ use sheet::Check;
 use vectors::input::u16_at;
 use vectors::tally::smaller;
 ghost use Prim.Native.Nat.{_+_, _*_, _≤_};
-ghost use lib.ListN.{length};
 
 // The words of a buffer
 const WORDS: usize = 6144;

@@ -56,7 +56,7 @@ answered-check Pass Pass Pass = refl
 
 pub answer-check : (a b : List ℕ) (room : ℕ) → checkOf (poolAnswer a b room) ≡ poolCheck a b room
 unfolding poolAnswer poolCheck
-answer-check a b room = answered-check (regionCheck a) (regionCheck b) (pairCheck a b room)
+answer-check a b room = answered-check _ _ _
 
 -- Each outcome of the checks is the answer.
 module _ (a b : List ℕ) (room : ℕ) {number place : ℕ} where
