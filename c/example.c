@@ -2,9 +2,9 @@
  * the first against document 01's lines, and tries refusals of each call. Then the same for the sheets of version 2 that have the products of their lists as a grid, and for these
  * in versions 3 and 4, without a mileage, which must answer alike. Then a sample of version 3 with mileages; the species of some totals; the
  * cells of a row of the second sample, from the words of its report, their sum, and cells that are refused; a ledger on the second sample,
- * in versions 1 and 4. Prints what it found; the exit status is 0 only where all of it is as expected.
+ * in versions 1 and 4; and two sheets of version 4 are pooled. Prints what it found; the exit status is 0 only where all of it is as expected.
  *
- * usage: example EXAMPLE.evp TABLE-3-5-DAY.evp ODOMETER.evp */
+ * usage: example EXAMPLE.evp TABLE-3-5-DAY.evp ODOMETER.evp NORTH.evp SOUTH.evp POOLED */
 #include <inttypes.h>
 #include <math.h>
 #include <stdio.h>
@@ -30,15 +30,21 @@ static void expect(const char *what, uint64_t found, uint64_t expected) {
     }
 }
 
-static int read_sheet(const char *path) {
+/* How many bytes of a file there are, at most one more than the longest sheet has; 0 where it cannot be read. */
+static size_t read_file(const char *path, uint8_t *bytes) {
     FILE *file = fopen(path, "rb");
     if (file == NULL) {
         perror(path);
         return 0;
     }
-    sheet_bytes = fread(sheet, 1, sizeof sheet, file);
+    size_t count = fread(bytes, 1, EVP_SHEET_BYTES + 1, file);
     fclose(file);
-    return 1;
+    return count;
+}
+
+static int read_sheet(const char *path) {
+    sheet_bytes = read_file(path, sheet);
+    return sheet_bytes != 0;
 }
 
 /* Two bytes of the sheet, the lowest first: the version, or a count. */
@@ -421,9 +427,47 @@ static void expect_ledger(size_t seasons_start) {
     expect_untouched(EVP_WORDS_OF(3));
 }
 
+/* Two sheets, their pooled sheet, and the buffer of the pool call. */
+static uint8_t first[EVP_SHEET_BYTES + 1], second[EVP_SHEET_BYTES + 1], pooled[EVP_SHEET_BYTES + 1], pool[EVP_SHEET_BYTES];
+static size_t first_bytes, second_bytes, pooled_bytes;
+
+/* Pools the two with this much room. The buffer starts with these bytes of the pooled sheet, and all else in it is as it was. */
+static void expect_pool(size_t room, uint64_t number, uint64_t place, uint64_t of, size_t written) {
+    memset(pool, 'U', sizeof pool);
+    struct evp_pool_check answer = evp_pool(first, first_bytes, second, second_bytes, pool, room);
+    printf("pool: number %" PRIu64 " place %" PRIu64 " sheet %" PRIu64 "\n", answer.number, answer.place, answer.sheet);
+    expect("number of the pool", answer.number, number);
+    expect("place of the pool", answer.place, place);
+    expect("sheet of the pool", answer.sheet, of);
+    expect("the bytes of the pool", (uint64_t)memcmp(pool, pooled, written), 0);
+    for (size_t i = written; i < sizeof pool; i++)
+        expect("a byte beyond the pool", pool[i], 'U');
+}
+
+/* With room to spare, for no byte more, and for a byte too few; each refused sheet and both; and other seasons. */
+static void expect_pools(void) {
+    const size_t season = EVP_GRID_END;
+    expect("length of the pool", EVP_POOL_BYTES(first_bytes, second_bytes, first[5]), pooled_bytes);
+    expect_pool(sizeof pool, EVP_ACCEPTED, 0, 0, pooled_bytes);
+    expect_pool(pooled_bytes, EVP_ACCEPTED, 0, 0, pooled_bytes);
+    expect_pool(pooled_bytes - 1, EVP_ROOM, 0, EVP_POOLED, 0);
+    second[3] = 3;
+    expect_pool(sizeof pool, EVP_VERSION, 3, EVP_SECOND, 0);
+    first[0] = 'e';
+    expect_pool(sizeof pool, EVP_MARK, 0, EVP_FIRST, 0);
+    first[0] = 'E';
+    second[3] = 4;
+    second[season] ^= 1;
+    expect_pool(0, EVP_DIFFER, 0, EVP_POOLED, 0);
+    second[season] ^= 1;
+    second[7] = 4;
+    expect_pool(sizeof pool, EVP_ROWS, 6, EVP_SECOND, 0);
+    second[7] = 0;
+}
+
 int main(int count, char **paths) {
-    if (count != 4) {
-        fprintf(stderr, "usage: example EXAMPLE.evp TABLE-3-5-DAY.evp ODOMETER.evp\n");
+    if (count != 7) {
+        fprintf(stderr, "usage: example EXAMPLE.evp TABLE-3-5-DAY.evp ODOMETER.evp NORTH.evp SOUTH.evp POOLED\n");
         return 2;
     }
     if (!read_sheet(paths[1]))
@@ -460,6 +504,12 @@ int main(int count, char **paths) {
     make_grid();
     put_count(3, 4);
     expect_ledger(EVP_GRID_END);
+    first_bytes = read_file(paths[4], first);
+    second_bytes = read_file(paths[5], second);
+    pooled_bytes = read_file(paths[6], pooled);
+    if (first_bytes == 0 || second_bytes == 0 || pooled_bytes == 0)
+        return 2;
+    expect_pools();
     if (mismatches != 0) {
         printf("%d mismatches\n", mismatches);
         return 1;

@@ -1,5 +1,6 @@
 /* The calls of the evaporation workbook for a program in C: the report of a sheet, in words or as a text, one emission factor, the
- * species of a mass, cells of a map made of a row's words, and a ledger, in which vehicles arrive and depart and the report is kept in step.
+ * species of a mass, cells of a map made of a row's words, a ledger, in which vehicles arrive and depart and the report is kept in step, and
+ * two sheets pooled into one.
  *
  * They stand in the static library target/staticlib/libevaporation.a, which `rt staticlib evaporation` makes from the proved
  * crate (x86-64 Linux); it needs only the C library. c/example.c is a program over them.
@@ -10,10 +11,10 @@
  * is above 0; in version 4, which is version 3 otherwise, bytes 6 and 7 of the head count the rows. What a call answers has the
  * same form for all.
  *
- * A sheet, words, a text and milligrams are passed as a pointer and a number of elements. A pointer is never null, also where the number
- * is 0, and points to that many elements; `words` and `milligrams` are aligned for uint64_t, and the bytes of sheet, words and text must not
- * overlap. Those of the sheet are written by evp_arrive and evp_depart alone. No call keeps a pointer, takes memory, reads or writes a file or
- * holds state: two threads may call at once with words and a text of their own, and with a sheet of their own where it is written.
+ * A sheet, words, a text, milligrams and a pooled sheet are passed as a pointer and a number of elements. A pointer is never null, also where
+ * the number is 0, and points to that many elements; `words` and `milligrams` are aligned for uint64_t, and what a call writes must overlap
+ * nothing else that it is handed. The bytes of a sheet are written by evp_arrive and evp_depart alone. No call keeps a pointer, takes memory,
+ * reads or writes a file or holds state: two threads may call at once, each with its own of what is written.
  */
 #ifndef EVAPORATION_H
 #define EVAPORATION_H
@@ -71,15 +72,29 @@ enum evp_number {
     EVP_ROW_ZEROS = 21,      /* the last four bytes of a row are not zero */
     EVP_MILEAGE = 25,        /* a mileage above 1,000,000 km; or one above 0 with no canister, beside a load, or where the exponent of
                               * the saturating load is above 0 in some season */
-    EVP_ROOM = 22,           /* the report call: fewer words than the report has; the species call: fewer than 29; place 0 */
+    EVP_ROOM = 22,           /* the report call: fewer words than the report has; the species call: fewer than 29; the pool call: fewer bytes
+                              * than the pooled sheet has; place 0 */
     EVP_ABSENT = 23,         /* the factor call: the sheet has no such season or row, or the factor is not 1 to 7; place 0 */
     EVP_TRAVEL = 28,         /* the call for cells: a mileage or a speed is not 1 to 1,000,000; place 0 */
     EVP_CELL = 27,           /* both calls for cells: a low above its high; a word, cell or sum above EVP_MASS_LIMIT; or a cell handed in that
                               * is none, as one exact 0, a band whose low is not below its high, a kind above 2, and a double that is no whole
                               * number from 0 to EVP_MASS_LIMIT; place 0 */
-    EVP_COUNT = 29           /* a ledger: no such row, a departure larger than its count, or an arrival after which the row would have
+    EVP_COUNT = 29,          /* a ledger: no such row, a departure larger than its count, or an arrival after which the row would have
                               * more than 10,000,000 vehicles or, in version 4, all rows more than 100,000,000; place 0 */
+    EVP_DIFFER = 32          /* the pool call: the seasons or the parking of the two sheets differ; place 0; see there for the order */
 };
+
+/* Which sheet a refusal of the pool call is of. */
+enum evp_pool_sheet {
+    EVP_FIRST = 1,
+    EVP_SECOND = 2,
+    EVP_POOLED = 3           /* the two together: their pooled sheet, EVP_DIFFER or EVP_ROOM */
+};
+
+/* The bytes of the pooled sheet of two sheets of these lengths, which have the same number of seasons; never more than EVP_SHEET_BYTES
+ * where the pool is accepted. */
+#define EVP_POOL_BYTES(first_bytes, second_bytes, seasons) \
+    ((size_t)(first_bytes) + (size_t)(second_bytes) - EVP_GRID_END - 8 * (size_t)(seasons))
 
 /* The answer of the report call, of the species call, and of the calls on a ledger. */
 struct evp_check {
@@ -97,6 +112,14 @@ struct evp_factor_band {
 
 /* The report: masses of the year in milligrams, each a low and a high with the exact mass between them, of a row at most a hundredth
  * of a milligram apart for each vehicle and day (soak and running: each trip), and two milligrams.
+/* The answer of the pool call. */
+struct evp_pool_check {
+    uint64_t number; /* of enum evp_number */
+    uint64_t place;  /* the byte where it stops, counted from the start of the sheet that is refused; 0 where the pool is accepted */
+    uint64_t sheet;  /* of enum evp_pool_sheet; 0 where the pool is accepted */
+};
+
+/* The report: masses of the year in milligrams, each a low and a high with the exact mass between them.
  *
  * Accepted: the first EVP_WORDS_OF(rows) words are written, those beyond keep what they had. In this order: for each row six words,
  * diurnal low and high, soak low and high, running low and high; six words likewise for cars, for light-duty vehicles, for
@@ -193,6 +216,14 @@ struct evp_cell_sum evp_add_cells(struct evp_cell a, struct evp_cell b);
  * check: where they are not those of the sheet, the sums are taken of what stands there. */
 struct evp_check evp_arrive(uint8_t *sheet, size_t sheet_bytes, uint64_t *words, size_t words_count, uint64_t row, uint64_t vehicles);
 struct evp_check evp_depart(uint8_t *sheet, size_t sheet_bytes, uint64_t *words, size_t words_count, uint64_t row, uint64_t vehicles);
+/* Two sheets of version 4 with the same seasons and parking, byte for byte, pooled: the first's rows, then the second's.
+ *
+ * Accepted: the first EVP_POOL_BYTES bytes of `pool` are the pooled sheet, those beyond keep what they had. Its report has both sheets'
+ * row words, and every subtotal and total is the sum of theirs. Refused: all bytes keep what they had. The checks are made in this order: the
+ * first sheet's, from EVP_HEAD_SHORT on, with EVP_VERSION where its version is not 4; the second's likewise; EVP_DIFFER; the pooled
+ * sheet's, of which EVP_ROWS and EVP_FLEET alone can apply; EVP_ROOM. */
+struct evp_pool_check evp_pool(const uint8_t *first, size_t first_bytes, const uint8_t *second, size_t second_bytes, uint8_t *pool,
+                               size_t pool_bytes);
 
 #ifdef __cplusplus
 }

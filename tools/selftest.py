@@ -30,6 +30,7 @@ import evaporation as ev  # noqa: E402
 import ledgers  # noqa: E402
 import picture  # noqa: E402
 import pressures  # noqa: E402
+import pool  # noqa: E402
 import sheet as writer  # noqa: E402
 import species  # noqa: E402
 
@@ -1327,6 +1328,49 @@ def check_refusals():
     return "%d sheets and calls, each number 1 to 26 with its place, order and edges" % len(cases)
 
 
+def regions(whole, rows):
+    """A sheet of version 4 cut into two: the first so many rows, and the rest."""
+    start = 1160 + 8 * whole[5]
+    cut = start + 24 * rows
+    left = int.from_bytes(whole[6:8], "little") - rows
+    return patched(whole[:cut], (6, rows, 2)), patched(whole[:start] + whole[cut:], (6, left, 2))
+
+
+def check_pool():
+    """A sheet cut in two is pooled to itself; rows keep their exact masses in
+    either order; and each refusal, with its sheet, where the next ones would
+    apply too."""
+    whole = sample("districts", ".evp")
+    for rows in (1, 25, 299):
+        first, second = regions(whole, rows)
+        same(pool.pooled(first, second), whole, "districts cut after row %d and pooled" % rows)
+        same(pool.check(first, second, len(whole)), None, "pool of districts cut after row %d" % rows)
+    first, second = regions(whole, 298)
+    other = pool.pooled(second, first)
+    same(len(other), len(whole), "length in the other order")
+    same(other[:1160 + 8 * whole[5]], whole[:1160 + 8 * whole[5]], "bytes before the rows in the other order")
+    sheets = [ev.read(data) for data in (whole, other, second)]
+    for i in (0, 1):
+        found = [ev.masses(sheet, row) for sheet, row in zip(sheets, (298 + i, i, i))]
+        want(found[0] == found[1] == found[2], "masses of row %d of the second", i + 1)
+    vehicles = {i: 10_000_000 for i in range(10)} | {20: 1}
+    full = regions(patched(whole, *((1192 + 24 * i + 8, vehicles.get(i, 0), 4) for i in range(300))), 10)
+    room = len(whole)
+    season = 1160 + 2
+    cases = (
+        (first[:7], second[:7], room, (1, 1, 0)), (first, second[:7], room, (2, 1, 0)),
+        (patched(first, (0, 0, 1), (3, 3, 2)), second, room, (1, 2, 0)),
+        (patched(first, (3, 3, 2), (5, 0, 1)), second[:7], room, (1, 3, 3)),
+        (first, patched(second, (3, 1, 2)), room, (2, 3, 3)), (first, patched(second, (5, 13, 1)), room, (2, 4, 5)),
+        (first, patched(second[:-1], (season, 0, 2)), room, (2, 7, 0)), (first, patched(second, (season, 0, 2)), 0, (3, 32, 0)),
+        (first, patched(second, (8, 1, 1)), room, (3, 32, 0)), (first, second, room - 1, (3, 22, 0)),
+        (*full, room, (3, 26, 1192 + 24 * 20)), (*full, 0, (3, 26, 1192 + 24 * 20)), (*full[::-1], room, (3, 26, 1192 + 24 * 299)),
+    )
+    for i, (a, b, space, answer) in enumerate(cases, 1):
+        same(pool.check(a, b, space), answer, "refusal %d of a pool" % i)
+    return "a sheet cut in two and pooled is itself, rows keep their masses in either order, %d refusals" % len(cases)
+
+
 def check_class_table():
     expected = {
         (1, 0): (50, 0), (1, 1): (50, 1), (1, 2): (50, 1), (1, 3): (50, 2), (1, 5): (50, 2),
@@ -1476,6 +1520,7 @@ CHECKS = (
     check_weights,
     check_class_table,
     check_refusals,
+    check_pool,
     check_table_3_5,
     check_exact,
     check_products,

@@ -32,7 +32,7 @@ fn letters_missing(s: &[u8]) -> bool
 }
 
 // Numbers 1 and 2. The letters are compared before any field is read.
-fn mark_check(s: &[u8]) -> Check
+pub fn mark_check(s: &[u8]) -> Check
     ensures { λ r. ⌜ r ≡ markCheck (now (s .entry)) ⌝ }
 {
     if s.len() < HEAD {

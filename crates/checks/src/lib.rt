@@ -10,7 +10,7 @@ ghost use Rattle.sheet.specs.Check.{numberOf, placeOf};
 ghost use Rattle.sheet.specs.Sheet.{sheetCheck};
 ghost use Rattle.sheet.specs.Demands.{Says, demands};
 
-mod head;
+pub mod head;
 mod parking;
 
 // The stages one after another, in table and file order. Each reads only what the stages before it showed to be there.

@@ -2,3 +2,4 @@ pub mod Numbers
 pub mod MassesWritten
 pub mod CellNumbers
 pub mod ChangeNumbers
+pub mod PoolNumbers

@@ -2,3 +2,4 @@ pub mod Export
 pub mod SpeciesCall
 pub mod Cells
 pub mod Change
+pub mod PoolExport

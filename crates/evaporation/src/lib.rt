@@ -10,6 +10,7 @@ ghost use Rattle.evaporation.specs.Export.{checkNumbers, factorNumbers, 
 pub mod species;
 pub mod map_cells;
 mod registrations;
+mod pool;
 
 // A refusal's number and place; number 0 where the sheet is accepted.
 #[repr(C)]

@@ -1,16 +1,17 @@
 -- An accepted version 2 sheet is accepted in version 3 too, with the same values; and so are a row's values in any version 3 sheet of the
 -- same parking and seasons.
 -- Assumes nothing.
-use mathlib.Core.Bool.{true, false}
+use mathlib.Core.Bool.{Bool, true, false}
 use mathlib.Core.List.{List}
 use mathlib.Core.Path.{_≡_, refl, sym, _∙_}
 use Prim.Native.Nat.{ℕ, suc, zero, _+_, _*_, _≤_, _<_}
 use native.Mathlib.Omega.{arith}
+use Rattle.exact.specs.declared.Season.{Season}
 use Rattle.sheet.specs.declared.Check.the-variants.{Pass}
 use Rattle.sheet.specs.Integers.{u8At, u16At}
 use Rattle.sheet.specs.Versions.{versionOf, hasGrid, hasManyRows, seasonsStart}
 use Rattle.sheet.specs.Bytes.{seasonsOf, rowsOf, gridCounts, cellsOf, seasonPlace, rowPlace, seasonAt, seasonsFrom, seasonList, rowAt}
-use Rattle.sheet.specs.Sheet.{daysBefore, sheetCheck}
+use Rattle.sheet.specs.Sheet.{daysBefore, someSeason, sheetCheck}
 use Rattle.sheet.specs.Demands.{Met, headDemands, rowDemands}
 use Rattle.sheet.specs.NextVersion.{NextVersion, SameRow}
 use Rattle.sheet.proofs.Versions.{rows-few, most-few, start-grid, cells-grid}
@@ -37,11 +38,13 @@ module _ {s t : List ℕ} (same : Kept s t) where
         rw (a, b) (same .bytes (k + j) (omega arith));
   }
 
-  -- the cells,
-  pub cells-kept : cellsOf t ≡ cellsOf s
+  -- the counts of the grid, which are those of the cells,
+  pub counts-kept : gridCounts t ≡ gridCounts s
   unfolding gridCounts
-  cells-kept =
-      cells-grid t (same .grid-of-t) ∙ counts-same 8 8 576 (from 1152 0 refl refl (omega arith)) ∙ sym (cells-grid s (same .grid-of-s))
+  counts-kept = counts-same 8 8 576 (from 1152 0 refl refl (omega arith))
+
+  pub cells-kept : cellsOf t ≡ cellsOf s
+  cells-kept = cells-grid t (same .grid-of-t) ∙ counts-kept ∙ sym (cells-grid s (same .grid-of-s))
 
   -- each season,
   pub season-kept : (j : ℕ) → j < seasonsOf s → seasonAt t j ≡ seasonAt s j
@@ -51,7 +54,7 @@ module _ {s t : List ℕ} (same : Kept s t) where
       (from 8 (1152 + 8 * j) (omega (arith, start-grid t (same .grid-of-t))) (omega (arith, start-grid s (same .grid-of-s))) (omega arith))
       (omega arith)
 
-  -- and all of them
+  -- all of them,
   listed : (j n : ℕ) → j + n ≤ seasonsOf s → seasonsFrom t j n ≡ seasonsFrom s j n
   unfolding seasonsFrom
   listed j zero l = refl
@@ -60,6 +63,18 @@ module _ {s t : List ℕ} (same : Kept s t) where
   pub season-list-kept : seasonList t ≡ seasonList s
   unfolding seasonList
   season-list-kept = rw (same .seasons) (listed 0 (seasonsOf s) (omega arith))
+
+  -- the days before a season
+  pub days-kept : (n : ℕ) → n ≤ seasonsOf s → daysBefore t n ≡ daysBefore s n
+  unfolding daysBefore
+  days-kept zero l = refl
+  days-kept (suc n) l = cc (days-kept n (omega arith), season-kept n l)
+
+  -- and what holds in some season are the same
+  pub some-kept : (wrong : Season → Bool) (n : ℕ) → n ≤ seasonsOf s → someSeason wrong t n ≡ someSeason wrong s n
+  unfolding someSeason
+  some-kept wrong zero l = refl
+  some-kept wrong (suc n) l = cc (some-kept wrong n (omega arith), season-kept n l)
 
 -- A row.
 module _ {s t : List ℕ} {i j : ℕ} (same : SameRow s t i j) where
@@ -118,11 +133,6 @@ module _ {s t : List ℕ} (next : NextVersion s t) where
   season : (j : ℕ) → j < seasonsOf s → seasonAt t j ≡ seasonAt s j
   season = season-kept same-before-rows
 
-  days : (n : ℕ) → n ≤ seasonsOf s → daysBefore t n ≡ daysBefore s n
-  unfolding daysBefore
-  days zero l = refl
-  days (suc n) l = cc (days n (omega arith), season n l)
-
   -- Every demand that s meets is met by t: on the head,
   head-met : Met (headDemands s) → Met (headDemands t)
   head-met ((long, ((e, v), p)), (version, (season-count, (row-count, zero-byte)))) = (
@@ -148,11 +158,8 @@ module _ {s t : List ℕ} (next : NextVersion s t) where
 
   -- So t is accepted where s is.
   pub next-accepted : sheetCheck s ≡ Pass → sheetCheck t ≡ Pass
-  unfolding gridCounts
   next-accepted h =
       let (head, (long, ((durations, (hours, grid)), (season-demands, row-demands)))) = sheet-judged s .passes h in
-      let counts : gridCounts t ≡ gridCounts s
-      = sym (cells-grid t (same-before-rows .grid-of-t)) ∙ cells-kept same-before-rows ∙ cells-grid s (same-before-rows .grid-of-s) in
       met-accepted t (
         head-met head,
         (
@@ -160,12 +167,12 @@ module _ {s t : List ℕ} (next : NextVersion s t) where
           (
             (
               (λ old. absurd (omega (arith, next .new))),
-              ((λ old. absurd (omega (arith, next .new))), (λ _. rw counts (grid (omega (arith, next .old))))),
+              ((λ old. absurd (omega (arith, next .new))), (λ _. rw (counts-kept same-before-rows) (grid (omega (arith, next .old))))),
             ),
             (
               (λ j l.
                   let in-s : j < seasonsOf s = omega (arith, seasons) in
-                  rw (days j (omega arith), season j in-s) (season-demands j in-s)),
+                  rw (days-kept same-before-rows j (omega arith), season j in-s) (season-demands j in-s)),
               (λ i l. rows-met i (row-demands i (omega (arith, rows)))),
             ),
           ),

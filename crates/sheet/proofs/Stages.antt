@@ -24,7 +24,7 @@ pub regroup : (c₁ c₂ c₃ c₄ c₅ c₆ c₇ c₈ c₉ d e : Check) {x : Ch
 regroup c₁ c₂ c₃ c₄ c₅ c₆ c₇ c₈ c₉ d e h = h ∙ simp then-assoc
 
 -- nothing after a check
-then-pass-right : (c : Check) → c ≡ (c then Pass)
+pub then-pass-right : (c : Check) → c ≡ (c then Pass)
 unfolding _then_
 then-pass-right Pass = refl
 then-pass-right (Refused number place) = refl
@@ -65,6 +65,14 @@ go c d e h t = let q : c ≡ Pass = sym e ∙ h in rw q t
 pub passed : {b : Bool} (number place : ℕ) (d : Check) {x : Check} → b ≡ false → x ≡ d → x ≡ (refuse b number place then d)
 unfolding refuse _then_
 passed number place d h t = rw h t
+
+-- the first m records, then those behind them
+pub each-append : (f : ℕ → Check) (m n : ℕ) → each f (m + n) ≡ (each f m then each (λ (i : ℕ). f (m + i)) n)
+unfolding each
+each-append f m zero = let e : m + 0 ≡ m = omega arith in rw e (then-pass-right (each f m))
+each-append f m (suc n) =
+    let e : m + suc n ≡ suc (m + n) = omega arith in
+    rw (e, each-append f m n) (then-assoc (each f m) (each (λ (i : ℕ). f (m + i)) n) (f (m + n)))
 
 -- no record, no refusal
 pub each-none : (f : ℕ → Check) → each f 0 ≡ Pass

@@ -1,0 +1,104 @@
+// The program `pool`: reads the two sheets that its arguments name and writes the pooled sheet to standard output, or to standard error
+// which sheet is refused, the first, the second or the pooled one, and the line with its number and place. Where a file cannot be read, or
+// not all of the pooled sheet could be written, it says so on standard error.
+use libc::STDERR_FILENO;
+use libc::STDOUT_FILENO;
+use pooled::PoolAnswer;
+use pooling::pool_length;
+use text::lines::put_refusal;
+ghost use mathlib.Core.Path.{_≡_};
+ghost use Rattle.sheet.specs.declared.Check.the-variants.{Pass};
+ghost use Rattle.pooled.specs.Pool.{pool, poolCheck};
+
+// The longest sheet, pooled or not: 1,160 + 8 · 12 + 24 · 1,000 bytes.
+const LONGEST: usize = 25256;
+
+// One byte more: a longer file is refused by its length, as it would be whole.
+const ROOM: usize = 25257;
+
+// The bytes of the longest line of a refusal.
+const LINE: usize = 53;
+
+// Writes what `requires` says and nothing else: the pooled sheet of two that pool.
+fn write(a: &[u8], b: &[u8], bytes: &[u8]) -> bool
+    requires { ⌜ (poolCheck (now a) (now b) 25256 ≡ Pass) × (now bytes ≡ pool (now a) (now b)) ⌝ }
+{
+    io::write_all(STDOUT_FILENO, bytes)
+}
+
+// Which sheet is refused, and its line.
+fn refuse(sheet: &[u8], number: u64, place: u64) {
+    let mut line = [0u8; LINE];
+    let end = put_refusal(&mut line, number, place);
+    io::write_all(STDERR_FILENO, sheet);
+    io::write_all(STDERR_FILENO, &line[..end]);
+}
+
+// Pools two sheets and writes the pool, or the refusal.
+fn answer(a: &[u8], b: &[u8]) {
+    let mut out = [0u8; LONGEST];
+    match pooling::pool(a, b, &mut out) {
+        PoolAnswer::Accepted => {
+            let end = pool_length(a, b);
+            if !write(a, b, &out[..end]) {
+                io::write_all(STDERR_FILENO, b"pool: cannot write standard output\n");
+            }
+        }
+        PoolAnswer::First(number, place) => refuse(b"first sheet: ", number, place),
+        PoolAnswer::Second(number, place) => refuse(b"second sheet: ", number, place),
+        PoolAnswer::Pooled(number, place) => refuse(b"pooled sheet: ", number, place),
+    }
+}
+
+// Opens the file that an argument names, or says why it cannot and answers a number below 0.
+fn open(i: usize) -> i32 {
+    let mut path = io::buffer();
+    let n = os::arg(i, &mut path);
+    if os::errno() != 0 {
+        os::fail(b"pool");
+        return -1;
+    }
+    let fd = os::open_read(&path[..n]);
+    if fd < 0 {
+        os::fail(&path[..n]);
+    }
+    fd
+}
+
+// Whether a file of which n bytes were read ends there, or has more than any sheet. Where a read failed before, this one fails too, or gives
+// bytes. Says so where not, and closes the file.
+fn is_whole(fd: i32, n: usize) -> bool {
+    let mut more = [0u8; 1];
+    let whole = (ROOM <= n) | (libc::read(fd, &mut more) == 0);
+    if !whole {
+        io::write_all(STDERR_FILENO, b"pool: cannot read a sheet\n");
+    }
+    libc::close(fd);
+    whole
+}
+
+fn main() {
+    if os::arg_count() != 3 {
+        io::write_all(STDERR_FILENO, b"usage: pool FIRST SECOND\n");
+        return;
+    }
+    let mut first = [0u8; ROOM];
+    let mut second = [0u8; ROOM];
+    let fd = open(1);
+    if fd < 0 {
+        return;
+    }
+    let n = io::read_full(fd, &mut first);
+    if !is_whole(fd, n) {
+        return;
+    }
+    let next = open(2);
+    if next < 0 {
+        return;
+    }
+    let m = io::read_full(next, &mut second);
+    if !is_whole(next, m) {
+        return;
+    }
+    answer(&first[..n], &second[..m]);
+}

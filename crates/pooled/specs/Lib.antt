@@ -1,0 +1,4 @@
+pub mod Pool
+pub mod PoolCall
+pub mod PooledReport
+pub mod Late
