@@ -110,8 +110,6 @@ struct evp_factor_band {
     uint64_t high;   /* micrograms, at least the exact factor, at most low + 10; 0 where the sheet is refused */
 };
 
-/* The report: masses of the year in milligrams, each a low and a high with the exact mass between them, of a row at most a hundredth
- * of a milligram apart for each vehicle and day (soak and running: each trip), and two milligrams.
 /* The answer of the pool call. */
 struct evp_pool_check {
     uint64_t number; /* of enum evp_number */
@@ -119,7 +117,8 @@ struct evp_pool_check {
     uint64_t sheet;  /* of enum evp_pool_sheet; 0 where the pool is accepted */
 };
 
-/* The report: masses of the year in milligrams, each a low and a high with the exact mass between them.
+/* The report: masses of the year in milligrams, each a low and a high with the exact mass between them, of a row at most a hundredth
+ * of a milligram apart for each vehicle and day (soak and running: each trip), and two milligrams.
  *
  * Accepted: the first EVP_WORDS_OF(rows) words are written, those beyond keep what they had. In this order: for each row six words,
  * diurnal low and high, soak low and high, running low and high; six words likewise for cars, for light-duty vehicles, for
