@@ -216,7 +216,7 @@ static void expect_grid_refusals(void) {
 
 /* The first row of the odometer's sample, 236,000 km, in its first season. */
 static const uint64_t odometer_factors[7][2] = {
-    {207483, 207485}, {41035, 41037}, {58144, 58146}, {68705, 68707}, {19961, 19963}, {19961, 19963}, {19961, 19963},
+    {207389, 207390}, {41035, 41037}, {58144, 58146}, {68705, 68707}, {19963, 19965}, {19963, 19965}, {19963, 19965},
 };
 
 /* A mileage: of more than 1,000,000 km, beside a load, and read as version 2. */

@@ -7,10 +7,10 @@ ghost use Rattle.inventory.specs.ReportCall.{reportCheck};
 ghost use Rattle.printout.specs.Text.{TextAnswer};
 ghost use Rattle.evaporation.specs.Export.{checkNumbers, factorNumbers, ReportNumbers, FactorNumbers};
 
-pub mod species;
 pub mod map_cells;
-mod registrations;
 mod pool;
+mod registrations;
+pub mod species;
 
 // A refusal's number and place; number 0 where the sheet is accepted.
 #[repr(C)]
