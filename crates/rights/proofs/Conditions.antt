@@ -10,7 +10,8 @@ use native.Mathlib.Omega.{arith}
 use borrow.Author.Tests.{ltb-true, ltb-false, leb-true, leb-false}
 use lib.Dec.{leb, ltb, eqb}
 use Rattle.numbers.specs.Lists.{at}
-use Rattle.sheet.specs.declared.Check.the-variants.{Pass}
+use Rattle.sheet.specs.declared.Check.{Check}
+use Rattle.sheet.specs.declared.Check.the-variants.{Pass, Refused}
 use Rattle.sheet.specs.Limits.{vehiclesLimit}
 use Rattle.sheet.specs.Bytes.{rowsOf}
 use Rattle.sheet.specs.Check.{numberOf, placeOf}
@@ -113,6 +114,15 @@ pub totals-says : (s owners : List ℕ) (room who : ℕ)
     → Says (totalsDemands s owners room who) (numberOf (totalsCheck s owners room who)) (placeOf (totalsCheck s owners room who))
 totals-says s owners room who =
     says (totalsCheck s owners room who) (totals-judged s owners room who) (λ p u. ⊎-elim (never-zero s owners room p) (λ m. omega (arith, m .1 .0)) u)
+
+-- so a number 0 passes
+pub shared-zero : (s owners : List ℕ) (room : ℕ) → numberOf (sharedCheck s owners room) ≡ 0 → sharedCheck s owners room ≡ Pass
+unfolding numberOf
+shared-zero s owners room = go (sharedCheck s owners room) (shared-judged s owners room)
+  where
+    go : (c : Check) → Judges c (sharedDemands s owners room) → numberOf c ≡ 0 → c ≡ Pass
+    go Pass j h = refl
+    go (Refused number place) j h = absurd (never-zero s owners room place (rw h at (j .refuses number place refl)))
 
 -- What an opening that passes says.
 module _ (s owners : List ℕ) (room : ℕ) (h : sharedCheck s owners room ≡ Pass) where
