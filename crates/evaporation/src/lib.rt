@@ -7,6 +7,8 @@ ghost use Rattle.inventory.specs.ReportCall.{reportCheck};
 ghost use Rattle.printout.specs.Text.{TextAnswer};
 ghost use Rattle.evaporation.specs.Export.{checkNumbers, factorNumbers, ReportNumbers, FactorNumbers};
 
+mod shared;
+
 // A refusal's number and place; number 0 where the sheet is accepted.
 #[repr(C)]
 pub struct EvpCheck {
