@@ -1,4 +1,5 @@
-/* The calls of the evaporation workbook for a program in C: the report of a sheet, in words or as a text, and one emission factor.
+/* The calls of the evaporation workbook for a program in C: the report of a sheet, in words or as a text, one emission factor, and
+ * a ledger that eight participants and a marker share.
  *
  * They stand in the static library target/staticlib/libevaporation.a, which `rt staticlib evaporation` makes from the proved
  * crate (x86-64 Linux); it needs only the C library. c/example.c is a program over them.
@@ -9,9 +10,9 @@
  * is above 0; in version 4, which is version 3 otherwise, bytes 6 and 7 of the head count the rows. What a call answers has the
  * same form for all.
  *
- * A sheet, words and a text are passed as a pointer and a number of elements. A pointer is never null, also where the number is 0,
- * and points to that many elements; `words` is aligned for uint64_t, and the bytes of sheet, words and text must not overlap. Those
- * of the sheet are not written. No call keeps a pointer, takes memory, reads or writes a file or holds state: two threads may call
+ * A sheet, owners, words and a text are passed as a pointer and a number of elements. A pointer is never null, also where the number is 0,
+ * and points to that many elements; `words` is aligned for uint64_t, and the bytes of sheet, owners, words and text must not overlap. Those
+ * of the sheet are written by evp_shared_arrive and evp_shared_depart alone, those of the owners never. No call keeps a pointer, takes memory, reads or writes a file or holds state: two threads may call
  * at once with words and a text of their own.
  */
 #ifndef EVAPORATION_H
@@ -70,7 +71,12 @@ enum evp_number {
     EVP_MILEAGE = 25,        /* a mileage above 1,000,000 km; or one above 0 with no canister, beside a load, or where the exponent of
                               * the saturating load is above 0 in some season */
     EVP_ROOM = 22,           /* the report call: fewer words than the report has; place 0 */
-    EVP_ABSENT = 23          /* the factor call: the sheet has no such season or row, or the factor is not 1 to 7; place 0 */
+    EVP_ABSENT = 23,         /* the factor call: the sheet has no such season or row, or the factor is not 1 to 7; place 0 */
+    EVP_RIGHT = 30,          /* a shared ledger: the call is without the right to it; place 0 */
+    EVP_COUNT = 29,          /* a ledger: no such row, a departure larger than its count, or an arrival after which the row would have
+                              * more than 10,000,000 vehicles or, in version 4, all rows more than 100,000,000; place 0 */
+    EVP_SHARE = 31           /* a shared ledger: at its opening a row without an owner, or with which its owner has more than 100 rows or
+                              * 10,000,000 vehicles; an arrival after which a participant would have more than these, place 0 */
 };
 
 /* The answer of the report call. */
@@ -104,6 +110,42 @@ size_t evp_text(const uint8_t *sheet, size_t sheet_bytes, uint64_t *words, size_
 /* One factor of a season and a row, both counted from 0. 1 is diurnal (a day); hot soak (a parking): 2 injection, 3 carburettor
  * warm, 4 carburettor hot; running (a trip): 5 injection, 6 carburettor warm, 7 carburettor hot. */
 struct evp_factor_band evp_factor(const uint8_t *sheet, size_t sheet_bytes, uint64_t season, uint64_t row, uint64_t factor);
+
+/* A shared ledger is a sheet, the words of its report, and beside them the owners: one byte a row, 1 to 8. `who` says who calls: 1 to 8 a
+ * participant, 0 the marker; any other has no right to anything. A participant changes and reads the rows of their own; the marker
+ * reads all rows and the totals and changes none. The library does not know who calls: a host that lets participants call sets `who`
+ * itself, and keeps the three buffers to itself.
+ *
+ * Every call makes the checks of evp_shared_open first, with its numbers; then EVP_RIGHT, EVP_COUNT and EVP_SHARE, in this order. A
+ * refused call changes nothing, and a refused read has zeros beside its number and place. Owners beyond the rows are not read. */
+struct evp_row {
+    uint64_t number;   /* of enum evp_number */
+    uint64_t place;    /* as above */
+    uint64_t count;    /* the vehicles of the row */
+    uint64_t words[6]; /* diurnal low and high, soak low and high, running low and high */
+};
+
+struct evp_totals {
+    uint64_t number;    /* of enum evp_number */
+    uint64_t place;     /* as above */
+    uint64_t words[26]; /* those after the rows: cars, light-duty, two-wheelers, all rows, and the grand total */
+};
+
+/* Writes the report, as evp_report does, where every row has an owner and no one has too much. */
+struct evp_check evp_shared_open(const uint8_t *sheet, size_t sheet_bytes, const uint8_t *owners, size_t owners_count, uint64_t *words,
+                                 size_t words_count);
+
+/* Vehicles arrive at a row, counted from 0, or depart from it: the row's vehicles in the sheet, its six words and all sums change. */
+struct evp_check evp_shared_arrive(uint8_t *sheet, size_t sheet_bytes, const uint8_t *owners, size_t owners_count, uint64_t *words,
+                                   size_t words_count, uint64_t who, uint64_t row, uint64_t vehicles);
+struct evp_check evp_shared_depart(uint8_t *sheet, size_t sheet_bytes, const uint8_t *owners, size_t owners_count, uint64_t *words,
+                                   size_t words_count, uint64_t who, uint64_t row, uint64_t vehicles);
+
+/* A row's count and six words; the 26 words after the rows. */
+struct evp_row evp_shared_row(const uint8_t *sheet, size_t sheet_bytes, const uint8_t *owners, size_t owners_count, const uint64_t *words,
+                              size_t words_count, uint64_t who, uint64_t row);
+struct evp_totals evp_shared_totals(const uint8_t *sheet, size_t sheet_bytes, const uint8_t *owners, size_t owners_count,
+                                    const uint64_t *words, size_t words_count, uint64_t who);
 
 #ifdef __cplusplus
 }
