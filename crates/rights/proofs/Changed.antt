@@ -12,7 +12,6 @@ use lib.ListN.{length}
 use Rattle.numbers.specs.Lists.{at, sum}
 use Rattle.numbers.proofs.Lists.{sum-ext}
 use Rattle.sheet.specs.declared.Check.the-variants.{Pass}
-use Rattle.sheet.specs.Limits.{vehiclesLimit}
 use Rattle.sheet.specs.Versions.{hasManyRows}
 use Rattle.sheet.specs.Bytes.{rowsOf, cellsOf, seasonList, rowAt}
 use Rattle.sheet.specs.Counts.{countsOf, withCount, withVehicles}
@@ -29,7 +28,7 @@ use Rattle.ledger.specs.Machine.{rowOf, moved, wrong, newCount}
 use Rattle.ledger.specs.Ledger.{sheetAfter, Ledger, answer, after}
 use Rattle.ledger.proofs.Counts.{count-at}
 use Rattle.ledger.proofs.Kept.{answer-open, count-bits, row-inside, room}
-use Rattle.rights.specs.Opening.{vehiclesHeld, sharedCheck}
+use Rattle.rights.specs.Opening.{vehiclesEach, vehiclesHeld, sharedCheck}
 use Rattle.rights.specs.Calls.{ownerOf, changeCheck, WithinShare}
 use Rattle.rights.proofs.Conditions.{shared-judged, change-judged, shared-report, shared-share}
 use Rattle.rights.proofs.Holdings.{owner-there, owned-there, held-upto, held-most}
@@ -94,7 +93,7 @@ held-grows {s} {t} {i} {v} m owners who n =
     )
 
 -- an arrival within a participant's vehicles, and any departure
-moved-within : (held v : ℕ) (call : Call) → held ≤ vehiclesLimit → WithinShare held call → held + (moved v call - v) ≤ vehiclesLimit
+moved-within : (held v : ℕ) (call : Call) → held ≤ vehiclesEach → WithinShare held call → held + (moved v call - v) ≤ vehiclesEach
 unfolding moved
 moved-within held v (Arrival row k) h within = omega arith
 moved-within held v (Departure row k) h within = omega arith
@@ -143,7 +142,7 @@ module _ (x : Ledger) (owners : List ℕ) (who : ℕ) (call : Call) (passes : ch
       }
 
   -- no one holds more than the limit
-  held-still : (o n : ℕ) → n ≤ rowsOf s → vehiclesHeld (after x call .sheet) owners o n ≤ vehiclesLimit
+  held-still : (o n : ℕ) → n ≤ rowsOf s → vehiclesHeld (after x call .sheet) owners o n ≤ vehiclesEach
   unfolding counted
   held-still o n l =
       omega (
@@ -153,10 +152,10 @@ module _ (x : Ledger) (owners : List ℕ) (who : ℕ) (call : Call) (passes : ch
         go (eqb (at owners i) o) refl,
       )
     where
-      held : (o : ℕ) → vehiclesHeld s owners o (rowsOf s) ≤ vehiclesLimit
+      held : (o : ℕ) → vehiclesHeld s owners o (rowsOf s) ≤ vehiclesEach
       held o = held-most s owners (length (x .words)) (met .shared) o (rowsOf s) (omega arith)
 
-      go : (b : Bool) → eqb (at owners i) o ≡ b → vehiclesHeld s owners o (rowsOf s) + counted (eqb (at owners i) o) (moved ((rowAt s i) .vehicles) call - (rowAt s i) .vehicles) ≤ vehiclesLimit
+      go : (b : Bool) → eqb (at owners i) o ≡ b → vehiclesHeld s owners o (rowsOf s) + counted (eqb (at owners i) o) (moved ((rowAt s i) .vehicles) call - (rowAt s i) .vehicles) ≤ vehiclesEach
       go true e =
           let same : who ≡ o = sym (met .owner) ∙ owner-there s owners i row-theirs ∙ eqb-true (at owners i) o e in
           rw (e, ← same) (moved-within (vehiclesHeld s owners who (rowsOf s)) ((rowAt s i) .vehicles) call (held who) (met .within))

@@ -12,7 +12,6 @@ use lib.Dec.{leb, ltb, eqb}
 use Rattle.numbers.specs.Lists.{at}
 use Rattle.sheet.specs.declared.Check.{Check}
 use Rattle.sheet.specs.declared.Check.the-variants.{Pass, Refused}
-use Rattle.sheet.specs.Limits.{vehiclesLimit}
 use Rattle.sheet.specs.Bytes.{rowsOf}
 use Rattle.sheet.specs.Check.{numberOf, placeOf}
 use Rattle.sheet.specs.Demands.{FirstUnmet, Says}
@@ -26,7 +25,7 @@ use Rattle.ledger.specs.declared.Call.{Call}
 use Rattle.ledger.specs.declared.Call.the-variants.{Arrival, Departure}
 use Rattle.ledger.specs.Machine.{rowOf}
 use Rattle.ledger.proofs.Conditions.{call-tests}
-use Rattle.rights.specs.Opening.{participants, rowsEach, rowsHeld, vehiclesHeld, shareWrong, shareCheck, sharedCheck, Share, sharedDemands}
+use Rattle.rights.specs.Opening.{vehiclesEach, participants, rowsEach, rowsHeld, vehiclesHeld, shareWrong, shareCheck, sharedCheck, Share, sharedDemands}
 use Rattle.rights.specs.Calls.{ownerOf, mayChange, mayRead, mayTotal, pastShare, changeCheck, rowCheck, totalsCheck, WithinShare, changeDemands, rowDemands, totalsDemands}
 
 -- a row and its owner
@@ -39,7 +38,7 @@ share-tests s owners i =
     (λ h. (((h .owner-least, h .owner-most), h .rows-most), h .vehicles-most))
     (||-tests
     (||-tests (||-tests (ltb-tests who 1) (ltb-tests participants who)) (ltb-tests rowsEach (rowsHeld owners who (i + 1))))
-    (ltb-tests vehiclesLimit (vehiclesHeld s owners who (i + 1))))
+    (ltb-tests vehiclesEach (vehiclesHeld s owners who (i + 1))))
 
 pub shared-judged : (s owners : List ℕ) (room : ℕ) → Judges (sharedCheck s owners room) (sharedDemands s owners room)
 unfolding sharedCheck shareCheck
@@ -71,7 +70,7 @@ row-tests s i = record { holds = leb-false (rowsOf s) i; fails = λ t l. omega (
 -- a participant's vehicles
 past-tests : (held : ℕ) (call : Call) → Tests (pastShare held call) (WithinShare held call)
 unfolding pastShare
-past-tests held (Arrival row k) = ltb-tests vehiclesLimit (held + k)
+past-tests held (Arrival row k) = ltb-tests vehiclesEach (held + k)
 past-tests held (Departure row k) = record { holds = λ h. tt; fails = λ h. absurd (true-is-not-false (sym h)) }
 
 -- each call

@@ -11,12 +11,11 @@ use native.Mathlib.Omega.{arith}
 use borrow.Author.Tests.{lt-ltb, le-ltb, eqb-true}
 use lib.Dec.{eqb}
 use Rattle.numbers.specs.Lists.{at, sum}
-use Rattle.sheet.specs.Limits.{vehiclesLimit}
 use Rattle.sheet.specs.declared.Check.the-variants.{Pass}
 use Rattle.sheet.specs.Bytes.{rowsOf, rowAt}
 use Rattle.sheet.specs.Sheet.{vehiclesBefore}
 use Rattle.report_words.specs.Report.{counted}
-use Rattle.rights.specs.Opening.{participants, vehiclesHeld, sharedCheck}
+use Rattle.rights.specs.Opening.{vehiclesEach, participants, vehiclesHeld, sharedCheck}
 use Rattle.rights.specs.Calls.{ownerOf}
 use Rattle.rights.proofs.Conditions.{shared-share}
 
@@ -75,15 +74,15 @@ one-of-eight (suc (suc (suc (suc (suc (suc (suc (suc (suc o))))))))) v h l = abs
 -- A ledger that opens.
 module _ (s owners : List ℕ) (room : ℕ) (h : sharedCheck s owners room ≡ Pass) where
   -- "Every participant has at most .. 10,000,000 vehicles", over any number of rows
-  pub held-most : (who n : ℕ) → n ≤ rowsOf s → vehiclesHeld s owners who n ≤ vehiclesLimit
+  pub held-most : (who n : ℕ) → n ≤ rowsOf s → vehiclesHeld s owners who n ≤ vehiclesEach
   unfolding counted
   held-most who zero l = rw (held-none s owners who) (omega arith)
   held-most who (suc n) l = go (eqb (at owners n) who) refl (held-most who n (omega arith))
     where
-      own : vehiclesHeld s owners (at owners n) (suc n) ≤ vehiclesLimit
+      own : vehiclesHeld s owners (at owners n) (suc n) ≤ vehiclesEach
       own = rw add-one at (shared-share s owners room h n l .vehicles-most)
 
-      go : (b : Bool) → eqb (at owners n) who ≡ b → vehiclesHeld s owners who n ≤ vehiclesLimit → vehiclesHeld s owners who (suc n) ≤ vehiclesLimit
+      go : (b : Bool) → eqb (at owners n) who ≡ b → vehiclesHeld s owners who n ≤ vehiclesEach → vehiclesHeld s owners who (suc n) ≤ vehiclesEach
       go true e rest = let q : at owners n ≡ who = eqb-true (at owners n) who e in rw (← q) own
       go false e rest = rw (held-more s owners who n, e) (omega (arith, rest))
 
@@ -99,7 +98,7 @@ module _ (s owners : List ℕ) (room : ℕ) (h : sharedCheck s owners room ≡ P
       omega (arith, together n (omega arith), one-of-eight (at owners n) ((rowAt s n) .vehicles) (share .owner-least) (share .owner-most), more 1 n, more 2 n, more 3 n, more 4 n, more 5 n, more 6 n, more 7 n, more 8 n)
 
   -- so all rows have at most 80,000,000
-  pub fleet-held : vehiclesBefore s (rowsOf s) ≤ 8 * vehiclesLimit
+  pub fleet-held : vehiclesBefore s (rowsOf s) ≤ 8 * vehiclesEach
   fleet-held =
       let all : rowsOf s ≤ rowsOf s = omega arith in
       omega (arith, together (rowsOf s) all, held-most 1 (rowsOf s) all, held-most 2 (rowsOf s) all, held-most 3 (rowsOf s) all, held-most 4 (rowsOf s) all, held-most 5 (rowsOf s) all, held-most 6 (rowsOf s) all, held-most 7 (rowsOf s) all, held-most 8 (rowsOf s) all)

@@ -18,7 +18,7 @@ use Rattle.ledger.specs.declared.Call.{Call}
 use Rattle.ledger.specs.declared.Call.the-variants.{Arrival, Departure}
 use Rattle.ledger.specs.Machine.{rowOf, past, wrong}
 use Rattle.ledger.proofs.Counts.{counts-length, count-at, total-counts}
-use Rattle.rights.specs.Opening.{sharedCheck}
+use Rattle.rights.specs.Opening.{vehiclesEach, sharedCheck}
 use Rattle.rights.proofs.Holdings.{fleet-held}
 
 -- what is past the limits of a row with v vehicles, whatever the other rows have
@@ -31,8 +31,8 @@ or-quiet true many b h = refl
 or-quiet false true b h = h refl
 or-quiet false false b h = refl
 
--- 80,000,000 of all participants and an arrival within the row's limit are below 100,000,000
-quiet : (many : Bool) (fleet v : ℕ) (call : Call) → fleet ≤ 8 * vehiclesLimit → past many fleet v call ≡ pastRow v call
+-- 80,000,000 of eight participants and an arrival within the row's limit are below 100,000,000
+quiet : (many : Bool) (fleet v : ℕ) (call : Call) → fleet ≤ 8 * vehiclesEach → past many fleet v call ≡ pastRow v call
 unfolding past
 quiet many fleet v (Arrival row k) h =
     or-quiet (ltb vehiclesLimit (v + k)) many (ltb fleetLimit (fleet + k))

@@ -9,7 +9,6 @@ use lib.ListN.{length}
 use Rattle.numbers.specs.Lists.{tab, at}
 use Rattle.sheet.specs.declared.Check.{Check}
 use Rattle.sheet.specs.declared.Check.the-variants.{Pass, Refused}
-use Rattle.sheet.specs.Limits.{vehiclesLimit}
 use Rattle.sheet.specs.Versions.{hasManyRows}
 use Rattle.sheet.specs.Bytes.{rowsOf, rowAt}
 use Rattle.sheet.specs.Counts.{countsOf}
@@ -21,7 +20,7 @@ use Rattle.ledger.specs.Machine.{rowOf, wrong}
 use Rattle.ledger.specs.Ledger.{sheetAfter, wordsAfter, Within}
 use Rattle.rights.specs.declared.RowAnswer.{RowAnswer}
 use Rattle.rights.specs.declared.TotalsAnswer.{TotalsAnswer}
-use Rattle.rights.specs.Opening.{vehiclesHeld, sharedCheck, sharedDemands}
+use Rattle.rights.specs.Opening.{vehiclesEach, vehiclesHeld, sharedCheck, sharedDemands}
 
 -- who owns row i: no one where there is no such row, however long the list of owners is
 unfoldable pub ownerOf : List ℕ → List ℕ → ℕ → ℕ
@@ -39,7 +38,7 @@ mayTotal who = eqb who 0
 
 -- "an arrival past a participant's vehicles", of whom they have so many
 unfoldable pub pastShare : ℕ → Call → Bool
-pastShare held (Arrival row k) = ltb vehiclesLimit (held + k)
+pastShare held (Arrival row k) = ltb vehiclesEach (held + k)
 pastShare held (Departure row k) = false
 
 -- Every call first makes the checks of an opening. Then 30, "a call without the right to it, which for a participant is any row not their
@@ -62,7 +61,7 @@ totalsCheck s owners room who = sharedCheck s owners room then refuse (not (mayT
 
 -- the same in plain arithmetic
 abbrev pub WithinShare : ℕ → Call → Type 0
-WithinShare held (Arrival row k) = held + k ≤ vehiclesLimit
+WithinShare held (Arrival row k) = held + k ≤ vehiclesEach
 WithinShare held (Departure row k) = Unit {0}
 
 abbrev pub changeDemands : List ℕ → List ℕ → ℕ → ℕ → Call → Demands

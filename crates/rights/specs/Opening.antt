@@ -8,7 +8,6 @@ use lib.Dec.{ltb, eqb}
 use lib.ListN.{length}
 use Rattle.numbers.specs.Lists.{at, sum}
 use Rattle.sheet.specs.declared.Check.{Check}
-use Rattle.sheet.specs.Limits.{vehiclesLimit}
 use Rattle.sheet.specs.Bytes.{rowsOf, rowPlace, rowAt}
 use Rattle.sheet.specs.Check.{refuse, _then_, each, numberOf, placeOf}
 use Rattle.sheet.specs.Demands.{Demands, demand, _next_, every, Says}
@@ -21,9 +20,12 @@ use Rattle.inventory.specs.ReportCall.{reportCheck, reportDemands, written}
 abbrev pub participants : ℕ
 participants = 8
 
--- "Every participant has at most 100 rows and 10,000,000 vehicles", the latter the limit of check 16 too
+-- "Every participant has at most 100 rows and 10,000,000 vehicles"
 abbrev pub rowsEach : ℕ
 rowsEach = 100
+
+abbrev pub vehiclesEach : ℕ
+vehiclesEach = 10000000
 
 -- of the first n rows, how many are theirs
 unfoldable pub rowsHeld : List ℕ → ℕ → ℕ → ℕ
@@ -37,7 +39,7 @@ vehiclesHeld s owners who n = sum (λ (i : ℕ). counted (eqb (at owners i) who)
 unfoldable pub shareWrong : List ℕ → List ℕ → ℕ → Bool
 shareWrong s owners i =
     let who = at owners i in
-    outside 1 participants who || ltb rowsEach (rowsHeld owners who (i + 1)) || ltb vehiclesLimit (vehiclesHeld s owners who (i + 1))
+    outside 1 participants who || ltb rowsEach (rowsHeld owners who (i + 1)) || ltb vehiclesEach (vehiclesHeld s owners who (i + 1))
 
 -- 31 | "an opening with an unowned row or past these limits (at the first such row's record)", "checked last": after every check of the report
 unfoldable pub shareCheck : List ℕ → List ℕ → ℕ → Check
@@ -51,7 +53,7 @@ pub record Share (s owners : List ℕ) (i : ℕ) : Type 0 where
   pub owner-least : 1 ≤ at owners i
   pub owner-most : at owners i ≤ participants
   pub rows-most : rowsHeld owners (at owners i) (i + 1) ≤ rowsEach
-  pub vehicles-most : vehiclesHeld s owners (at owners i) (i + 1) ≤ vehiclesLimit
+  pub vehicles-most : vehiclesHeld s owners (at owners i) (i + 1) ≤ vehiclesEach
 
 abbrev pub sharedDemands : List ℕ → List ℕ → ℕ → Demands
 sharedDemands s owners room = reportDemands s room next every (rowsOf s) (λ (i : ℕ). demand 31 (rowPlace s i) (Share s owners i))

@@ -8,7 +8,6 @@ use native.Mathlib.Omega.{arith}
 use borrow.Author.Tests.{leb-false}
 use lib.Dec.{leb, ltb, eqb}
 use lib.ListN.{length}
-use Rattle.sheet.specs.Limits.{vehiclesLimit}
 use Rattle.sheet.specs.declared.Check.{Check}
 use Rattle.sheet.specs.declared.Check.the-variants.{Pass, Refused}
 use Rattle.sheet.specs.Bytes.{rowsOf, rowAt}
@@ -25,13 +24,13 @@ use Rattle.ledger.proofs.Kept.{answer-open}
 use Rattle.ledger_calls.proofs.Outcome.{room-left}
 use Rattle.rights.specs.declared.RowAnswer.{RowAnswer}
 use Rattle.rights.specs.declared.TotalsAnswer.{TotalsAnswer}
-use Rattle.rights.specs.Opening.{sharedCheck, OpenAnswer}
+use Rattle.rights.specs.Opening.{vehiclesEach, sharedCheck, OpenAnswer}
 use Rattle.rights.specs.Calls.{ownerOf, mayChange, mayRead, pastShare, changeCheck, rowCheck, totalsCheck, wordsFrom, zeros, rowTold, rowAnswer, totalsTold, totalsAnswer, SharedChange, SharedRow, SharedTotals}
 use Rattle.rights.proofs.Conditions.{shared-report, shared-sheet, shared-room, shared-says, shared-zero, change-says, row-says, totals-says}
 use Rattle.rights.proofs.Changed.{change-passed}
 
 -- what is left of the limit says whether an arrival passes a participant's vehicles
-pub arrival-share : (held : ℕ) {call : Call} {row k : ℕ} → call ≡ Arrival row k → held ≤ vehiclesLimit → ltb (vehiclesLimit - held) k ≡ pastShare held call
+pub arrival-share : (held : ℕ) {call : Call} {row k : ℕ} → call ≡ Arrival row k → held ≤ vehiclesEach → ltb (vehiclesEach - held) k ≡ pastShare held call
 unfolding pastShare
 arrival-share held {call} {row} {k} e h = rw e (room-left held k h)
 

@@ -1,6 +1,5 @@
 // The calls on a ledger that eight participants and a marker share: who may touch which row. The caller lends the sheet, its owners, one byte a
 // row, and the words. Who calls is a number: 1 to 8 a participant, 0 the marker; anyone else has no right to anything.
-use fields::limits::VEHICLES_LIMIT;
 use fields::rows_of;
 use fields::vehicles_of;
 use inventory::report;
@@ -9,6 +8,7 @@ use ledger_calls::call_wrong;
 use ledger_calls::row_named;
 use rights::RowAnswer;
 use rights::TotalsAnswer;
+use share_checks::VEHICLES_EACH;
 use share_checks::owner_at;
 use share_checks::shared_check;
 use share_checks::vehicles_held;
@@ -17,10 +17,9 @@ ghost use mathlib.Core.Path.{_≡_};
 ghost use Prim.Native.Nat.{_+_, _≤_};
 ghost use lib.ListN.{length};
 ghost use Rattle.sheet.specs.declared.Check.the-variants.{Pass};
-ghost use Rattle.sheet.specs.Limits.{vehiclesLimit};
 ghost use Rattle.sheet.specs.Sheet.{sheetCheck};
 ghost use Rattle.ledger.specs.declared.Call.the-variants.{Arrival, Departure};
-ghost use Rattle.rights.specs.Opening.{OpenAnswer};
+ghost use Rattle.rights.specs.Opening.{vehiclesEach, OpenAnswer};
 ghost use Rattle.rights.specs.Calls.{ownerOf, pastShare, changeCheck, rowCheck, totalsCheck, wordsFrom, SharedChange, SharedRow, SharedTotals};
 
 // The ledger is opened: the report is written, or all words stay.
@@ -47,11 +46,11 @@ fn owner_of(s: &[u8], owners: &[u8], row: u64) -> u64
 
 // An arrival with which a participant has too many vehicles.
 fn past_share(held: u64, call: Call) -> bool
-    requires { ⌜ held ≤ vehiclesLimit ⌝ }
+    requires { ⌜ held ≤ vehiclesEach ⌝ }
     ensures { λ r. ⌜ r ≡ pastShare held call ⌝ }
 {
     match call {
-        Call::Arrival(_, count) => VEHICLES_LIMIT - held < count,
+        Call::Arrival(_, count) => VEHICLES_EACH - held < count,
         Call::Departure(_, _) => false,
     }
 }

@@ -13,14 +13,13 @@ use lib.ListN.{length, getD, set, length-set}
 use lib.Seq.{ext-getD, getD-set-same, getD-set-other}
 use Rattle.numbers.specs.Lists.{tab, at, sum}
 use Rattle.numbers.proofs.Lists.{tab-length, getD-tab, sum-le}
-use Rattle.sheet.specs.Limits.{vehiclesLimit}
 use Rattle.sheet.specs.declared.Check.the-variants.{Pass, Refused}
 use Rattle.sheet.specs.Bytes.{rowPlace, rowAt}
 use Rattle.sheet.specs.Check.{refuse}
 use Rattle.sheet.specs.Sheet.{outside}
 use Rattle.sheet.proofs.Checks.{true-is-not-false}
 use Rattle.report_words.specs.Report.{counted}
-use Rattle.rights.specs.Opening.{participants, rowsEach, rowsHeld, vehiclesHeld, shareWrong, shareCheck}
+use Rattle.rights.specs.Opening.{participants, rowsEach, vehiclesEach, rowsHeld, vehiclesHeld, shareWrong, shareCheck}
 
 pub theirs-is : (owner who v : ℕ) → owner ≡ who → v ≡ counted (eqb owner who) v
 unfolding counted
@@ -45,7 +44,7 @@ unfolding shareWrong outside
 share-unowned s owners i e h = let q : (ltb (at owners i) 1 || ltb participants (at owners i)) ≡ true = rw (← e) h in rw q refl
 
 pub share-owned : (s owners : List ℕ) (i : ℕ) {who rows vehicles : ℕ} → who ≡ at owners i → (ltb who 1 || ltb participants who) ≡ false
-    → rows ≡ rowsHeld owners who (i + 1) → vehicles ≡ vehiclesHeld s owners who (i + 1) → (ltb rowsEach rows || ltb vehiclesLimit vehicles) ≡ shareWrong s owners i
+    → rows ≡ rowsHeld owners who (i + 1) → vehicles ≡ vehiclesHeld s owners who (i + 1) → (ltb rowsEach rows || ltb vehiclesEach vehicles) ≡ shareWrong s owners i
 unfolding shareWrong outside
 share-owned s owners i e h f g = let q : (ltb (at owners i) 1 || ltb participants (at owners i)) ≡ false = rw (← e) h in rw (f, g, e, q) refl
 

@@ -1,5 +1,4 @@
 // The checks of an opening of a shared ledger: those of the report, then row by row the owners and what each of them has.
-use fields::limits::VEHICLES_LIMIT;
 use fields::row_place;
 use fields::rows_of;
 use fields::u8_at;
@@ -21,8 +20,10 @@ ghost use Rattle.rights.specs.Opening.{vehiclesHeld, shareCheck, sharedCheck};
 // The participants are 1 to this one.
 const PARTICIPANTS: u64 = 8;
 
-// How many rows each of them has at most.
+// What each of them has at most.
 const ROWS_EACH: u64 = 100;
+
+pub const VEHICLES_EACH: u64 = 10000000;
 
 // The owner's byte of row i, 0 where the list has ended.
 pub fn owner_at(owners: &[u8], i: usize) -> u64
@@ -85,7 +86,7 @@ fn shares_check(s: &[u8], owners: &[u8]) -> Check
         let who = owner as usize;
         let more_rows = with_more(rows, who, 1);
         let more_vehicles = with_more(vehicles, who, vehicles_of(s, i));
-        if (ROWS_EACH < more_rows[who]) | (VEHICLES_LIMIT < more_vehicles[who]) {
+        if (ROWS_EACH < more_rows[who]) | (VEHICLES_EACH < more_vehicles[who]) {
             return Check::Refused(31, row_place(s, i) as u64);
         }
         rows = more_rows;

@@ -17,7 +17,7 @@ use Rattle.sheet.specs.Bytes.{rowAt}
 use Rattle.sheet.specs.Check.{each}
 use Rattle.sheet.proofs.Stages.{each-none, each-more, each-stop, each-all}
 use Rattle.report_words.proofs.Places.{parking-there, row-there}
-use Rattle.rights.specs.Opening.{rowsEach, shareWrong, shareCheck}
+use Rattle.rights.specs.Opening.{rowsEach, vehiclesEach, shareWrong, shareCheck}
 use Rattle.share_checks.proofs.Tallies.{share-refused, share-passed, share-unowned, share-owned, heldOf, tally-size, owned-range, tally-more, rows-tally, vehicles-tally}
 use Rattle.share_checks.proofs.shares_check.Statement.{statement}
 use Rattle.share_checks.proofs.shares_check.Tie as tie
@@ -80,7 +80,7 @@ vehicles-more c =
 
 -- the test of the limits
 wrong-is : (c : tie.After-with-more2 Inv-loop μ-loop) → let who = c .before .before .before .before .owner-at .result in let x = c .before .before .before .before .before .before .before .before .before .before .args in
-    (ltb rowsEach (getD (c .before .before .with-more .result) who 0) || ltb vehiclesLimit (getD (c .with-more2 .result) who 0)) ≡ shareWrong (x .s .now) (x .owners .now) (c .before .before .before .before .before .before .loop .i)
+    (ltb rowsEach (getD (c .before .before .with-more .result) who 0) || ltb vehiclesEach (getD (c .with-more2 .result) who 0)) ≡ shareWrong (x .s .now) (x .owners .now) (c .before .before .before .before .before .before .loop .i)
 wrong-is c =
     let who = c .before .before .before .before .owner-at .result in
     let x = c .before .before .before .before .before .before .before .before .before .before .args in
