@@ -2,7 +2,8 @@
  * the first against document 01's lines, and tries refusals of each call. Then the same for the sheets of version 2 that have the products of their lists as a grid, and for these
  * in versions 3 and 4, without a mileage, which must answer alike. Then a sample of version 3 with mileages; the species of some totals; the
  * cells of a row of the second sample, from the words of its report, their sum, and cells that are refused; a ledger on the second sample,
- * in versions 1 and 4; and two sheets of version 4 are pooled. Prints what it found; the exit status is 0 only where all of it is as expected.
+ * in versions 1 and 4, and a shared one; and two sheets of version 4 are pooled. Prints what it found; the exit status is 0 only where all of
+ * it is as expected.
  *
  * usage: example EXAMPLE.evp TABLE-3-5-DAY.evp ODOMETER.evp NORTH.evp SOUTH.evp POOLED */
 #include <inttypes.h>
@@ -465,6 +466,76 @@ static void expect_pools(void) {
     second[7] = 0;
 }
 
+/* The shared ledger: the first and the last row are participant 1's, the second is 2's. */
+static const uint8_t owners[3] = {1, 2, 1};
+
+static void expect_answer(const char *what, struct evp_check answer, uint64_t number, uint64_t place) {
+    expect(what, answer.number, number);
+    expect(what, answer.place, place);
+}
+
+static struct evp_check shared_open(const uint8_t *who, size_t n) {
+    return evp_shared_open(sheet, sheet_bytes, who, n, words, EVP_REPORT_WORDS);
+}
+
+static struct evp_check shared_arrive(uint64_t who, uint64_t row, uint64_t vehicles) {
+    return evp_shared_arrive(sheet, sheet_bytes, owners, 3, words, EVP_REPORT_WORDS, who, row, vehicles);
+}
+
+static struct evp_check shared_depart(uint64_t who, uint64_t row, uint64_t vehicles) {
+    return evp_shared_depart(sheet, sheet_bytes, owners, 3, words, EVP_REPORT_WORDS, who, row, vehicles);
+}
+
+/* A read of a row: its count and its words in the buffer, or a number and zeros. */
+static void expect_row(uint64_t who, uint64_t row, uint64_t number, uint64_t count) {
+    struct evp_row answer = evp_shared_row(sheet, sheet_bytes, owners, 3, words, EVP_REPORT_WORDS, who, row);
+    expect("number of a row", answer.number, number);
+    expect("place of a row", answer.place, 0);
+    expect("count of a row", answer.count, count);
+    for (size_t m = 0; m < 6; m++)
+        expect("a word of a row", answer.words[m], number == EVP_ACCEPTED ? words[6 * row + m] : 0);
+}
+
+static void expect_totals(uint64_t who, uint64_t number) {
+    struct evp_totals answer = evp_shared_totals(sheet, sheet_bytes, owners, 3, words, EVP_REPORT_WORDS, who);
+    expect("number of the totals", answer.number, number);
+    expect("place of the totals", answer.place, 0);
+    for (size_t m = 0; m < 26; m++)
+        expect("a word of the totals", answer.words[m], number == EVP_ACCEPTED ? words[18 + m] : 0);
+}
+
+/* Three rows of 1,000 vehicles: who may do what, and the limit of a participant's vehicles. */
+static void expect_shared(size_t seasons_start) {
+    const size_t first_row = seasons_start + 8;
+    const uint8_t unowned[3] = {1, 2, 9};
+    clear_words();
+    expect_answer("an opening with an owner too few", shared_open(owners, 2), EVP_SHARE, first_row + 48);
+    expect_answer("an opening with owner 9", shared_open(unowned, 3), EVP_SHARE, first_row + 48);
+    expect_untouched(0);
+    expect_answer("an opening", shared_open(owners, 3), EVP_ACCEPTED, 0);
+    expect_row(1, 0, EVP_ACCEPTED, 1000);
+    expect_row(1, 1, EVP_RIGHT, 0);
+    expect_row(1, 3, EVP_RIGHT, 0);
+    expect_row(9, 0, EVP_RIGHT, 0);
+    expect_row(0, 1, EVP_ACCEPTED, 1000);
+    expect_row(0, 3, EVP_COUNT, 0);
+    expect_totals(0, EVP_ACCEPTED);
+    expect_totals(1, EVP_RIGHT);
+    expect_answer("an arrival at one's own row", shared_arrive(1, 0, 9998000), EVP_ACCEPTED, 0);
+    expect_answer("an arrival past the participant's", shared_arrive(1, 2, 1), EVP_SHARE, 0);
+    expect_answer("an arrival past the row's", shared_arrive(1, 2, 10000000), EVP_COUNT, 0);
+    expect_answer("an arrival at another's row", shared_arrive(2, 0, 1), EVP_RIGHT, 0);
+    expect_answer("an arrival of the marker", shared_arrive(0, 0, 1), EVP_RIGHT, 0);
+    expect_answer("a departure from an absent row", shared_depart(2, 3, 1), EVP_RIGHT, 0);
+    expect_answer("a departure larger than the count", shared_depart(2, 1, 1001), EVP_COUNT, 0);
+    expect_row(1, 0, EVP_ACCEPTED, 9999000);
+    expect_row(1, 2, EVP_ACCEPTED, 1000);
+    expect_answer("a departure", shared_depart(1, 0, 9998000), EVP_ACCEPTED, 0);
+    for (size_t i = 0; i < EVP_WORDS_OF(3); i++)
+        expect("a word of the shared ledger", words[i], table_words[i]);
+    expect_untouched(EVP_WORDS_OF(3));
+}
+
 int main(int count, char **paths) {
     if (count != 7) {
         fprintf(stderr, "usage: example EXAMPLE.evp TABLE-3-5-DAY.evp ODOMETER.evp NORTH.evp SOUTH.evp POOLED\n");
@@ -501,9 +572,11 @@ int main(int count, char **paths) {
     expect_row_cells();
     expect_cells();
     expect_ledger(EVP_LISTS_END);
+    expect_shared(EVP_LISTS_END);
     make_grid();
     put_count(3, 4);
     expect_ledger(EVP_GRID_END);
+    expect_shared(EVP_GRID_END);
     first_bytes = read_file(paths[4], first);
     second_bytes = read_file(paths[5], second);
     pooled_bytes = read_file(paths[6], pooled);

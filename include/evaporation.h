@@ -1,6 +1,6 @@
 /* The calls of the evaporation workbook for a program in C: the report of a sheet, in words or as a text, one emission factor, the
- * species of a mass, cells of a map made of a row's words, a ledger, in which vehicles arrive and depart and the report is kept in step, and
- * two sheets pooled into one.
+ * species of a mass, cells of a map made of a row's words, a ledger, in which vehicles arrive and depart and the report is kept in step, a
+ * ledger that eight participants and a marker share, and two sheets pooled into one.
  *
  * They stand in the static library target/staticlib/libevaporation.a, which `rt staticlib evaporation` makes from the proved
  * crate (x86-64 Linux); it needs only the C library. c/example.c is a program over them.
@@ -11,10 +11,10 @@
  * is above 0; in version 4, which is version 3 otherwise, bytes 6 and 7 of the head count the rows. What a call answers has the
  * same form for all.
  *
- * A sheet, words, a text, milligrams and a pooled sheet are passed as a pointer and a number of elements. A pointer is never null, also where
+ * A sheet, owners, words, a text, milligrams and a pooled sheet are passed as a pointer and a number of elements. A pointer is never null, also where
  * the number is 0, and points to that many elements; `words` and `milligrams` are aligned for uint64_t, and what a call writes must overlap
- * nothing else that it is handed. The bytes of a sheet are written by evp_arrive and evp_depart alone. No call keeps a pointer, takes memory,
- * reads or writes a file or holds state: two threads may call at once, each with its own of what is written.
+ * nothing else that it is handed. The bytes of a sheet are written by the calls for arrivals and departures alone, those of the owners never. No call
+ * keeps a pointer, takes memory, reads or writes a file or holds state: two threads may call at once, each with its own of what is written.
  */
 #ifndef EVAPORATION_H
 #define EVAPORATION_H
@@ -81,7 +81,10 @@ enum evp_number {
                               * number from 0 to EVP_MASS_LIMIT; place 0 */
     EVP_COUNT = 29,          /* a ledger: no such row, a departure larger than its count, or an arrival after which the row would have
                               * more than 10,000,000 vehicles or, in version 4, all rows more than 100,000,000; place 0 */
-    EVP_DIFFER = 32          /* the pool call: the seasons or the parking of the two sheets differ; place 0; see there for the order */
+    EVP_DIFFER = 32,         /* the pool call: the seasons or the parking of the two sheets differ; place 0; see there for the order */
+    EVP_RIGHT = 30,          /* a shared ledger: the call is without the right to it, checked before EVP_COUNT; place 0 */
+    EVP_SHARE = 31           /* a shared ledger: at its opening a row without an owner, or with which its owner has more than 100 rows or
+                              * 10,000,000 vehicles; an arrival after which a participant would have more than these, place 0 */
 };
 
 /* Which sheet a refusal of the pool call is of. */
@@ -215,6 +218,7 @@ struct evp_cell_sum evp_add_cells(struct evp_cell a, struct evp_cell b);
  * check: where they are not those of the sheet, the sums are taken of what stands there. */
 struct evp_check evp_arrive(uint8_t *sheet, size_t sheet_bytes, uint64_t *words, size_t words_count, uint64_t row, uint64_t vehicles);
 struct evp_check evp_depart(uint8_t *sheet, size_t sheet_bytes, uint64_t *words, size_t words_count, uint64_t row, uint64_t vehicles);
+
 /* Two sheets of version 4 with the same seasons and parking, byte for byte, pooled: the first's rows, then the second's.
  *
  * Accepted: the first EVP_POOL_BYTES bytes of `pool` are the pooled sheet, those beyond keep what they had. Its report has both sheets'
@@ -223,6 +227,42 @@ struct evp_check evp_depart(uint8_t *sheet, size_t sheet_bytes, uint64_t *words,
  * sheet's, of which EVP_ROWS and EVP_FLEET alone can apply; EVP_ROOM. */
 struct evp_pool_check evp_pool(const uint8_t *first, size_t first_bytes, const uint8_t *second, size_t second_bytes, uint8_t *pool,
                                size_t pool_bytes);
+
+/* A shared ledger is a sheet, the words of its report, and beside them the owners: one byte a row, 1 to 8. `who` says who calls: 1 to 8 a
+ * participant, 0 the marker; any other has no right to anything. A participant changes and reads the rows of their own; the marker
+ * reads all rows and the totals and changes none. The library does not know who calls: a host that lets participants call sets `who`
+ * itself, and keeps the three buffers to itself.
+ *
+ * Every call makes the checks of evp_shared_open first, with its numbers; then EVP_RIGHT, EVP_COUNT and EVP_SHARE, in this order. A
+ * refused call changes nothing, and a refused read has zeros beside its number and place. Owners beyond the rows are not read. */
+struct evp_row {
+    uint64_t number;   /* of enum evp_number */
+    uint64_t place;    /* as above */
+    uint64_t count;    /* the vehicles of the row */
+    uint64_t words[6]; /* diurnal low and high, soak low and high, running low and high */
+};
+
+struct evp_totals {
+    uint64_t number;    /* of enum evp_number */
+    uint64_t place;     /* as above */
+    uint64_t words[26]; /* those after the rows: cars, light-duty, two-wheelers, all rows, and the grand total */
+};
+
+/* Writes the report, as evp_report does, where every row has an owner and no one has too much. */
+struct evp_check evp_shared_open(const uint8_t *sheet, size_t sheet_bytes, const uint8_t *owners, size_t owners_count, uint64_t *words,
+                                 size_t words_count);
+
+/* Vehicles arrive at a row, counted from 0, or depart from it: the row's vehicles in the sheet, its six words and all sums change. */
+struct evp_check evp_shared_arrive(uint8_t *sheet, size_t sheet_bytes, const uint8_t *owners, size_t owners_count, uint64_t *words,
+                                   size_t words_count, uint64_t who, uint64_t row, uint64_t vehicles);
+struct evp_check evp_shared_depart(uint8_t *sheet, size_t sheet_bytes, const uint8_t *owners, size_t owners_count, uint64_t *words,
+                                   size_t words_count, uint64_t who, uint64_t row, uint64_t vehicles);
+
+/* A row's count and six words; the 26 words after the rows. */
+struct evp_row evp_shared_row(const uint8_t *sheet, size_t sheet_bytes, const uint8_t *owners, size_t owners_count, const uint64_t *words,
+                              size_t words_count, uint64_t who, uint64_t row);
+struct evp_totals evp_shared_totals(const uint8_t *sheet, size_t sheet_bytes, const uint8_t *owners, size_t owners_count,
+                                    const uint64_t *words, size_t words_count, uint64_t who);
 
 #ifdef __cplusplus
 }

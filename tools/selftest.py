@@ -7,6 +7,7 @@ Prints one line for each thing checked; the first failure ends the run with a
 message and exit status 1.
 """
 
+import collections
 import contextlib
 import io
 import math
@@ -31,6 +32,7 @@ import ledgers  # noqa: E402
 import picture  # noqa: E402
 import pressures  # noqa: E402
 import pool  # noqa: E402
+import rights  # noqa: E402
 import sheet as writer  # noqa: E402
 import species  # noqa: E402
 
@@ -1506,9 +1508,35 @@ def check_ledgers():
                 data = left
             held += 1
     return "the plain machine of a ledger, and %d calls against the sheets that they would leave" % held
+def check_rights():
+    """The rules of a shared ledger against the checks of the sheets that its
+    changes would leave."""
+    seen = collections.Counter()
+    for vector in rights.all_vectors():
+        data, owners = vector.case.data, vector.case.owners
+        if vector.opening != (0, 0):
+            continue
+        counts = rights.counts_of(data)
+        for t in vector.told:
+            number, at = t.answer[0], t.ask.row
+            if t.ask.kind >= rights.READ_ROW or number == 30:
+                continue
+            want(owners[at] == t.ask.who != rights.MARKER, "%s: %s is answered %d", vector.case.words, t.ask, number)
+            new = counts[at] + (t.ask.vehicles if t.ask.kind == rights.ARRIVAL else -t.ask.vehicles)
+            if 0 <= new < 2 ** 32:
+                all_counts = [new if i == at else n for i, n in enumerate(counts)]
+                left = rights.opening(rights.with_counts(data, all_counts), owners)[0]
+                same(left, {0: 0, 29: 16, 31: 31}[number], "%s: %s" % (vector.case.words, t.ask))
+                seen[number] += 1
+            else:
+                same(number, 29, "%s: %s" % (vector.case.words, t.ask))
+            if number == 0:
+                counts = all_counts
+    return "%d changes of shared ledgers as the sheets that they leave, %d refused" % (sum(seen.values()), seen[29] + seen[31])
 
 
 CHECKS = (
+    check_rights,
     check_samples,
     check_writer,
     check_edges,

@@ -3,3 +3,4 @@ pub mod MassesWritten
 pub mod CellNumbers
 pub mod ChangeNumbers
 pub mod PoolNumbers
+pub mod SharedNumbers

@@ -3,3 +3,4 @@ pub mod SpeciesCall
 pub mod Cells
 pub mod Change
 pub mod PoolExport
+pub mod Shared

@@ -10,6 +10,7 @@ ghost use Rattle.evaporation.specs.Export.{checkNumbers, factorNumbers, 
 pub mod map_cells;
 mod pool;
 mod registrations;
+mod shared;
 pub mod species;
 
 // A refusal's number and place; number 0 where the sheet is accepted.

@@ -37,9 +37,14 @@ row-tests s row =
       fails = λ t l. omega (arith, leb-true (length (countsOf s)) row t, counts-length s);
     }
 
+-- the whole of 29
+pub call-tests : (s : List ℕ) (call : Call) → Tests (wrong (hasManyRows s) (countsOf s) call) ((rowOf call < rowsOf s) × Within s call)
+unfolding wrong
+call-tests s call = ||-tests (row-tests s (rowOf call)) (past-tests s call)
+
 pub change-judged : (s : List ℕ) (room : ℕ) (call : Call) → Judges (changeCheck s room call) (changeDemands s room call)
-unfolding changeCheck wrong
-change-judged s room call = judges-then (report-judged s room) (judges-refuse (||-tests (row-tests s (rowOf call)) (past-tests s call)))
+unfolding changeCheck
+change-judged s room call = judges-then (report-judged s room) (judges-refuse (call-tests s call))
 
 -- number 0 stands for a call that is answered alone
 never-zero : (s : List ℕ) (room : ℕ) (call : Call) (p : ℕ) → FirstUnmet 0 p (changeDemands s room call) → ⊥

@@ -1,0 +1,6 @@
+pub mod Conditions
+pub mod Holdings
+pub mod Quiet
+pub mod Changed
+pub mod Kept
+pub mod Isolation
