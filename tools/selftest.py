@@ -1508,6 +1508,8 @@ def check_ledgers():
                 data = left
             held += 1
     return "the plain machine of a ledger, and %d calls against the sheets that they would leave" % held
+
+
 def check_rights():
     """The rules of a shared ledger against the checks of the sheets that its
     changes would leave."""
