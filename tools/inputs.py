@@ -1,5 +1,6 @@
-"""The inputs of the programs *_vectors, for the four tools that make them:
-vectors.py, sheets.py, factors.py and reports.py. No command of its own."""
+"""The inputs of the programs *_vectors, for the five tools that make them:
+vectors.py, sheets.py, factors.py, reports.py and rights.py. No command of its
+own."""
 
 import sys
 from pathlib import Path
