@@ -27,7 +27,7 @@ from inputs import answer_text, packed, serve
 from sheets import EMPTY, MOST_OF_ALL, MOST_OF_ROW, ROW, SEASON, Chance, Plan, cells_grid
 
 WORDS = 6144  # the words of the program's buffer
-SLOTS = 100  # the answers that it keeps of a ledger
+SLOTS = 25  # the answers that it keeps of a ledger
 PARTICIPANTS, ROWS_EACH, VEHICLES_EACH = range(1, 9), 100, 10_000_000
 MARKER = 0
 HUGE = 2 ** 64 - 1

@@ -4,3 +4,4 @@ pub mod Quiet
 pub mod Changed
 pub mod Kept
 pub mod Isolation
+pub mod Runs

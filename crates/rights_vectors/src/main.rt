@@ -34,11 +34,8 @@ const CALL: usize = 36;
 // The bytes of the longest sheet
 const LONGEST: usize = 25256;
 
-// The numbers of an answer: number, place, then what is told
+// The numbers of an answer: number, place, then what is told. Of a ledger 25 answers are kept.
 const ANSWER: usize = 28;
-
-// The numbers of all answers that are kept of a ledger
-const KEPT: usize = 2800;
 
 // What came of the openings, the calls, the words at the end and the pairs
 struct Tallies {
@@ -285,7 +282,7 @@ fn with_sheet(
 {
     let some = all.calls;
     let mut words = [OLD; 6144];
-    let mut kept = [0u64; 2800];
+    let mut kept = [0u64; 700];
     let right = opens(rights_calls::open(sheet, owners, &mut words), head);
     let more = with_calls(sheet, owners, &mut words, &mut kept, calls, some);
     let fresh = is_fresh(sheet, &words);
@@ -312,7 +309,7 @@ fn tallies_of(s: &[u8]) -> Tallies {
         ends: Tally::none(),
         pairs: Tally::none(),
     };
-    let mut before = [0u64; 2800];
+    let mut before = [0u64; 700];
     let mut at = 0;
     while HEAD <= s.len() - at {
         let record = record_at(s, at, HEAD, CALL);

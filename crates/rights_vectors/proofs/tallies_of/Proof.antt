@@ -9,7 +9,7 @@ use Rattle.rights_vectors.proofs.tallies_of.Statement.{statement}
 use Rattle.rights_vectors.proofs.tallies_of.Tie as tie
 
 abbrev Inv-loop : tie.InvT-loop
-Inv-loop s all₀ before₀ at₀ all before at = (at ≤ length s) × (length before ≡ 2800)
+Inv-loop s all₀ before₀ at₀ all before at = (at ≤ length s) × (length before ≡ 700)
 
 abbrev μ-loop : tie.MeasureT-loop
 μ-loop s all₀ before₀ at₀ all before at = length s - at
