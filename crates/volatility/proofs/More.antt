@@ -59,7 +59,7 @@ kept {s} {i} b pass o = promise b (accepted s pass) (record { word = λ k l. ref
 pub reports-rise : WordTheorem
 reports-rise s t j i m b b' h pass pass' o =
     let there : OpenRow t i = record { row-of-s = rw (rows-same h) (o .row-of-s); no-canister = rw (row-alike h i) (o .no-canister) } in
-    words-rise m h pass pass' o (kept b pass o) (kept b' pass' there)
+    words-rise m h pass pass' o (kept (record { byte = b }) pass o) (kept (record { byte = b' }) pass' there)
 
 -- in the words that the calls leave
 passed : {s words : List ℕ} → Reported s words → sheetCheck s ≡ Pass

@@ -12,7 +12,6 @@ use Rattle.sheet.specs.Integers.{u8At, u16At}
 use Rattle.sheet.specs.Bytes.{seasonsOf, rowsOf, cellsOf, seasonPlace, seasonList, rowAt}
 use Rattle.sheet.specs.Check.{numberOf}
 use Rattle.sheet.specs.Sheet.{sheetCheck}
-use Rattle.sheet.proofs.Accepted.{Bytes}
 use Rattle.report_words.specs.Report.{report}
 use Rattle.inventory.specs.ReportCall.{ReportAnswer}
 
@@ -49,10 +48,10 @@ abbrev pub MassTheorem : Type 0
 MassTheorem = (s t : List ℕ) (j i n : ℕ) (m : Mechanism) → HigherPressure s t j → sheetCheck s ≡ Pass → sheetCheck t ≡ Pass → OpenRow s i
     → mass n (cellsOf s) (seasonList s) (rowAt s i) m ≤ᶠ mass n (cellsOf t) (seasonList t) (rowAt t i) m
 
--- "Its reported high is never below the other's low.": in the reports, as functions of the bytes,
+-- "Its reported high is never below the other's low.": in the reports, as functions of the bytes, which are below 256,
 abbrev pub WordTheorem : Type 0
-WordTheorem = (s t : List ℕ) (j i : ℕ) (m : Mechanism) → Bytes s → Bytes t → HigherPressure s t j → sheetCheck s ≡ Pass → sheetCheck t ≡ Pass
-    → OpenRow s i → at (report s) (lowPlace i m) ≤ at (report t) (highPlace i m)
+WordTheorem = (s t : List ℕ) (j i : ℕ) (m : Mechanism) → ((k : ℕ) → u8At s k < 256) → ((k : ℕ) → u8At t k < 256)
+    → HigherPressure s t j → sheetCheck s ≡ Pass → sheetCheck t ≡ Pass → OpenRow s i → at (report s) (lowPlace i m) ≤ at (report t) (highPlace i m)
 
 -- and in the words that the report call leaves: some buffer held `old`, and the call answered number 0
 pub record Reported (s words : List ℕ) : Type 0 where
