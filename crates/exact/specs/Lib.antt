@@ -1,6 +1,7 @@
 pub mod Classes
 pub mod Day
 pub mod Vapour
+pub mod Rise
 pub mod Permeation
 pub mod Canister
 pub mod Mileage

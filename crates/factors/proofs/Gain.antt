@@ -18,7 +18,7 @@ use Rattle.exact.specs.declared.Row.{Row}
 use Rattle.sheet.specs.Limits.{vpLimit, tankLimit}
 use Rattle.sheet.specs.Range.{SeasonInRange, RowInRange}
 use Rattle.marks.proofs.Most.{exponential-most}
-use Rattle.marks.proofs.Rise as vapour
+use Rattle.exact.specs.Rise as vapour
 use Rattle.factors.specs.Units.{gain}
 
 -- (1 − h/100)·tank·0.025·E(0.0205·vp) of a row in a season

@@ -18,6 +18,7 @@ use Rattle.exact.specs.declared.Canister.the-variants.{None, Small, Medium, Lar
 use Rattle.exact.specs.declared.Season.{Season}
 use Rattle.exact.specs.declared.Row.{Row}
 use Rattle.exact.specs.Day.{temperature}
+use Rattle.exact.specs.Rise.{rises}
 use Rattle.exact.specs.Vapour.{vapour, parkingVapour}
 use Rattle.exact.specs.Permeation.{permeation, parkingPermeation}
 use Rattle.exact.specs.Factors.{vp, rowVapour, rowEscape, escapeOver, openVapour, hours, endHour, duration, total, mean}
@@ -26,7 +27,7 @@ use Rattle.sheet.specs.Range.{markWarmth}
 use Rattle.marks.specs.Marks.{raise, tenths, rate, riseError, raisedError, rateError}
 use Rattle.sheet.proofs.Temperature.{warmth-most, temperature-is}
 use Rattle.marks.proofs.Heat.{raise-within, raise-most}
-use Rattle.marks.proofs.Rise.{rises, rises-cong, vapour-rises}
+use Rattle.marks.proofs.Rise.{rises-cong, vapour-rises}
 use Rattle.marks.proofs.Curve.{season-rise-within, season-rise-most}
 use Rattle.marks.proofs.Permeation.{permeation-cong, parkingPermeation-cong, rate-within, permeation-within}
 use Rattle.sheet.specs.Range.{RowInRange}

@@ -15,11 +15,12 @@ use Rattle.bounds.specs.Power.{degrees}
 use Rattle.bounds.proofs.Table.{both, both-left, both-right}
 use Rattle.exact.specs.declared.Season.{Season}
 use Rattle.exact.specs.Day.{startMark}
+use Rattle.exact.specs.Rise.{rises}
 use Rattle.sheet.specs.Range.{warmth, markWarmth, SeasonInRange}
 use Rattle.sheet.proofs.Temperature.{warmth-most}
 use Rattle.marks.specs.Marks.{runsMost, riseError, stepAt, passed}
-use Rattle.marks.proofs.Rise.{rises}
-use Rattle.marks.proofs.Runs.{Shape, rising, runs, runs-up, runs-down, rise-within, rise-most}
+use Rattle.marks.specs.Runs.{rising, runs}
+use Rattle.marks.proofs.Runs.{Shape, runs-up, runs-down, rise-within, rise-most}
 
 -- the temperature rises where the weight does
 season-shape : (season : Season) → Shape (markWarmth season) (rising w)

@@ -9,18 +9,10 @@ use Rattle.bounds.specs.Series.{E}
 use Rattle.numbers.proofs.Order.{NonNegative, nonNegative-up, whole-nonNegative, either, ≤-antisym, ≈→≥, ≈-refl, ≈-sym, ≈-trans, test-cases, test-true, test-cong, +-cong, sub-cong, sub-self, sub-nonNegative, *-cong, *-zero, *-distrib}
 use Rattle.bounds.proofs.Exponential.{E-cong}
 use Rattle.exact.specs.Day.{startMark}
+use Rattle.exact.specs.Rise.{stepRise, rises, gain}
 use Rattle.exact.specs.Vapour.{vapour, stepVapour, parkingVapour}
 use Rattle.marks.specs.Marks.{stepAt}
 use Rattle.marks.proofs.Heat.{heat-most, heat-mono}
-
--- one half-hour step from T to U: max(0, E(0.0716·U) − E(0.0716·T))
-unfoldable pub stepRise : ℕ → Fraction → Fraction → Fraction
-stepRise n T U = elim (T ≤? U) [ true ↦ E n (716 /10^ 4 *ᶠ U) -ᶠ E n (716 /10^ 4 *ᶠ T) | false ↦ whole 0 ]
-
--- summed over a parking: mark temperatures, end hour, half-hours
-unfoldable pub rises : ℕ → (ℕ → Fraction) → ℕ → ℕ → Fraction
-rises n T hour zero = whole 0
-rises n T hour (suc d) = rises n T hour d +ᶠ stepRise n (T (startMark hour (suc d))) (T (startMark hour d))
 
 module _ (n : ℕ) where
   -- where the temperature does not fall the step is the difference,
@@ -66,27 +58,23 @@ module _ (n : ℕ) where
   rises-cong hour (suc d) e = +-cong (rises-cong hour d e) (step-cong (e (startMark hour (suc d))) (e (startMark hour d)))
 
   module _ (vp fill tank : Fraction) where
-    -- the vapour of a unit of rise: (1 − h/100)·tank·0.025·E(0.0205·vp)
-    abbrev pub gain : Fraction
-    gain = (whole 1 -ᶠ fill) *ᶠ tank *ᶠ 25 /10^ 3 *ᶠ E n (205 /10^ 4 *ᶠ vp)
-
     -- a step's vapour is that many times its rise
-    step-is : (T U : Fraction) → stepVapour n vp fill tank T U ≈ᶠ gain *ᶠ stepRise n T U
+    step-is : (T U : Fraction) → stepVapour n vp fill tank T U ≈ᶠ gain n vp fill tank *ᶠ stepRise n T U
     unfolding stepVapour vapour stepRise
     step-is T U =
         test-cases
         (λ (c : Bool).
         elim c [ true ↦ vapour n vp fill tank T U | false ↦ whole 0 ]
-        ≈ᶠ gain *ᶠ elim c [ true ↦ E n (716 /10^ 4 *ᶠ U) -ᶠ E n (716 /10^ 4 *ᶠ T) | false ↦ whole 0 ])
+        ≈ᶠ gain n vp fill tank *ᶠ elim c [ true ↦ E n (716 /10^ 4 *ᶠ U) -ᶠ E n (716 /10^ 4 *ᶠ T) | false ↦ whole 0 ])
         T U (λ h. ≈-refl _) (λ h. ≈-sym (*-zero _))
 
     -- and so is a parking's
-    pub vapour-rises : (T : ℕ → Fraction) (hour d : ℕ) → parkingVapour n vp fill tank T hour d ≈ᶠ gain *ᶠ rises n T hour d
+    pub vapour-rises : (T : ℕ → Fraction) (hour d : ℕ) → parkingVapour n vp fill tank T hour d ≈ᶠ gain n vp fill tank *ᶠ rises n T hour d
     unfolding parkingVapour rises
-    vapour-rises T hour zero = ≈-sym (*-zero gain)
+    vapour-rises T hour zero = ≈-sym (*-zero (gain n vp fill tank))
     vapour-rises T hour (suc d) =
         ≈-trans (+-cong (vapour-rises T hour d) (step-is (T (startMark hour (suc d))) (T (startMark hour d))))
-        (≈-sym (*-distrib gain (rises n T hour d) (stepRise n (T (startMark hour (suc d))) (T (startMark hour d)))))
+        (≈-sym (*-distrib (gain n vp fill tank) (rises n T hour d) (stepRise n (T (startMark hour (suc d))) (T (startMark hour d)))))
 
 -- the mark after that of d + 1 half-hours before the end is that of d before it
 pub next-mark : (hour d : ℕ) → d < 48 → (startMark hour (suc d) + 1) % 48 ≡ startMark hour d

@@ -5,3 +5,4 @@ pub mod Weighted
 pub mod Passed
 pub mod Parts
 pub mod Walked
+pub mod Carried

@@ -1,54 +1,24 @@
 -- What passed in a parking: from cell to cell of an end hour, and of values that stand in a list.
 use mathlib.Core.List.{List}
 use mathlib.Core.Path.{_≡_, refl, ap}
-use Prim.Native.Nat.{ℕ, zero, suc, _+_, _*_, _-_, _/_, _%_, _≤_}
-use native.Mathlib.Decide.{ℕ-discrete}
+use Prim.Native.Nat.{ℕ, zero, suc, _+_, _*_, _≤_}
 use native.Mathlib.Numerals.{add-one}
 use native.Mathlib.Nat.{mul-le-mul-right}
 use native.Mathlib.Omega.{arith}
-use borrow.Author.Tests.{eq-eqb, ne-eqb}
 use Rattle.numbers.specs.Lists.{tab, at, AllAtMost}
 use Rattle.numbers.proofs.Lists.{getD-tab}
 use Rattle.exact.specs.Day.{startMark}
 use Rattle.exact.specs.Factors.{endHour, duration}
 use Rattle.marks.specs.Marks.{passed}
 use Rattle.marks.proofs.Permeation.{passed-most}
-use Rattle.factors.specs.Units.{startOf}
 use Rattle.factors.proofs.Losses.{duration-most}
-use Rattle.parking.specs.Grid.{passedIn, carried}
+use Rattle.parking.specs.Grid.{passedIn}
 use Rattle.parking.proofs.Tally.{startMark-below}
 
 -- one half-hour further back
-passed-more : (f : ℕ → ℕ) (hour d : ℕ) {s r : ℕ} → s ≡ passed f hour d → r ≡ f (startMark hour (d + 1)) → s + r ≡ passed f hour (d + 1)
+pub passed-more : (f : ℕ → ℕ) (hour d : ℕ) {s r : ℕ} → s ≡ passed f hour d → r ≡ f (startMark hour (d + 1)) → s + r ≡ passed f hour (d + 1)
 unfolding passed
 passed-more f hour d e h = rw add-one (cc (add-one d))
-
--- what passed in the half-hours before a cell's own
-unfoldable pub passedBefore : List ℕ → ℕ → ℕ
-passedBefore values cell = passed (at values) (cell / 24 + 1) (cell % 24)
-
--- nothing is carried to the first cell
-pub carried-first : (values : List ℕ) → carried 0 0 ≡ passedBefore values 0
-unfolding carried passedBefore passed
-carried-first values = refl
-
--- to the next cell is carried what passed in the half-hours before its own
-pub carried-next : (values : List ℕ) (cell : ℕ) {p : ℕ} → p ≡ passedIn values cell → carried p (cell + 1) ≡ passedBefore values (cell + 1)
-unfolding carried passedBefore passedIn endHour duration passed
-carried-next values cell {p} h =
-    elim (ℕ-discrete ((cell + 1) % 24) 0) [
-      | yes e ↦ rw (eq-eqb ((cell + 1) % 24) 0 e, e) refl
-      | no n ↦
-          let hour : cell / 24 + 1 ≡ (cell + 1) / 24 + 1 = omega arith in
-          let half-hours : cell % 24 + 1 ≡ (cell + 1) % 24 = omega arith in
-          rw (ne-eqb ((cell + 1) % 24) 0 n) (rw (hour, half-hours) at h)
-    ]
-
--- with the cell's own mark it is what passed in its parking
-pub walk-more : (values : List ℕ) (cell : ℕ) {before mark : ℕ} → before ≡ passedBefore values cell → mark ≡ startOf cell
-    → before + at values mark ≡ passedIn values cell
-unfolding passedBefore passedIn startOf endHour duration
-walk-more values cell h e = passed-more (at values) (cell / 24 + 1) (cell % 24) h (ap (at values) e)
 
 -- at most 24 values of at most a bound
 pub passedIn-most : (values : List ℕ) (bound cell : ℕ) → AllAtMost bound values → passedIn values cell ≤ 24 * bound
@@ -57,7 +27,7 @@ passedIn-most values bound cell h =
     omega (arith, passed-most (at values) bound (h .at-most) (endHour cell) (duration cell), mul-le-mul-right bound (duration-most cell))
 
 -- of values that stand in a list
-passed-tab : (g : ℕ → ℕ) (hour d : ℕ) {xs : List ℕ} → xs ≡ tab g 48 → passed (at xs) hour d ≡ passed g hour d
+pub passed-tab : (g : ℕ → ℕ) (hour d : ℕ) {xs : List ℕ} → xs ≡ tab g 48 → passed (at xs) hour d ≡ passed g hour d
 unfolding passed
 passed-tab g hour zero e = refl
 passed-tab g hour (suc d) e =

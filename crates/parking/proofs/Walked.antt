@@ -1,32 +1,27 @@
--- The walk gives what passed in every parking; over the steps and the permeation of any mark temperatures it encloses document 01's sums.
-use mathlib.Core.Bool.{false}
-use mathlib.Core.List.{List, _++_}
+-- The walk gives what passed in every parking.
+use mathlib.Core.List.{List, _++_, append-assoc}
 use mathlib.Core.Path.{_≡_, refl, sym, _∙_, ap, ap₂}
-use Prim.Native.Nat.{ℕ, zero, suc, _+_, _*_, _-_, _/_, _%_, _^_, _≤_, _<_}
+use Prim.Native.Nat.{ℕ, zero, suc, _+_, _*_, _/_, _%_, _≤_, _<_}
 use native.Mathlib.Nat.{le-dest, lt-of-not-le}
 use native.Mathlib.Decide.{decLe}
+use native.Mathlib.Numerals.{add-one}
 use native.Mathlib.Omega.{arith}
-use lib.ListN.{length, length-append, List·getD-append}
-use lib.Seq.{getD-append-add, ext-getD}
-use Rattle.numbers.specs.Fraction.{Fraction, _≈ᶠ_, _*ᶠ_, _/10^_}
+use lib.ListN.{length, take, length-append, List·getD-append}
+use lib.Seq.{getD-append-add, ext-getD, take-at}
 use Rattle.numbers.specs.Lists.{tab, at}
 use Rattle.numbers.proofs.Lists.{tab-length, getD-tab}
-use Rattle.bounds.specs.Enclosure.{WithinAll}
-use Rattle.bounds.specs.Power.{degrees}
 use Rattle.exact.specs.Day.{startMark}
-use Rattle.exact.specs.Vapour.{parkingVapour}
-use Rattle.exact.specs.Permeation.{parkingPermeation}
 use Rattle.exact.specs.Factors.{endHour, duration}
-use Rattle.sheet.specs.Limits.{vpLimit}
-use Rattle.marks.specs.Marks.{stepAt, heatError, rate, rateError, passed}
-use Rattle.marks.proofs.Rise.{rises, gain, vapour-rises}
-use Rattle.marks.proofs.Runs.{rising, shape, runs, rise-within}
-use Rattle.marks.proofs.Permeation.{permeation-within}
+use Rattle.marks.specs.Marks.{passed}
 use Rattle.parking.specs.Grid.{passedIn}
 use Rattle.parking.specs.Walk.{stepsBack, walked}
-use Rattle.parking.proofs.Passed.{passedIn-tab}
 
 module _ (values : List ℕ) where
+  -- nothing passed in no time
+  pub none-passed : (hour : ℕ) → 0 ≡ passed (at values) hour 0
+  unfolding passed
+  none-passed hour = refl
+
   -- as many as steps
   steps-length : (hour d carried n : ℕ) → length (stepsBack values hour d carried n) ≡ n
   unfolding stepsBack
@@ -34,7 +29,7 @@ module _ (values : List ℕ) where
   steps-length hour d carried (suc n) = ap suc (steps-length hour (suc d) _ n)
 
   -- step k gives what passed in the parking of d + k + 1 half-hours
-  steps-at : (hour d carried n k : ℕ) → carried ≡ passed (at values) hour d → k < n
+  pub steps-at : (hour d carried n k : ℕ) → carried ≡ passed (at values) hour d → k < n
       → at (stepsBack values hour d carried n) k ≡ passed (at values) hour (suc (d + k))
   unfolding stepsBack passed
   steps-at hour d carried zero k e l = absurd (omega arith)
@@ -45,6 +40,15 @@ module _ (values : List ℕ) where
       let place : d + suc k ≡ suc d + k = omega arith in
       rw place (steps-at hour (suc d) _ n k (ap (λ (x : ℕ). x + at values (startMark hour (suc d))) e) (omega arith))
 
+  -- the column of an end hour
+  pub column-is : (hour : ℕ) → tab (λ (k : ℕ). passed (at values) hour (suc k)) 24 ≡ stepsBack values hour 0 0 24
+  column-is hour =
+      ext-getD 0 _ (stepsBack values hour 0 0 24) (tab-length _ 24 ∙ sym (steps-length hour 0 0 24))
+      (λ k l.
+      let small : k < 24 = omega (arith, tab-length (λ (j : ℕ). passed (at values) hour (suc j)) 24) in
+      let place : 0 + k ≡ k = omega arith in
+      getD-tab (λ (j : ℕ). passed (at values) hour (suc j)) 24 k small ∙ sym (rw place at (steps-at hour 0 0 24 k (none-passed hour) small)))
+
   -- 24 for each end hour
   walked-length : (h : ℕ) → length (walked values h) ≡ 24 * h
   unfolding walked
@@ -53,10 +57,18 @@ module _ (values : List ℕ) where
       length-append (walked values h) (stepsBack values (suc h) 0 0 24) ∙
       omega (arith, walked-length h, steps-length (suc h) 0 0 24)
 
-  -- nothing passed in no time
-  none-passed : (hour : ℕ) → 0 ≡ passed (at values) hour 0
-  unfolding passed
-  none-passed hour = refl
+  -- one end hour more: its column stands behind those before it
+  walked-next : (h : ℕ) → walked values h ++ stepsBack values (suc h) 0 0 24 ≡ walked values (suc h)
+  unfolding walked
+  walked-next h = refl
+
+  pub walked-more : (h : ℕ) (xs zs : List ℕ) {ys : List ℕ} → take (24 * h) xs ≡ walked values h → ys ≡ stepsBack values (h + 1) 0 0 24
+      → take (24 * (h + 1)) (take (24 * h) xs ++ (ys ++ zs)) ≡ walked values (h + 1)
+  walked-more h xs zs e f =
+      let column = stepsBack values (suc h) 0 0 24 in
+      let long : length (walked values h ++ column) ≡ 24 * suc h
+      = length-append (walked values h) column ∙ omega (arith, walked-length h, steps-length (suc h) 0 0 24) in
+      rw (e, f, add-one, ← append-assoc (walked values h) column zs) (take-at (walked values h ++ column) zs (24 * suc h) long ∙ walked-next h)
 
   -- cell k of the last of the end hours
   last-at : (h k cell : ℕ) → 24 * h + k ≡ cell → k < 24 → at (walked values h ++ stepsBack values (suc h) 0 0 24) cell ≡ passedIn values cell
@@ -71,7 +83,7 @@ module _ (values : List ℕ) where
       ap₂ (passed (at values)) hour half-hours
 
   -- a cell holds what passed in its parking
-  walked-at : (h cell : ℕ) → cell < 24 * h → at (walked values h) cell ≡ passedIn values cell
+  pub walked-at : (h cell : ℕ) → cell < 24 * h → at (walked values h) cell ≡ passedIn values cell
   unfolding walked
   walked-at zero cell l = absurd (omega arith)
   walked-at (suc h) cell l =
@@ -89,31 +101,3 @@ module _ (values : List ℕ) where
       (λ cell l.
       let small : cell < 576 = omega (arith, walked-length 24) in
       walked-at 24 cell small ∙ sym (getD-tab (passedIn values) 576 cell small))
-
--- Any 48 mark temperatures from −30 to 50 °C, in any order, and the parking of k + 1 half-hours that ends at hour h + 1.
-module _ (θ : ℕ → ℕ) (warm : (i : ℕ) → θ i ≤ 80 * 10 ^ 10) (h k : ℕ) (hour : h < 24) (back : k < 24) where
-  -- what is carried there
-  there : (g : ℕ → ℕ) → at (walked (tab g 48) 24) (24 * h + k) ≡ passed g (suc h) (suc k)
-  unfolding endHour duration
-  there g =
-      let hours : (24 * h + k) / 24 + 1 ≡ suc h = omega arith in
-      let half-hours : (24 * h + k) % 24 + 1 ≡ suc k = omega arith in
-      walked-at (tab g 48) 24 (24 * h + k) (omega arith) ∙ (rw (hours, half-hours) at (passedIn-tab g refl (24 * h + k)))
-
-  -- the carried rise encloses the exact sum over the parking's steps that rise, for every n from 40 upward: for r runs of rising steps
-  -- it is within the errors of r marks, either way
-  pub carried-rise : (r : ℕ) → runs false (rising θ) (suc h) (suc k) ≤ r
-      → WithinAll (2 ^ 40) (at (walked (tab (stepAt θ) 48) 24) (24 * h + k) - r * heatError) (2 * (r * heatError))
-      (λ n. rises n (λ i. degrees (θ i)) (suc h) (suc k))
-  carried-rise r few = rw (there (stepAt θ)) (rise-within warm (shape θ) (suc h) (suc k) r (omega arith) few)
-
-  -- of which document 01's vapour of the parking is a multiple that no mark changes
-  pub carried-vapour : (n : ℕ) (vp fill tank : Fraction)
-      → parkingVapour n vp fill tank (λ i. degrees (θ i)) (suc h) (suc k) ≈ᶠ gain n vp fill tank *ᶠ rises n (λ i. degrees (θ i)) (suc h) (suc k)
-  carried-vapour n vp fill tank = vapour-rises n vp fill tank (λ i. degrees (θ i)) (suc h) (suc k)
-
-  -- and half of the carried permeation encloses that of the parking
-  pub carried-permeation : (vp : ℕ) → vp ≤ vpLimit
-      → WithinAll (2 ^ 40) (at (walked (tab (λ i. rate vp (θ i)) 48) 24) (24 * h + k) / 2) (suc k * rateError / 2 + 2)
-      (λ n. parkingPermeation n (vp /10^ 1) (λ i. degrees (θ i)) (suc h) (suc k))
-  carried-permeation vp l = rw (there (λ i. rate vp (θ i))) (permeation-within vp θ l (λ i. omega (arith, warm i)) (suc h) (suc k))

@@ -1,9 +1,8 @@
 -- The grid of a sheet's parkings as one array, and sums over its cells. Definitions only.
 use mathlib.Core.Path.{_≡_}
-use mathlib.Core.Bool.{Bool, true, false, cond}
-use lib.Dec.{eqb}
+use mathlib.Core.Bool.{Bool, true, false}
 use mathlib.Core.List.{List}
-use Prim.Native.Nat.{ℕ, zero, suc, _+_, _-_, _%_, _^_, _≤_, _<_}
+use Prim.Native.Nat.{ℕ, zero, suc, _+_, _^_, _≤_, _<_}
 use lib.ListN.{length, set, replicate, take}
 use Rattle.numbers.specs.Lists.{at}
 use Rattle.exact.specs.Factors.{total, endHour, duration}
@@ -46,7 +45,3 @@ pub record GridReady (grid : List ℕ) : Type 0 where
 -- what passed in a cell's parking, of values by mark: an end hour adds one value for each of its 24 half-hours
 unfoldable pub passedIn : List ℕ → ℕ → ℕ
 passedIn values cell = passed (at values) (endHour cell) (duration cell)
-
--- what is carried to a cell, of what passed in the parking before it: all within an end hour, nothing where one begins
-unfoldable pub carried : ℕ → ℕ → ℕ
-carried passed cell = cond (eqb (cell % 24) 0) 0 passed

@@ -4,6 +4,10 @@ use Prim.Native.Nat.{ℕ, zero, suc, _+_}
 use Rattle.numbers.specs.Lists.{at}
 use Rattle.exact.specs.Day.{startMark}
 
+-- "Each end hour adds at most 24 steps, not the 300 of its parkings."
+abbrev pub stepsMost : ℕ
+stepsMost = 24
+
 -- Of values by mark, such as the rise from each mark to the next.
 module _ (values : List ℕ) where
   -- n steps further back, from d half-hours before an end hour. A step adds the value of the mark at which it starts to what is carried
@@ -14,7 +18,7 @@ module _ (values : List ℕ) where
       let passed = carried + at values (startMark hour (suc d)) in
       passed ∷ stepsBack hour (suc d) passed n
 
-  -- the first end hours: "Each end hour adds at most 24 steps", one for each of its 24 durations, and nothing is carried to it
+  -- the first end hours: one step for each of its 24 durations, and nothing is carried to it
   unfoldable pub walked : ℕ → List ℕ
   walked zero = []
   walked (suc hour) = walked hour ++ stepsBack (suc hour) 0 0 24

@@ -21,7 +21,7 @@ pub fn products(durations: [u64; 24], hours: [u64; 24]) -> [u64; 576]
 }
 
 // The mark at which a parking of d half-hours starts that ends at an hour; with d = 0, the mark at which it ends.
-fn start_mark(hour: usize, d: usize) -> usize
+pub fn start_mark(hour: usize, d: usize) -> usize
     requires { ⌜ (hour ≤ 24) × (d ≤ 24) ⌝ }
     ensures { λ r. ⌜ (r ≡ startMark hour d) × (r < 48) ⌝ }
 {

@@ -41,8 +41,8 @@ fn permeation_mean(grid: &[u64; 673], rates: &[u64; 48]) -> u64
     requires { ⌜ GridReady (now grid) × AllAtMost (2 ^ 40) (now rates) ⌝ }
     ensures { λ r. ⌜ r ≡ meanUnits (cellsIn (now (grid .entry))) (λ (cell : ℕ). passedIn (now (rates .entry)) cell / 2) ⌝ }
 {
-    let sums = walk(rates);
-    let halves = halved(&sums);
+    let all = walk(rates);
+    let halves = halved(&all.passed);
     mean_by_cell(grid, &halves)
 }
 

@@ -11,9 +11,9 @@ use Rattle.parking.proofs.walk.rises.Tie as tie
 
 returns : tie.Need-returns
 returns c =
-    let w = c .before .before in
+    let w = c .before .before .before in
     c .lowered .ensures ∙
-    tab-ext 576 (λ cell h. ap (λ (x : ℕ). x - riseError) (rw (w .walk .ensures ∙ walked-is _) (getD-tab (passedIn (w .before .args .steps .now)) 576 cell h)))
+    tab-ext 576 (λ cell h. ap (λ (x : ℕ). x - riseError) (rw (w .walk .ensures .0 ∙ walked-is _) (getD-tab (passedIn (w .before .args .steps .now)) 576 cell h)))
 
 pub rises-spec : {M : Type 1} → statement M
 rises-spec =

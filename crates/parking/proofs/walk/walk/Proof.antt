@@ -1,29 +1,51 @@
--- `parking::walk::walk` meets its contract: the first cells hold what passed in their parkings, and what is carried to the next is what
--- passed before its own half-hour.
+-- `parking::walk::walk` meets its contract: the first end hours have their columns, in 24 steps each.
 use mathlib.Core.Path.{_≡_, refl, sym, _∙_}
-use Prim.Native.Nat.{_+_, _-_, _^_}
+use Prim.Native.Nat.{ℕ, suc, _+_, _*_, _-_, _^_, _≤_}
 use native.Mathlib.Omega.{arith}
-use lib.ListN.{replicate}
-use Rattle.numbers.specs.Lists.{at}
-use Rattle.numbers.proofs.Lists.{Filled, filled-none, filled-more, filled-all}
-use Rattle.parking.specs.Grid.{passedIn, carried}
-use Rattle.parking.proofs.Passed.{passedBefore, carried-first, carried-next, walk-more, passedIn-most}
-use Rattle.parking.proofs.Walked.{walked-is}
+use lib.ListN.{length, take, length-take, length-drop}
+use lib.Seq.{take-all}
+use borrow.Rule.Slice.PartMut.{same-len-mid}
+use Rattle.parking.specs.Walk.{walked}
+use Rattle.parking.proofs.Walked.{walked-more}
 use borrow.Author.Needs.{needs}
 use Rattle.parking.proofs.walk.walk.Statement.{statement}
 use Rattle.parking.proofs.walk.walk.Tie as tie
 
 abbrev Inv-loop : tie.InvT-loop
-Inv-loop values out₀ passed₀ cell₀ out passed cell = Filled (passedIn values) 576 cell out × (carried passed cell ≡ passedBefore values cell)
+Inv-loop values passed₀ steps₀ hour₀ passed steps hour =
+    (hour ≤ 24) × (length passed ≡ 576) × (take (24 * hour) passed ≡ walked values hour) × (steps ≡ 24 * hour)
 
 abbrev μ-loop : tie.MeasureT-loop
-μ-loop values out₀ passed₀ cell₀ out passed cell = 576 - cell
+μ-loop values passed₀ steps₀ hour₀ passed steps hour = 24 - hour
 
--- what is stored next
-next : (c : tie.After-passed Inv-loop μ-loop)
-    → c .before .before .carried .result + at (c .before .before .before .before .before .args .values .now) (c .before .mark-of .result) ≡ passedIn (c .before .before .before .before .before .args .values .now) (c .before .before .before .before .loop .cell)
-next c =
-    walk-more _ (c .before .before .before .before .loop .cell) (c .before .before .carried .ensures ∙ c .before .before .before .before .loop .inv .1) (c .before .mark-of .ensures .0)
+loop-holds : tie.Need-loop-holds Inv-loop μ-loop
+unfolding walked
+loop-holds c = (search needs, refl, refl, refl)
+
+mul-passed : tie.Need-mul-passed Inv-loop μ-loop
+mul-passed c = search needs
+
+column-requires : tie.Need-column-requires Inv-loop μ-loop
+column-requires c κs =
+    let s = c .before .before .before in
+    let l = c .before .before .loop in
+    (s .pre, omega arith, simp (length-take, length-drop) (omega arith))
+
+loop-again : tie.Need-loop-again Inv-loop μ-loop
+loop-again c =
+    let s = c .before .before .before .before .before in
+    let l = c .before .before .before .before .loop in (
+      omega arith,
+      same-len-mid (24 * l .hour) (24 * l .hour + 24 - 24 * l .hour) (l .passed) (c .before .column .last .1 .1 .0) (c .passed2 .given) ∙ l .inv .1,
+      walked-more _ (l .hour) (l .passed) _ (l .inv .2) (c .before .column .ensures .0),
+      omega (arith, c .before .column .ensures .1),
+    )
+
+returns : tie.Need-returns Inv-loop μ-loop
+returns c =
+    let l = c .before .loop in
+    let all : l .hour ≡ 24 = omega arith in
+    (sym (take-all 576 (l .passed) (omega arith)) ∙ (rw all at (l .inv .2)), omega arith)
 
 pub walk-spec : {M : Type 1} → statement M
 walk-spec =
@@ -31,15 +53,17 @@ walk-spec =
     (tie.spec
     Inv-loop
     μ-loop
-    (λ c. (filled-none _ (replicate 576 0) refl, carried-first _))
-    (λ c κs. search needs)
-    (λ c κs. search needs)
-    (λ c. search needs)
-    (λ c. search needs)
-    (λ c. omega (arith, next c, passedIn-most (c .before .before .before .before .before .args .values .now) (2 ^ 50) (c .before .before .before .before .loop .cell) (c .before .before .before .before .before .pre)))
+    loop-holds
     (λ c. search needs)
     (λ c. search needs)
     (λ c. search needs)
+    mul-passed
     (λ c. search needs)
-    (λ c. (filled-more (c .before .before .before .before .loop .inv .0) (omega arith) (next c), carried-next _ (c .before .before .before .before .loop .cell) (next c)))
-    (λ c. filled-all (c .before .loop .inv .0) (omega arith) ∙ sym (walked-is _)))
+    (λ c. search needs)
+    (λ c. search needs)
+    column-requires
+    (λ c. search needs)
+    (λ c. search needs)
+    (λ c. search needs)
+    loop-again
+    returns)
