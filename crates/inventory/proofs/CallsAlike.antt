@@ -13,7 +13,8 @@ use Rattle.sheet.specs.declared.Check.{Check}
 use Rattle.sheet.specs.declared.Check.the-variants.{Pass, Refused}
 use Rattle.sheet.specs.Integers.{u8At, u16At}
 use Rattle.sheet.specs.Bytes.{seasonsOf, rowsOf, rowPlace, equipmentAt}
-use Rattle.sheet.proofs.Alike.{codeOf, Alike, canister-alike, tank-alike, both-alike}
+use Rattle.sheet.specs.ByClass.{codeOf}
+use Rattle.sheet.proofs.Alike.{Alike, canister-alike, tank-alike, both-alike}
 use Rattle.inventory.specs.FactorCall.{factorCheck, unitsAt, answered, factorAnswer}
 use Rattle.report_words.specs.Report.{reportLength, wordsOf, rowWords, subtotal, subtotals, grandTotal, report}
 use Rattle.inventory.specs.ReportCall.{reportCheck}

@@ -2,3 +2,4 @@ pub mod FactorCall
 pub mod ReportCall
 pub mod SameGrid
 pub mod NextVersion
+pub mod ByClass

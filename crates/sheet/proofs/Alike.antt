@@ -19,26 +19,12 @@ use Rattle.sheet.specs.Limits.{tankLimit}
 use Rattle.sheet.specs.Integers.{u8At, u16At}
 use Rattle.sheet.specs.Versions.{seasonsStart}
 use Rattle.sheet.specs.Bytes.{seasonsOf, rowsOf, cellsOf, rowPlace, seasonAt, seasonList, rowFrom, rowAt, equipmentAt, fittedCanister, fittedTank, writtenCanister, canisterOf, tankOf}
+use Rattle.sheet.specs.ByClass.{codeOf, Written}
 use Rattle.sheet.specs.Check.{each}
 use Rattle.sheet.specs.Sheet.{lengthCheck, vehiclesBefore, codeWrong, saturationAbove, mileageWrong, rowCheck, sheetCheck}
 use Rattle.sheet.proofs.Equipment.{equipment-tank}
 use Rattle.sheet.proofs.Local.{Same, byte-at, word-at, equipment-same, row-counts, row-same}
 use Rattle.sheet.proofs.BeforeRows.{BeforeRows, each-cong, version, start, seasons, rows, season, season-list, some, head, parking, cells, season-checks}
-
--- "canister (0 none, 1 small, 2 medium, 3 large, 255 by class)"
-abbrev pub codeOf : Canister → ℕ
-codeOf None = 0
-codeOf Small = 1
-codeOf Medium = 2
-codeOf Large = 3
-
--- s' is s, except that in the row at p, whose class stands for canister c and tank t, these may be written where s leaves them
--- to the class
-pub record Written (s s' : List ℕ) (p : ℕ) (c : Canister) (t : ℕ) : Type 0 where
-  pub same-length : length s' ≡ length s
-  pub elsewhere : (k : ℕ) → ¬ (k ≡ p + 2) → ¬ (k ≡ p + 6) → ¬ (k ≡ p + 7) → u8At s' k ≡ u8At s k
-  pub canister : (u8At s' (p + 2) ≡ u8At s (p + 2)) ⊎ ((u8At s (p + 2) ≡ 255) × (u8At s' (p + 2) ≡ codeOf c))
-  pub tank : (u16At s' (p + 6) ≡ u16At s (p + 6)) ⊎ ((u16At s (p + 6) ≡ 0) × (u16At s' (p + 6) ≡ t))
 
 -- accepted or refused alike, with the same values
 pub record Alike (s s' : List ℕ) : Type 0 where
