@@ -324,9 +324,9 @@ static void expect_no_cells(struct evp_row_words row, struct evp_travel travel, 
     struct evp_row_cells found = evp_cells_of_row(row, travel);
     expect("number of a refused row", found.number, number);
     expect("place of a refused row", found.place, 0);
-    expect_cell("urban cell of a refused row", found.urban, EVP_EMPTY, 0, 0);
-    expect_cell("rural cell of a refused row", found.rural, EVP_EMPTY, 0, 0);
-    expect_cell("highway cell of a refused row", found.highway, EVP_EMPTY, 0, 0);
+    expect_cell("urban cell of a refused row", found.urban, EVP_NONE, 0, 0);
+    expect_cell("rural cell of a refused row", found.rural, EVP_NONE, 0, 0);
+    expect_cell("highway cell of a refused row", found.highway, EVP_NONE, 0, 0);
 }
 
 /* Row 2 of the table's sample, in town, and the same row elsewhere: the worked row of docs/SHEET.md. */
@@ -367,13 +367,13 @@ static void expect_cells(void) {
     const double most = (double)EVP_MASS_LIMIT;
     expect_sum("the largest mass", (struct evp_cell){EVP_EXACT, most, most}, EVP_ACCEPTED, EVP_EXACT, most, most);
     expect_sum("a minus zero", (struct evp_cell){EVP_BAND, -0.0, 7}, EVP_ACCEPTED, EVP_BAND, 0.0, 7);
-    expect_sum("an exact 0", (struct evp_cell){EVP_EXACT, 0, 0}, EVP_CELL, EVP_EMPTY, 0, 0);
-    expect_sum("an exact NaN", (struct evp_cell){EVP_EXACT, NAN, NAN}, EVP_CELL, EVP_EMPTY, 0, 0);
-    expect_sum("two masses as one", (struct evp_cell){EVP_EXACT, 5, 6}, EVP_CELL, EVP_EMPTY, 0, 0);
-    expect_sum("an equal band", (struct evp_cell){EVP_BAND, 7, 7}, EVP_CELL, EVP_EMPTY, 0, 0);
-    expect_sum("an infinity", (struct evp_cell){EVP_BAND, 7, INFINITY}, EVP_CELL, EVP_EMPTY, 0, 0);
-    expect_sum("a fraction", (struct evp_cell){EVP_BAND, 0.5, 7}, EVP_CELL, EVP_EMPTY, 0, 0);
-    expect_sum("a kind that is none", (struct evp_cell){3, 5, 7}, EVP_CELL, EVP_EMPTY, 0, 0);
+    expect_sum("an exact 0", (struct evp_cell){EVP_EXACT, 0, 0}, EVP_CELL, EVP_NONE, 0, 0);
+    expect_sum("an exact NaN", (struct evp_cell){EVP_EXACT, NAN, NAN}, EVP_CELL, EVP_NONE, 0, 0);
+    expect_sum("two masses as one", (struct evp_cell){EVP_EXACT, 5, 6}, EVP_CELL, EVP_NONE, 0, 0);
+    expect_sum("an equal band", (struct evp_cell){EVP_BAND, 7, 7}, EVP_CELL, EVP_NONE, 0, 0);
+    expect_sum("an infinity", (struct evp_cell){EVP_BAND, 7, INFINITY}, EVP_CELL, EVP_NONE, 0, 0);
+    expect_sum("a fraction", (struct evp_cell){EVP_BAND, 0.5, 7}, EVP_CELL, EVP_NONE, 0, 0);
+    expect_sum("a kind that is none", (struct evp_cell){3, 5, 7}, EVP_CELL, EVP_NONE, 0, 0);
     struct evp_cell_sum over = evp_add_cells((struct evp_cell){EVP_EXACT, most, most}, (struct evp_cell){EVP_EXACT, 1, 1});
     expect("a sum of 2^53 + 1", over.number, EVP_CELL);
 }

@@ -179,7 +179,8 @@ struct evp_travel {
 enum evp_kind {
     EVP_EMPTY = 0, /* no mass; low and high are 0 where it is given, and not read where it is handed in */
     EVP_EXACT = 1, /* one mass above 0, in both low and high */
-    EVP_BAND = 2   /* a low and a high mass, the low below the high */
+    EVP_BAND = 2,  /* a low and a high mass, the low below the high */
+    EVP_NONE = 3   /* no cell: what stands where a call refuses; handed in, it is refused */
 };
 
 struct evp_cell {
@@ -188,14 +189,14 @@ struct evp_cell {
     double high;
 };
 
-/* The answer of the call for a row. Refused: three empty cells. */
+/* The answer of the call for a row. Refused: no cells, three of kind EVP_NONE. */
 struct evp_row_cells {
     uint64_t number; /* 0, EVP_TRAVEL or EVP_CELL */
     uint64_t place;  /* 0 */
     struct evp_cell urban, rural, highway;
 };
 
-/* The answer of the call for a sum. Refused: an empty cell. */
+/* The answer of the call for a sum. Refused: no cell, one of kind EVP_NONE. */
 struct evp_cell_sum {
     uint64_t number; /* 0 or EVP_CELL */
     uint64_t place;  /* 0 */

@@ -77,7 +77,7 @@ def cell_of(low, high):
     return Cell(kind, bits_of(low), bits_of(high))
 
 
-NO_CELL = cell_of(0, 0)
+NO_CELL = Cell(3, 0, 0)  # kind 3: what stands where a call refuses
 
 
 def masses_of(cell):

@@ -4,3 +4,4 @@ pub mod GivenSum
 pub mod Enclosed
 pub mod AnyOrder
 pub mod Signs
+pub mod Promised

@@ -3,3 +3,4 @@ pub mod Cells
 pub mod Sums
 pub mod Values
 pub mod Between
+pub mod Promise

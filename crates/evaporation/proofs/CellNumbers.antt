@@ -1,21 +1,31 @@
 -- The cells that pass the boundary, as the program meets them.
-use mathlib.Core.Path.{_≡_}
-use mathlib.Core.Bool.{true, false}
-use Prim.Native.Nat.{ℕ}
-use lib.Ieee.{Float, eq}
+use mathlib.Core.Logic.{_⊎_, inl, inr}
+use mathlib.Core.Path.{_≡_, refl}
+use mathlib.Core.Bool.{true, false, true≢false}
+use Prim.Native.Nat.{ℕ, _*_}
+use native.Mathlib.Omega.{arith}
+use lib.Dec.{eqb}
+use lib.Ieee.{Float, fin, up, down, eq}
 use borrow.Author.Tests.{eq-eqb, ne-eqb}
 use Rattle.cells.specs.declared.Cell.{Cell}
 use Rattle.cells.specs.declared.Cell.the-variants.{Empty, Exact, Band}
 use Rattle.cells.specs.declared.CellAnswer.{CellAnswer}
 use Rattle.cells.specs.declared.CellAnswer.the-variants as sum
 use Rattle.cells.specs.Sums.{cellSum}
+use Rattle.cells.specs.Values.{Plus, NoMinus}
+use Rattle.cells.specs.Promise.{SumPromise}
+use Rattle.cells.proofs.Promised.{promised}
+use Rattle.shares.specs.declared.Travel.{Travel}
+use Rattle.shares.specs.declared.Words.{Words}
+use Rattle.row_cells.specs.Promise.{RowPromise}
+use Rattle.evaporation.specs.declared.map_cells.EvpCellSum.{EvpCellSum}
 use Rattle.row_cells.specs.declared.RowCells.{RowCells}
 use Rattle.row_cells.specs.declared.RowAnswer.{RowAnswer}
 use Rattle.row_cells.specs.declared.RowAnswer.the-variants as row
 use Rattle.evaporation.specs.declared.map_cells.EvpCell.{EvpCell}
 use Rattle.evaporation.specs.declared.map_cells.Handed.{Handed}
 use Rattle.evaporation.specs.declared.map_cells.Handed.the-variants.{Given, NoCell}
-use Rattle.evaporation.specs.Cells.{cellNumbers, rowNumbers, sumNumbers, exactHanded, cellHanded, handedSum}
+use Rattle.evaporation.specs.Cells.{cellNumbers, noCell, rowNumbers, sumNumbers, exactHanded, cellHanded, handedSum, RowCellsNone, RowCellsGiven, CellSumNumbers}
 
 module _ {a : RowAnswer} {u r h : EvpCell} where
   pub row-cells : (v : RowCells) → a ≡ row.Cells v → u ≡ cellNumbers (v .urban) → r ≡ cellNumbers (v .rural) → h ≡ cellNumbers (v .highway)
@@ -23,7 +33,7 @@ module _ {a : RowAnswer} {u r h : EvpCell} where
   unfolding rowNumbers
   row-cells v e f g k = rw (e, f, g, k)
 
-  pub row-refused : (n p : ℕ) → a ≡ row.Refused n p → u ≡ cellNumbers Empty → r ≡ cellNumbers Empty → h ≡ cellNumbers Empty
+  pub row-refused : (n p : ℕ) → a ≡ row.Refused n p → u ≡ noCell → r ≡ noCell → h ≡ noCell
       → record { number = n; place = p; urban = u; rural = r; highway = h } ≡ rowNumbers a
   unfolding rowNumbers
   row-refused n p e f g k = rw (e, f, g, k)
@@ -33,7 +43,7 @@ module _ {a : CellAnswer} {u : EvpCell} where
   unfolding sumNumbers
   sum-cell c e f = rw (e, f)
 
-  pub sum-refused : (n p : ℕ) → a ≡ sum.Refused n p → u ≡ cellNumbers Empty → record { number = n; place = p; cell = u } ≡ sumNumbers a
+  pub sum-refused : (n p : ℕ) → a ≡ sum.Refused n p → u ≡ noCell → record { number = n; place = p; cell = u } ≡ sumNumbers a
   unfolding sumNumbers
   sum-refused n p e f = rw (e, f)
 
@@ -78,3 +88,71 @@ module _ {a b : Handed} (x : Cell) (e : a ≡ Given x) where
   pub both-given : {r : CellAnswer} (y : Cell) → b ≡ Given y → r ≡ cellSum x y → r ≡ handedSum a b
   unfolding handedSum
   both-given y f g = rw (e, f) g
+
+-- Over the boundary and back.
+
+-- a double with the sign plus equals itself
+plus-same : (m : Float) → Plus m → eq m m ≡ true
+unfolding Plus eq
+plus-same (fin true m e) p = absurd (true≢false p)
+plus-same (fin false m e) p = rw (eqb-true-refl (m * up e * down e))
+  where
+    eqb-true-refl : (n : ℕ) → eqb n n ≡ true
+    eqb-true-refl n = eq-eqb n n refl
+
+-- a cell that is given back may be handed in, and is then the same
+pub handed-back : (c : Cell) → NoMinus c → cellHanded (cellNumbers c) ≡ Given c
+unfolding cellHanded cellNumbers NoMinus exactHanded
+handed-back Empty p = refl
+handed-back (Exact m) p = rw (plus-same m p)
+handed-back (Band low high) p = refl
+
+-- no cell is none
+none-handed : cellHanded noCell ≡ NoCell
+unfolding cellHanded noCell
+none-handed = refl
+
+pub row-none : (a : RowAnswer) → ¬ (rowNumbers a .number ≡ 0) → RowCellsNone (rowNumbers a)
+unfolding rowNumbers
+row-none (row.Cells v) n = absurd (n refl)
+row-none (row.Refused number place) n = record { urban = none-handed; rural = none-handed; highway = none-handed }
+
+pub row-given : {w : Words} {t : Travel} (a : RowAnswer) → RowPromise w t a → (v : RowCells) → a ≡ row.Cells v → RowCellsGiven v (rowNumbers a)
+unfolding rowNumbers
+row-given a p v e =
+    let q = p .cells v e in
+    rw e (record { urban = handed-back (v .urban) (q .urban .no-minus); rural = handed-back (v .rural) (q .rural .no-minus); highway = handed-back (v .highway) (q .highway .no-minus) })
+
+handed-promise : (a b : Handed) (x y : Cell) → a ≡ Given x → b ≡ Given y → SumPromise x y (handedSum a b)
+unfolding handedSum
+handed-promise a b x y e f = rw (e, f) (promised x y refl)
+
+handed-none : (a b : Handed) → (a ≡ NoCell) ⊎ (b ≡ NoCell) → handedSum a b ≡ sum.Refused 27 0
+unfolding handedSum
+handed-none a b (inl e) = rw e
+handed-none (Given x) b (inr e) = rw e
+handed-none NoCell b (inr e) = refl
+
+sum-none : (a : CellAnswer) → ¬ (sumNumbers a .number ≡ 0) → cellHanded (sumNumbers a .cell) ≡ NoCell
+unfolding sumNumbers
+sum-none (sum.Sum c) n = absurd (n refl)
+sum-none (sum.Refused number place) n = none-handed
+
+sum-back : (a b : Handed) (c : Cell) → handedSum a b ≡ sum.Sum c → NoMinus c
+unfolding handedSum
+sum-back (Given x) (Given y) c e = promised x y refl .cell c e .no-minus
+sum-back (Given x) NoCell c e = let z : _≡_ {A = ℕ} 0 1 = cc in absurd (omega arith)
+sum-back NoCell b c e = let z : _≡_ {A = ℕ} 0 1 = cc in absurd (omega arith)
+
+pub sum-numbers-kept : (a b : EvpCell) {r : EvpCellSum} → r ≡ sumNumbers (handedSum (cellHanded a) (cellHanded b)) → CellSumNumbers a b r
+unfolding sumNumbers
+sum-numbers-kept a b e =
+    let s = handedSum (cellHanded a) (cellHanded b) in
+    rw e
+    (record {
+      answer-is = refl;
+      promise = λ x y f g. handed-promise (cellHanded a) (cellHanded b) x y f g;
+      none = λ n. rw (handed-none (cellHanded a) (cellHanded b) n) (refl, refl);
+      refused = λ n. sum-none s n;
+      given = λ c f. let back = handed-back c (sum-back (cellHanded a) (cellHanded b) c f) in rw f back;
+    })

@@ -1,5 +1,6 @@
 -- Cells for a program in another language: numbers and doubles. Definitions only.
 use mathlib.Core.Bool.{cond, false}
+use mathlib.Core.Logic.{_⊎_}
 use mathlib.Core.Path.{_≡_}
 use lib.Dec.{eqb}
 use lib.IntN.{pos}
@@ -9,8 +10,10 @@ use Rattle.cells.specs.declared.Cell.the-variants.{Empty, Exact, Band}
 use Rattle.cells.specs.declared.CellAnswer.{CellAnswer}
 use Rattle.cells.specs.declared.CellAnswer.the-variants as sum
 use Rattle.cells.specs.Sums.{cellSum}
+use Rattle.cells.specs.Promise.{SumPromise}
 use Rattle.shares.specs.declared.Travel.{Travel}
 use Rattle.shares.specs.declared.Words.{Words}
+use Rattle.row_cells.specs.declared.RowCells.{RowCells}
 use Rattle.row_cells.specs.declared.RowAnswer.{RowAnswer}
 use Rattle.row_cells.specs.declared.RowAnswer.the-variants as row
 use Rattle.row_cells.specs.Promise.{RowPromise}
@@ -27,19 +30,18 @@ cellNumbers Empty = record { kind = 0; low = fin false 0 (pos 0); high = fin fal
 cellNumbers (Exact m) = record { kind = 1; low = m; high = m }
 cellNumbers (Band low high) = record { kind = 2; low = low; high = high }
 
--- number 0 where the cells are given; a refusal has empty cells
+-- kind 3 is no cell: it stands where a call refuses, and is refused where it is handed in
+unfoldable pub noCell : EvpCell
+noCell = record { kind = 3; low = fin false 0 (pos 0); high = fin false 0 (pos 0) }
+
+-- number 0 where the cells are given; a refusal has none
 unfoldable pub rowNumbers : RowAnswer → EvpRowCells
 rowNumbers (row.Cells v) = record { number = 0; place = 0; urban = cellNumbers (v .urban); rural = cellNumbers (v .rural); highway = cellNumbers (v .highway) }
-rowNumbers (row.Refused number place) = record { number = number; place = place; urban = cellNumbers Empty; rural = cellNumbers Empty; highway = cellNumbers Empty }
-
--- what holds after the call for a row, as `cells_of_row` has it in Rattle: the numbers are those of an answer that keeps the promise
-pub record RowCellsNumbers (w : Words) (t : Travel) (r : EvpRowCells) : Type 0 where
-  pub answer-is : r ≡ rowNumbers (rowAnswer w t)
-  pub promise : RowPromise w t (rowAnswer w t)
+rowNumbers (row.Refused number place) = record { number = number; place = place; urban = noCell; rural = noCell; highway = noCell }
 
 unfoldable pub sumNumbers : CellAnswer → EvpCellSum
 sumNumbers (sum.Sum c) = record { number = 0; place = 0; cell = cellNumbers c }
-sumNumbers (sum.Refused number place) = record { number = number; place = place; cell = cellNumbers Empty }
+sumNumbers (sum.Refused number place) = record { number = number; place = place; cell = noCell }
 
 -- one mass has it in both doubles
 unfoldable pub exactHanded : Float → Float → Handed
@@ -57,3 +59,31 @@ unfoldable pub handedSum : Handed → Handed → CellAnswer
 handedSum (Given a) (Given b) = cellSum a b
 handedSum (Given a) NoCell = sum.Refused 27 0
 handedSum NoCell b = sum.Refused 27 0
+
+-- "Neither writes a cell": what comes with a refusal cannot be handed in
+pub record RowCellsNone (r : EvpRowCells) : Type 0 where
+  pub urban : cellHanded (r .urban) ≡ NoCell
+  pub rural : cellHanded (r .rural) ≡ NoCell
+  pub highway : cellHanded (r .highway) ≡ NoCell
+
+-- what is given may be handed in, and is then the same cell
+pub record RowCellsGiven (v : RowCells) (r : EvpRowCells) : Type 0 where
+  pub urban : cellHanded (r .urban) ≡ Given (v .urban)
+  pub rural : cellHanded (r .rural) ≡ Given (v .rural)
+  pub highway : cellHanded (r .highway) ≡ Given (v .highway)
+
+-- what holds after the call for a row, as `cells_of_row` has it in Rattle: the numbers are those of an answer that keeps the promise
+pub record RowCellsNumbers (w : Words) (t : Travel) (r : EvpRowCells) : Type 0 where
+  pub answer-is : r ≡ rowNumbers (rowAnswer w t)
+  pub promise : RowPromise w t (rowAnswer w t)
+  pub refused : ¬ (r .number ≡ 0) → RowCellsNone r
+  pub given : (v : RowCells) → rowAnswer w t ≡ row.Cells v → RowCellsGiven v r
+
+-- what holds after the call for a sum: the numbers are those of the answer; the sum of two cells handed in keeps the promise of `add_cells`,
+-- and anything else is number 27; a refusal has no cell, and a cell that is given may be handed in again
+pub record CellSumNumbers (a b : EvpCell) (r : EvpCellSum) : Type 0 where
+  pub answer-is : r ≡ sumNumbers (handedSum (cellHanded a) (cellHanded b))
+  pub promise : (x y : Cell) → cellHanded a ≡ Given x → cellHanded b ≡ Given y → SumPromise x y (handedSum (cellHanded a) (cellHanded b))
+  pub none : (cellHanded a ≡ NoCell) ⊎ (cellHanded b ≡ NoCell) → (r .number ≡ 27) × (r .place ≡ 0)
+  pub refused : ¬ (r .number ≡ 0) → cellHanded (r .cell) ≡ NoCell
+  pub given : (c : Cell) → handedSum (cellHanded a) (cellHanded b) ≡ sum.Sum c → cellHanded (r .cell) ≡ Given c

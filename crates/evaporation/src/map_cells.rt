@@ -7,9 +7,9 @@ use row_cells::cells_of_row;
 use shares::Travel;
 use shares::Words;
 ghost use mathlib.Core.Path.{_≡_};
-ghost use Rattle.evaporation.specs.Cells.{cellNumbers, rowNumbers, RowCellsNumbers, sumNumbers, exactHanded, cellHanded, handedSum};
+ghost use Rattle.evaporation.specs.Cells.{cellNumbers, noCell, rowNumbers, RowCellsNumbers, sumNumbers, exactHanded, cellHanded, handedSum, CellSumNumbers};
 
-// A cell: kind 0 is empty, 1 one mass in both doubles, 2 a low and a high mass.
+// A cell: kind 0 is empty, 1 one mass in both doubles, 2 a low and a high mass. Kind 3 is no cell.
 #[repr(C)]
 pub struct EvpCell {
     pub kind: u64,
@@ -17,7 +17,7 @@ pub struct EvpCell {
     pub high: f64,
 }
 
-// A refusal's number and place, with three empty cells; number 0 where the cells are given.
+// A refusal's number and place, and no cells; number 0 where the cells are given.
 #[repr(C)]
 pub struct EvpRowCells {
     pub number: u64,
@@ -59,6 +59,17 @@ fn cell_numbers(c: Cell) -> EvpCell
     }
 }
 
+// What stands for a cell where there is none.
+fn no_cell() -> EvpCell
+    ensures { λ r. ⌜ r ≡ noCell ⌝ }
+{
+    EvpCell {
+        kind: 3,
+        low: 0.0,
+        high: 0.0,
+    }
+}
+
 fn row_numbers(a: RowAnswer) -> EvpRowCells
     ensures { λ r. ⌜ r ≡ rowNumbers a ⌝ }
 {
@@ -78,9 +89,9 @@ fn row_numbers(a: RowAnswer) -> EvpRowCells
         RowAnswer::Refused(number, place) => EvpRowCells {
             number,
             place,
-            urban: cell_numbers(Cell::Empty),
-            rural: cell_numbers(Cell::Empty),
-            highway: cell_numbers(Cell::Empty),
+            urban: no_cell(),
+            rural: no_cell(),
+            highway: no_cell(),
         },
     }
 }
@@ -97,7 +108,7 @@ fn sum_numbers(a: CellAnswer) -> EvpCellSum
         CellAnswer::Refused(number, place) => EvpCellSum {
             number,
             place,
-            cell: cell_numbers(Cell::Empty),
+            cell: no_cell(),
         },
     }
 }
@@ -152,7 +163,7 @@ pub extern "C" fn evp_cells_of_row(words: Words, travel: Travel) -> EvpRowCells
 // The sum of two cells.
 #[no_mangle]
 pub extern "C" fn evp_add_cells(a: EvpCell, b: EvpCell) -> EvpCellSum
-    ensures { λ r. ⌜ r ≡ sumNumbers (handedSum (cellHanded a) (cellHanded b)) ⌝ }
+    ensures { λ r. ⌜ CellSumNumbers a b r ⌝ }
 {
     sum_numbers(handed_sum(cell_handed(a), cell_handed(b)))
 }

@@ -2,6 +2,7 @@
 use borrow.Author.Needs.{needs}
 use mathlib.Core.Path.{ap, _∙_}
 use Rattle.evaporation.specs.Cells.{sumNumbers}
+use Rattle.evaporation.proofs.CellNumbers.{sum-numbers-kept}
 use Rattle.evaporation.proofs.map_cells.evp_add_cells.Statement.{statement}
 use Rattle.evaporation.proofs.map_cells.evp_add_cells.Tie as tie
 
@@ -9,7 +10,7 @@ returns : tie.Need-returns
 returns c =
     let e = c .before .before .before .cell-handed .ensures in
     let f = c .before .before .cell-handed2 .ensures in
-    c .sum-numbers .ensures ∙ ap sumNumbers (rw (e, f) at (c .before .handed-sum .ensures))
+    sum-numbers-kept _ _ (c .sum-numbers .ensures ∙ ap sumNumbers (rw (e, f) at (c .before .handed-sum .ensures)))
 
 pub evp-add-cells-spec : {M : Type 1} → statement M
 evp-add-cells-spec = tie.close (tie.spec (λ c κs. search needs) (λ c κs. search needs) (λ c κs. search needs) (λ c κs. search needs) returns)

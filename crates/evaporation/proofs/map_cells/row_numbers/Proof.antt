@@ -10,7 +10,7 @@ returns c =
 
 returns-2 : tie.Need-returns-2
 returns-2 c =
-    row-refused _ _ (c .before .before .before .before .a2 .given .1) (c .before .before .cell-numbers4 .ensures) (c .before .cell-numbers5 .ensures) (c .cell-numbers6 .ensures)
+    row-refused _ _ (c .before .before .before .before .a2 .given .1) (c .before .before .no-cell .ensures) (c .before .no-cell2 .ensures) (c .no-cell3 .ensures)
 
 pub row-numbers-spec : {M : Type 1} → statement M
 row-numbers-spec = tie.close (tie.spec (λ c. search needs) (λ c κs. search needs) (λ c κs. search needs) (λ c κs. search needs) (λ c. search needs) (λ c κs. search needs) (λ c κs. search needs) (λ c κs. search needs) returns returns-2)

@@ -8,7 +8,7 @@ returns : tie.Need-returns
 returns c = sum-cell _ (c .before .before .a .given .1) (c .cell-numbers .ensures)
 
 returns-2 : tie.Need-returns-2
-returns-2 c = sum-refused _ _ (c .before .before .a2 .given .1) (c .cell-numbers2 .ensures)
+returns-2 c = sum-refused _ _ (c .before .before .a2 .given .1) (c .no-cell .ensures)
 
 pub sum-numbers-spec : {M : Type 1} → statement M
 sum-numbers-spec = tie.close (tie.spec (λ c. search needs) (λ c κs. search needs) (λ c. search needs) (λ c κs. search needs) returns returns-2)
