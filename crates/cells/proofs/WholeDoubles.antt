@@ -1,19 +1,19 @@
 -- Doubles that are whole numbers: their sum, their comparison, and how a double handed in is recognised as one.
 use mathlib.Core.Path.{_≡_, refl, sym, ap, _∙_, subst}
 use mathlib.Core.Bool.{Bool, true, false, cond, not, _&&_, _||_, Bool·beq, true≢false, false≢true}
-use Prim.Native.Nat.{ℕ, zero, suc, _+_, _-_, _*_, _/_, _^_, _≤_, _<_}
-use native.Mathlib.Nat.{mul-pos, mul-div-cancel, eq-of-mul-eq-mul-right, zero-lt-suc, mul-le-mul-right}
+use Prim.Native.Nat.{ℕ, zero, suc, _+_, _-_, _*_, _/_, _%_, _^_, _≤_, _<_}
+use native.Mathlib.Nat.{mul-pos, mul-div-cancel, eq-of-mul-eq-mul-right, zero-lt-suc, mul-le-mul-right, zero-div}
 use native.Mathlib.Omega.{arith}
 use borrow.Author.Tests.{eqb-true, eqb-false, lt-ltb, eq-eqb, ne-eqb, not-false}
 use lib.Dec.{T, leb, eqb, le→leb, leb→le, eqb→eq, eqb-refl}
 use lib.IntN.{ℤ, pos}
-use lib.Ieee.{Float, nan, inf, fin, binary64, up, down, round, sum, add, ofInt, toUnsigned, inFloat, lt, eq}
+use lib.Ieee.{Float, nan, inf, fin, binary64, prec, low, hid, top, up, down, size, round, sum, add, ofInt, toUnsigned, toBits, inFloat, isNan, lt, eq}
 use lib.Ieee.Fits.{down-pos, and-l, and-r}
 use lib.Ieee.Exact.{HasValue}
 use lib.Ieee.Back.{round-whole}
 use lib.Ieee.Scale.{round-same}
 use Rattle.cells.specs.declared.Whole.the-variants.{Mass, Other}
-use Rattle.cells.specs.Doubles.{massLimit, double, wholeOf}
+use Rattle.cells.specs.Doubles.{massLimit, double, wholeOf, zeroBits}
 
 -- a whole number up to 2⁵³ is a double
 pub in-float : (n : ℕ) → n ≤ massLimit → T (inFloat binary64 (pos n))
@@ -203,6 +203,29 @@ none-unequal x k e t = none-of x (λ n h. false≢true (sym t ∙ ap (λ (j : �
 pub mass-equal : (x : Float) (k : ℕ) → k ≤ massLimit → eq (double k) x ≡ true → wholeOf x ≡ Mass k
 mass-equal x k h t = mass-of x k (eq-whole x k h t)
 
+-- the bits of 0, plus or minus
+bits-of-zero : (s : Bool) (n : ℕ) → n ≡ 0
+    → cond s (top binary64) 0 + (size n - prec binary64) * hid binary64 + n / 2 ^ (size n - prec binary64) ≡ cond s (2 ^ 63) 0
+unfolding size
+bits-of-zero true n e = rw e refl
+bits-of-zero false n e = rw e refl
+
+zero-bits : (x : Float) → IsWhole x 0 → zeroBits x ≡ true
+unfolding zeroBits toBits
+zero-bits (fin s m e) h =
+    let none : m * up e ≡ 0 = omega (arith, h .0) in
+    let small : m * up e * 2 ^ low binary64 / down e ≡ 0 = rw none (zero-div (down e)) in
+    rw (bits-of-zero s _ small) (either-zero s)
+  where
+    either-zero : (s : Bool) → leb (1023 * 2 ^ 52) ((cond s (2 ^ 63) 0 % 2 ^ 63 + (2 ^ 63 - 1)) % 2 ^ 63) ≡ true
+    either-zero true = refl
+    either-zero false = refl
+
+-- what is cut to 0 and has other bits is a fraction
+pub none-small : (x : Float) (k : ℕ) → k ≡ toUnsigned 64 x → k ≡ 0 → zeroBits x ≡ false → wholeOf x ≡ Other
+none-small x k e z t =
+    none-of x (λ n h. let same : n ≡ 0 = omega (arith, cut-is x n h) in false≢true (sym t ∙ zero-bits x (rw same at h)))
+
 -- where a failed test is negated, the double passes
 pub passes-above : (x : Float) → not (lt (fin true 1 (pos 0)) x) ≡ false → T (lt (fin true 1 (pos 0)) x)
 passes-above x e = subst T (sym (not-false (lt (fin true 1 (pos 0)) x) e)) tt
@@ -263,3 +286,10 @@ double-eq m n h k = go (double n) (double-value n k)
     go (fin false b d) v =
         same-value (double m) m false b d (double-value m h) ∙
         strip (eqb (b * up d) (m * down d)) (eqb m n) (cross (b * up d) (down d) n m (down-pos d) (v .1))
+
+-- what is above −1 is no NaN
+pub above-no-nan : (x : Float) → T (lt (fin true 1 (pos 0)) x) → T (not (isNan x))
+unfolding lt isNan
+above-no-nan nan t = absurd t
+above-no-nan (inf s) t = tt
+above-no-nan (fin s m e) t = tt

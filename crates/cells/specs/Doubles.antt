@@ -1,9 +1,9 @@
 -- Doubles that are whole numbers of milligrams. Definitions only.
-use mathlib.Core.Bool.{cond, not, _&&_, _||_}
-use Prim.Native.Nat.{ℕ, _*_, _/_, _^_}
+use mathlib.Core.Bool.{Bool, cond, not, _&&_, _||_}
+use Prim.Native.Nat.{ℕ, _+_, _*_, _-_, _/_, _%_, _^_}
 use lib.Dec.{leb, eqb}
 use lib.IntN.{pos}
-use lib.Ieee.{Float, nan, inf, fin, binary64, up, down, ofInt}
+use lib.Ieee.{Float, nan, inf, fin, binary64, up, down, ofInt, toBits}
 use Rattle.cells.specs.declared.Whole.{Whole}
 use Rattle.cells.specs.declared.Whole.the-variants.{Mass, Other}
 
@@ -23,3 +23,8 @@ wholeOf (inf s) = Other
 wholeOf (fin s m e) =
     let n = m * up e / down e in
     cond (eqb (m * up e) (n * down e) && leb n massLimit && (not s || eqb n 0)) (Mass n) Other
+
+-- For the code alone, which holds a double below 1 against 0 by its bits too: those of 0, plus or minus, are 0 and 2⁶³, and those of 1 are
+-- 1023·2⁵².
+unfoldable pub zeroBits : Float → Bool
+zeroBits x = leb (1023 * 2 ^ 52) ((toBits binary64 x % 2 ^ 63 + (2 ^ 63 - 1)) % 2 ^ 63)
