@@ -1,3 +1,4 @@
 pub mod Counts
 pub mod Conditions
 pub mod Kept
+pub mod Course

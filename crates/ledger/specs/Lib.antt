@@ -1,3 +1,4 @@
 pub mod Machine
 pub mod Ledger
 pub mod Kept
+pub mod Course

@@ -30,6 +30,8 @@ use Rattle.rights.specs.Calls.{ownerOf, mayRead, mayTotal, changeCheck, 
 use Rattle.rights.specs.Told.{Ask, change, readRow, readTotals, ofRow, ofTotals, reply, leaves, afterAsk, runAsks, ifPassed, passed, SharedTheorem}
 use Rattle.rights.proofs.Conditions.{shared-report}
 use Rattle.rights.proofs.Changed.{shared-still}
+use Rattle.rights.proofs.Holdings.{held-most}
+use Rattle.rights.proofs.Quiet.{fleet-quiet}
 
 -- What holds of a shared ledger after any list of calls.
 pub record SharedInv (s owners w : List ℕ) (x : Ledger) : Type 0 where
@@ -151,4 +153,6 @@ shared-kept s owners w bytes h asks =
       opens = good .shared;
       row-read = row-read s owners w x good;
       totals-read = totals-read s owners w x good;
+      vehicles-most = λ who. held-most (x .sheet) owners (length (x .words)) (good .shared) who (rowsOf (x .sheet)) (omega arith);
+      fleet-free = λ row k l. fleet-quiet (x .sheet) owners (length (x .words)) (good .shared) row k l;
     }

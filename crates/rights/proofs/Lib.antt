@@ -5,3 +5,4 @@ pub mod Changed
 pub mod Kept
 pub mod Isolation
 pub mod Runs
+pub mod Course

@@ -8,6 +8,7 @@ use native.Mathlib.Omega.{arith}
 use borrow.Author.Tests.{ltb-false, le-ltb, lt-leb}
 use lib.Dec.{leb, ltb}
 use lib.ListN.{length}
+use Rattle.numbers.specs.Lists.{at}
 use Rattle.exact.specs.Factors.{total}
 use Rattle.sheet.specs.Limits.{vehiclesLimit, fleetLimit}
 use Rattle.sheet.specs.declared.Check.the-variants.{Pass}
@@ -46,3 +47,7 @@ module _ (s owners : List ℕ) (room : ℕ) (h : sharedCheck s owners room ≡ P
   wrong-is call l =
       let there : leb (length (countsOf s)) (rowOf call) ≡ false = lt-leb (length (countsOf s)) (rowOf call) (omega (arith, counts-length s)) in
       rw (there, count-at s (rowOf call) l) (quiet (hasManyRows s) (total (countsOf s)) ((rowAt s (rowOf call)) .vehicles) call (rw (total-counts s) (fleet-held s owners room h)))
+
+  -- the same in plain arithmetic
+  pub fleet-quiet : (row k : ℕ) → at (countsOf s) row + k ≤ vehiclesLimit → total (countsOf s) + k ≤ fleetLimit
+  fleet-quiet row k l = omega (arith, total-counts s, fleet-held s owners room h)

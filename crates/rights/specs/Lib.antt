@@ -1,3 +1,4 @@
 pub mod Opening
 pub mod Calls
 pub mod Told
+pub mod Course

@@ -2,12 +2,14 @@
 use mathlib.Core.Bool.{true, false}
 use mathlib.Core.List.{List, [], _∷_}
 use mathlib.Core.Path.{_≡_}
-use Prim.Native.Nat.{ℕ, _*_, _<_}
+use Prim.Native.Nat.{ℕ, _+_, _*_, _≤_, _<_}
 use lib.Dec.{eqb}
 use lib.ListN.{length}
 use Rattle.numbers.specs.Lists.{at}
 use Rattle.sheet.specs.declared.Check.{Check}
 use Rattle.sheet.specs.declared.Check.the-variants.{Pass, Refused}
+use Rattle.exact.specs.Factors.{total}
+use Rattle.sheet.specs.Limits.{vehiclesLimit, fleetLimit}
 use Rattle.sheet.specs.Integers.{u8At}
 use Rattle.sheet.specs.Bytes.{rowsOf, cellsOf, seasonList, rowAt}
 use Rattle.sheet.specs.Counts.{countsOf}
@@ -17,7 +19,7 @@ use Rattle.ledger.specs.Ledger.{Ledger, after, opened, run}
 use Rattle.ledger.specs.Kept.{Kept}
 use Rattle.rights.specs.declared.RowAnswer.{RowAnswer}
 use Rattle.rights.specs.declared.TotalsAnswer.{TotalsAnswer}
-use Rattle.rights.specs.Opening.{sharedCheck}
+use Rattle.rights.specs.Opening.{vehiclesEach, vehiclesHeld, sharedCheck}
 use Rattle.rights.specs.Calls.{ownerOf, mayRead, changeCheck, wordsFrom, rowTold, rowAnswer, totalsTold, totalsAnswer}
 
 -- who asks, and for what
@@ -107,6 +109,10 @@ pub record SharedKept (s owners w : List ℕ) (asks : List Ask) (x : Ledger) : T
   pub row-read : (who i : ℕ) → i < rowsOf s → mayRead s owners who i ≡ true
       → reply owners x (readRow who i) ≡ ofRow (rowTold Pass (at (countsOf (x .sheet)) i) (wordsOf (x .sheet) i))
   pub totals-read : reply owners x (readTotals 0) ≡ ofTotals (totalsTold Pass (wordsFrom (report (x .sheet)) (6 * rowsOf s) 26))
+  -- "Every participant has at most .. 10,000,000 vehicles",
+  pub vehicles-most : (who : ℕ) → vehiclesHeld (x .sheet) owners who (rowsOf (x .sheet)) ≤ vehiclesEach
+  -- "so the common vehicle limit cannot refuse anyone": an arrival that number 16's limit lets pass is within number 26's
+  pub fleet-free : (row k : ℕ) → at (countsOf (x .sheet)) row + k ≤ vehiclesLimit → total (countsOf (x .sheet)) + k ≤ fleetLimit
 
 abbrev pub SharedTheorem : Type 0
 SharedTheorem = (s owners w : List ℕ) → ((k : ℕ) → u8At s k < 256) → sharedCheck s owners (length w) ≡ Pass
