@@ -18,3 +18,4 @@ pub mod Weights
 pub mod Line
 pub mod Units
 pub mod Tangent
+pub mod Laws

@@ -149,6 +149,16 @@ rising K = ratio K (2 * 10 ^ 14) double-unit-pos
 unfoldable pub along : ℕ → ℕ → Fraction → Fraction
 along A K m = exponent A +ᶠ rising K *ᶠ m
 
+-- a and b, as they are held
+pub along-is : (A K : ℕ) (m : Fraction) {a b : Fraction} → a ≈ᶠ exponent A → b ≈ᶠ rising K → a +ᶠ b *ᶠ m ≈ᶠ along A K m
+unfolding along
+along-is A K m ea eb = +-cong ea (*-cong eb (≈-refl m))
+
+-- at a decimal number of tenths it is compared in whole numbers
+pub along-≤ : (limit A K m : ℕ) → 20 * A + K * m ≤ (320 + 20 * limit) * 10 ^ 14 → along A K (m /10^ 1) ≤ᶠ whole limit
+unfolding along ratio whole _/10^_ _+ᶠ_ _*ᶠ_
+along-≤ limit A K m h = omega arith
+
 -- it grows with m
 pub along-mono : (A K : ℕ) {m m' : Fraction} → m ≤ᶠ m' → along A K m ≤ᶠ along A K m'
 unfolding along

@@ -10,6 +10,7 @@ use native.Mathlib.Nat.{mul-le-mul, mul-le-mul-right, div-mul-le-self, lt-div-mu
 use lib.Dec.{leb}
 use borrow.Author.Tests.{leb-true, leb-false, le-leb, lt-leb}
 use Rattle.numbers.specs.Fraction.{Fraction, _≤ᶠ_, _<ᶠ_, _*ᶠ_, _^ᶠ_, whole, _≤?_}
+use Rattle.numbers.proofs.Order.{NonNegative, test-cases}
 use Rattle.bounds.specs.Series.{rootFrom, root, cutRoot, power2·5, two-pos}
 
 -- the larger square has the larger root
@@ -166,3 +167,10 @@ pub power2·5-below : (n : ℕ) {t : Fraction} → t <ᶠ whole 0 → power2·5 
 unfolding power2·5 _≤?_
 power2·5-below n {t} h =
     ap (λ (c : Bool). elim c [ true ↦ cutRoot n (t ^ᶠ 5) | false ↦ whole 0 ]) (lt-leb _ _ (h .cross))
+
+-- 0 ≤ T^2.5
+pub power2·5-nonNegative : (n : ℕ) (t : Fraction) → NonNegative (power2·5 n t)
+unfolding power2·5 cutRoot whole
+power2·5-nonNegative n t =
+    test-cases (λ (c : Bool). NonNegative (elim c [ true ↦ cutRoot n (t ^ᶠ 5) | false ↦ whole 0 ])) (whole 0) t
+    (λ h. record { nonneg = omega arith }) (λ h. record { nonneg = omega arith })

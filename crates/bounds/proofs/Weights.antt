@@ -1,12 +1,12 @@
 -- Each hourly weight is the whole number nearest to 10⁹·E(−0.0247·d²), d the hours of the shorter way to 14:00, for every n of 40 or more: one
 -- test over the 48 weights, and the law that carries it to every n. And the curve runs round the day unbroken.
-use mathlib.Core.Bool.{Bool}
+use mathlib.Core.Bool.{Bool, true, false, _&&_, Bool·beq}
 use mathlib.Core.Path.{_≡_, refl}
 use Prim.Native.Nat.{ℕ, suc, _+_, _*_, _-_, _%_, _^_, _≤_, _<_}
 use native.Mathlib.Omega.{arith}
 use native.Mathlib.Decide.{decLe}
 use native.Mathlib.Nat.{mul-le-mul, mul-le-mul-right, le-of-mul-le-mul-right, zero-sub, sub-zero}
-use lib.Dec.{T, lit<, leb, leb→le, eqb, eqb→eq}
+use lib.Dec.{T, lit<, leb, ltb, leb→le, eqb, eqb→eq}
 use lib.ListN.{getD, replicate, List·getD-eq-default}
 use Rattle.numbers.specs.Fraction.{Fraction, _≤ᶠ_, _≈ᶠ_, _+ᶠ_, negᶠ, _-ᶠ_, _*ᶠ_, _^ᶠ_, whole, _/10^_, _over_}
 use Rattle.bounds.specs.Series.{E}
@@ -143,3 +143,17 @@ riseTest k unused = leb (suc (w (4 + k))) (w (4 + k + 1))
 pub rises : (k : ℕ) → k < 24 → w (4 + k) < w (4 + k + 1)
 unfolding weights riseTest
 rises k h = leb→le _ _ (at riseTest (replicate 24 0) tt k h)
+
+-- so from a mark to the next the weight rises just from mark 4 to mark 28
+wayTest : ℕ → ℕ → Bool
+wayTest i unused = Bool·beq (leb (w i) (w ((i + 1) % 48))) (leb 4 i && ltb i 28)
+
+pub rises-where : (i : ℕ) → i < 48 → leb (w i) (w ((i + 1) % 48)) ≡ (leb 4 i && ltb i 28)
+unfolding weights wayTest
+rises-where i h = same _ _ (at wayTest (replicate 48 0) tt i h)
+  where
+    same : (a b : Bool) → T (Bool·beq a b) → a ≡ b
+    same true true t = refl
+    same true false t = absurd t
+    same false true t = absurd t
+    same false false t = refl

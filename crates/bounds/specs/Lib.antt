@@ -3,3 +3,4 @@ pub mod Enclosure
 pub mod Exponential
 pub mod Power
 pub mod Weights
+pub mod Laws

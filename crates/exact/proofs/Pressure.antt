@@ -3,10 +3,11 @@
 use mathlib.Core.Bool.{Bool, true, false}
 use Prim.Native.Nat.{ℕ, suc, zero, _≤_}
 use native.Mathlib.Omega.{arith}
-use Rattle.numbers.specs.Fraction.{Fraction, _≤ᶠ_, _-ᶠ_, _*ᶠ_, _^ᶠ_, whole, _/10^_}
+use Rattle.numbers.specs.Fraction.{Fraction, _≤ᶠ_, _-ᶠ_, _*ᶠ_, whole, _/10^_}
 use Rattle.numbers.proofs.Order.{NonNegative, ≤-refl, test-cases, decimal-nonNegative, +-mono, +-nonNegative, sub-nonNegative, *-nonNegative, *-mono-left, *-mono-right}
-use Rattle.bounds.specs.Series.{E, cutRoot, power2·5}
+use Rattle.bounds.specs.Series.{E}
 use Rattle.bounds.proofs.Exponential.{E-mono}
+use Rattle.bounds.proofs.Root.{power2·5-nonNegative}
 use Rattle.exact.specs.Day.{startMark}
 use Rattle.exact.specs.Vapour.{vapour, stepVapour, parkingVapour}
 use Rattle.exact.specs.Permeation.{bracket, permeation, markRates, parkingPermeation}
@@ -16,16 +17,9 @@ pub rest-nonNegative : {k : ℕ} → k ≤ 100 → NonNegative (whole 1 -ᶠ k /
 unfolding whole _/10^_
 rest-nonNegative h = sub-nonNegative (record { cross = omega arith })
 
--- 0 ≤ T^2.5
-power-nonNegative : (n : ℕ) (T : Fraction) → NonNegative (power2·5 n T)
-unfolding power2·5 cutRoot whole
-power-nonNegative n T =
-    test-cases (λ (c : Bool). NonNegative (elim c [ true ↦ cutRoot n (T ^ᶠ 5) | false ↦ whole 0 ])) (whole 0) T
-    (λ h. record { nonneg = omega arith }) (λ h. record { nonneg = omega arith })
-
 bracket-nonNegative : (n : ℕ) (T : Fraction) → NonNegative (bracket n T)
 unfolding bracket
-bracket-nonNegative n T = +-nonNegative (*-nonNegative (decimal-nonNegative 61656 10) (power-nonNegative n T)) (decimal-nonNegative 206 4)
+bracket-nonNegative n T = +-nonNegative (*-nonNegative (decimal-nonNegative 61656 10) (power2·5-nonNegative n T)) (decimal-nonNegative 206 4)
 
 -- two pressures in kPa
 module _ (n : ℕ) {p q : Fraction} (l : p ≤ᶠ q) where

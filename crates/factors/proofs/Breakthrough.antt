@@ -9,7 +9,7 @@ use Rattle.bounds.specs.Enclosure.{Within}
 use Rattle.bounds.specs.Exponential.{exponent}
 use Rattle.numbers.proofs.Order.{NonNegative, nonNegative-up, test-cases, ≤-refl, ≤-trans, ≤-by, ≈-refl, ≈-sym, ≈-trans, ≈→≥, +-mono, +-cong, +-assoc, +-zero, +-grows, *-mono-right, *-cong, ratio-nonNegative}
 use Rattle.bounds.proofs.Exponential.{E-cong, E-mono}
-use Rattle.bounds.proofs.Line.{Slope, double-unit-pos, rising, along, along-mono, line-within}
+use Rattle.bounds.proofs.Line.{Slope, double-unit-pos, rising, along, along-is, along-mono, line-within}
 use Rattle.bounds.proofs.Within.{widen, weaken, within-≈, within-nonNegative, +-within, sub-within}
 use Rattle.exact.specs.Canister.{a, b, curve, B, breakthrough}
 use Rattle.factors.specs.Escape.{loss, breakUnits}
@@ -57,8 +57,8 @@ module _ (sl : Slope) (n A K : ℕ) {σ : ℕ} (vp s saturation T : Fraction) (n
   where
     -- the curve is E of that exponent
     curve-is : (m : Fraction) → curve n vp s saturation T m ≈ᶠ E n (along A K m)
-    unfolding curve along
-    curve-is m = E-cong n (+-cong ea (*-cong eb (≈-refl m)))
+    unfolding curve
+    curve-is m = E-cong n (along-is A K m ea eb)
 
     -- B(m) for a load that is known within w
     pub loss-within : {l w : ℕ} {m : Fraction} → 1 ≤ w → Within (2 ^ 40) l w m → Within (2 ^ 40) (loss A K σ l) (lossWidth sl w) (B n vp s saturation T m)

@@ -14,7 +14,7 @@ use Rattle.bounds.specs.Exponential.{exponent}
 use Rattle.bounds.specs.Power.{degrees}
 use Rattle.numbers.proofs.Order.{≈-refl, ≈-trans, +-cong, *-cong, ratio}
 use Rattle.bounds.proofs.Within.{decimal-cut}
-use Rattle.bounds.proofs.Line.{slopeTo0, slopeTo3, rising, along}
+use Rattle.bounds.proofs.Line.{slopeTo0, slopeTo3, rising, along, along-≤}
 use Rattle.exact.specs.declared.Canister.{Canister}
 use Rattle.exact.specs.declared.Canister.the-variants.{None, Small, Medium, Large}
 use Rattle.exact.specs.declared.Season.{Season}
@@ -89,11 +89,6 @@ growth-most c vp θ h =
 pub tenthGrams-within : (m : ℕ) → Within (2 ^ 40) (tenthGrams m) 1 (m /10^ 1)
 unfolding tenthGrams
 tenthGrams-within m = decimal-cut (2 ^ 40) m 1
-
--- a + b·s·m ≤ limit as a comparison of whole numbers
-along-≤ : (limit A K m : ℕ) → 20 * A + K * m ≤ (320 + 20 * limit) * 10 ^ 14 → along A K (m /10^ 1) ≤ᶠ whole limit
-unfolding along ratio whole _/10^_ _+ᶠ_ _*ᶠ_
-along-≤ limit A K m h = omega arith
 
 -- checks 20 and 25 at the highest temperature, carried to a lower one
 lower-exponent : (limit : ℕ) (c : Canister) (vp θ h m : ℕ) → vp ≤ vpLimit → θ ≤ h * 10 ^ 9

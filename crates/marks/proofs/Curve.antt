@@ -1,15 +1,16 @@
--- The shape of a season's day is that of the hourly weights, and a parking has at most `runsMost` runs of rising steps in it: one computed
--- test over the weights, for all end hours and durations. Nothing else is known of the curve. So the rise of a parking is enclosed.
+-- The shape of a season's day is that of the hourly weights, which rise once, and a parking has at most `runsMost` runs of rising steps in it:
+-- one computed test, for all end hours and durations. Nothing else is known of the curve. So the rise of a parking is enclosed.
 -- Assumes nothing.
-use mathlib.Core.Bool.{Bool, true, false}
+use mathlib.Core.Bool.{Bool, true, false, _&&_}
 use mathlib.Core.Path.{_≡_, refl, sym, _∙_, ap}
 use Prim.Native.Nat.{ℕ, suc, zero, _+_, _*_, _-_, _^_, _%_, _≤_, _<_}
 use native.Mathlib.Omega.{arith}
 use native.Mathlib.Decide.{decLe}
 use native.Mathlib.Nat.{mul-le-mul-left}
-use lib.Dec.{T, leb, leb→le}
+use lib.Dec.{T, leb, ltb, leb→le}
 use borrow.Author.Tests.{leb-true, leb-false}
-use Rattle.bounds.specs.Weights.{weights, w}
+use Rattle.bounds.specs.Weights.{w}
+use Rattle.bounds.proofs.Weights.{rises-where}
 use Rattle.bounds.specs.Enclosure.{WithinAll}
 use Rattle.bounds.specs.Power.{degrees}
 use Rattle.bounds.proofs.Table.{both, both-left, both-right}
@@ -47,12 +48,16 @@ below-at f (suc n) t k l =
       | no h ↦ below-at f n (both-right (f n) (allBelow f n) t) k (omega arith)
     ]
 
+-- the weights rise from mark 4 to mark 28
+day : ℕ → Bool
+day i = leb 4 i && ltb i 28
+
 -- few runs, for the 24 end hours and for up to 24 half-hours
 fewRuns : ℕ → ℕ → Bool
-fewRuns hour d = leb (runs false (rising w) hour d) runsMost
+fewRuns hour d = leb (runs false day hour d) runsMost
 
 all-pass : T (allBelow (λ (hour : ℕ). allBelow (fewRuns hour) 25) 24)
-unfolding fewRuns runs startMark weights
+unfolding fewRuns runs startMark day
 all-pass = tt
 
 -- the hours of the day come again
@@ -60,32 +65,44 @@ same-mark : (hour d : ℕ) → d ≤ 48 → startMark hour d ≡ startMark (hour
 unfolding startMark
 same-mark hour d l = omega arith
 
-same-runs : (up : ℕ → Bool) (hour d : ℕ) → d ≤ 48
-    → (runs true up hour d ≡ runs true up (hour % 24) d) × (runs false up hour d ≡ runs false up (hour % 24) d)
+mark-below : (hour d : ℕ) → startMark hour d < 48
+unfolding startMark
+mark-below hour d = omega arith
+
+-- the runs of two parkings are the same where their marks are
+same-runs : (up up' : ℕ → Bool) (hour hour' d : ℕ) → ((k : ℕ) → k ≤ d → up (startMark hour k) ≡ up' (startMark hour' k))
+    → (runs true up hour d ≡ runs true up' hour' d) × (runs false up hour d ≡ runs false up' hour' d)
 unfolding runs
-same-runs up hour zero l = (refl, refl)
-same-runs up hour (suc d) l = case (up (startMark hour (suc d))) refl (same-runs up hour d (omega arith))
+same-runs up up' hour hour' zero e = (refl, refl)
+same-runs up up' hour hour' (suc d) e = case (up (startMark hour (suc d))) refl (same-runs up up' hour hour' d (λ k l. e k (omega arith)))
   where
-    there : (c : Bool) → up (startMark hour (suc d)) ≡ c → up (startMark (hour % 24) (suc d)) ≡ c
-    there c e = sym (ap up (same-mark hour (suc d) l)) ∙ e
+    there : (c : Bool) → up (startMark hour (suc d)) ≡ c → up' (startMark hour' (suc d)) ≡ c
+    there c h = sym (e (suc d) (omega arith)) ∙ h
 
     case : (c : Bool) → up (startMark hour (suc d)) ≡ c
-        → (runs true up hour d ≡ runs true up (hour % 24) d) × (runs false up hour d ≡ runs false up (hour % 24) d)
-        → (runs true up hour (suc d) ≡ runs true up (hour % 24) (suc d)) × (runs false up hour (suc d) ≡ runs false up (hour % 24) (suc d))
-    case true e (ended, all) = (
-      rw (runs-up up hour d e .0, runs-up up (hour % 24) d (there true e) .0) ended,
-      rw (runs-up up hour d e .1, runs-up up (hour % 24) d (there true e) .1) (ap suc ended),
+        → (runs true up hour d ≡ runs true up' hour' d) × (runs false up hour d ≡ runs false up' hour' d)
+        → (runs true up hour (suc d) ≡ runs true up' hour' (suc d)) × (runs false up hour (suc d) ≡ runs false up' hour' (suc d))
+    case true h (ended, all) = (
+      rw (runs-up up hour d h .0, runs-up up' hour' d (there true h) .0) ended,
+      rw (runs-up up hour d h .1, runs-up up' hour' d (there true h) .1) (ap suc ended),
     )
-    case false e (ended, all) = (
-      rw (runs-down up hour d e .0, runs-down up (hour % 24) d (there false e) .0) all,
-      rw (runs-down up hour d e .1, runs-down up (hour % 24) d (there false e) .1) all,
+    case false h (ended, all) = (
+      rw (runs-down up hour d h .0, runs-down up' hour' d (there false h) .0) all,
+      rw (runs-down up hour d h .1, runs-down up' hour' d (there false h) .1) all,
     )
+
+-- in a season's day, at any end hour
+day-runs : (hour d : ℕ) → d ≤ 24 → runs false (rising w) hour d ≡ runs false day (hour % 24) d
+unfolding day
+day-runs hour d l =
+    same-runs (rising w) day hour (hour % 24) d
+    (λ k m. ap (rising w) (same-mark hour k (omega arith)) ∙ rises-where (startMark (hour % 24) k) (mark-below (hour % 24) k)) .1
 
 -- a parking of at most 12 hours has at most that many runs
 runs-most : (hour d : ℕ) → d ≤ 24 → runs false (rising w) hour d ≤ runsMost
 unfolding fewRuns
 runs-most hour d l =
-    rw (same-runs (rising w) hour d (omega arith) .1)
+    rw (day-runs hour d l)
     (leb→le _ _ (below-at (fewRuns (hour % 24)) 25 (below-at (λ (h : ℕ). allBelow (fewRuns h) 25) 24 all-pass (hour % 24) (omega arith)) d (omega arith)))
 
 module _ {season : Season} (s : SeasonInRange season) (hour d : ℕ) (l : d ≤ 24) where

@@ -15,7 +15,7 @@ use Rattle.bounds.proofs.Exponential.{E-cong, E-mono, E-positive}
 use Rattle.bounds.proofs.Sums.{E-most-1}
 use Rattle.bounds.proofs.Within.{within-above, within-below, within-from, within-nonNegative, whole-within}
 use Rattle.bounds.proofs.Units.{unit-pos, units, units-≤, units-sum, units-fold}
-use Rattle.bounds.proofs.Line.{rising, along, along-mono}
+use Rattle.bounds.proofs.Line.{rising, along, along-is, along-mono}
 use Rattle.exact.specs.Canister.{a, b}
 use Rattle.exact.specs.Mileage.{multiple, multiples, g, startingLoad}
 use Rattle.exact.proofs.Smallest.{Reaches, IsStart, smallest, none-reaches, startingLoad-is, multiple-≤, multiple-next}
@@ -62,8 +62,8 @@ module _ (n A K : ℕ) {σ : ℕ} (vp s saturation T : Fraction) (n40 : 40 ≤ n
   where
     -- g = m − E(a + b·s·m), as a and b·s are held
     g-is : (m : Fraction) → g n vp s T m ≈ᶠ m -ᶠ lost n A K m
-    unfolding g along
-    g-is m = sub-cong (≈-refl m) (E-cong n (+-cong ea (*-cong eb (≈-refl m))))
+    unfolding g
+    g-is m = sub-cong (≈-refl m) (E-cong n (along-is A K m ea eb))
 
     -- a load that reaches M
     reaching : (m : Fraction) → Reaches n vp s T M saturation m → lost n A K m +ᶠ units G ≤ᶠ m
