@@ -8,9 +8,9 @@ use Rattle.sheet.specs.declared.Check.the-variants.{Pass}
 use Rattle.sheet.specs.Sheet.{sheetCheck}
 use Rattle.sheet.proofs.Alike.{Alike, alike}
 use Rattle.sheet.proofs.SameGrid.{grid-accepted, grid-alike}
-use Rattle.sheet.proofs.NextVersion.{next-accepted, next-alike}
+use Rattle.sheet.proofs.NextVersion.{next-accepted, next-alike, fourth-accepted, fourth-alike}
 use Rattle.inventory.specs.SameGrid.{SameInventory, GridTheorem}
-use Rattle.inventory.specs.NextVersion.{VersionTheorem}
+use Rattle.inventory.specs.NextVersion.{VersionTheorem, FourthTheorem}
 use Rattle.inventory.specs.ByClass.{ClassTheorem}
 use Rattle.inventory.proofs.CallsAlike.{factor-alike, report-check-alike, report-alike}
 
@@ -32,6 +32,9 @@ same-grid s t g h = same-inventory (grid-alike g h) (grid-accepted g h)
 
 pub same-version : VersionTheorem
 same-version s t next h = same-inventory (next-alike next h) (next-accepted next h)
+
+pub same-fourth : FourthTheorem
+same-fourth s t next h fleet = same-inventory (fourth-alike next h fleet) (fourth-accepted next h fleet)
 
 pub same-by-class : ClassTheorem
 same-by-class s t i c tank fitted w =

@@ -1,15 +1,16 @@
--- What version 3 leaves as it was: "In version 3 (version 2 otherwise) row bytes 20 to 23 are a u32 mileage M in km; 0 keeps the written
+-- What versions 3 and 4 leave as it was: "In version 3 (version 2 otherwise) row bytes 20 to 23 are a u32 mileage M in km; 0 keeps the written
 -- load." Definitions only.
 use mathlib.Core.Path.{_≡_}
 use mathlib.Core.List.{List}
-use Prim.Native.Nat.{ℕ, _+_, _*_, _<_}
+use Prim.Native.Nat.{ℕ, _+_, _*_, _≤_, _<_}
 use lib.ListN.{getD}
 use Rattle.exact.specs.Factors.{Factor, factor}
 use Rattle.exact.specs.Masses.{Mechanism, mass}
 use Rattle.sheet.specs.declared.Check.the-variants.{Pass}
-use Rattle.sheet.specs.Bytes.{seasonsOf, cellsOf, seasonAt, seasonList, rowAt}
-use Rattle.sheet.specs.Sheet.{sheetCheck}
-use Rattle.sheet.specs.NextVersion.{NextVersion, SameRow}
+use Rattle.sheet.specs.Limits.{fleetLimit}
+use Rattle.sheet.specs.Bytes.{seasonsOf, rowsOf, cellsOf, seasonAt, seasonList, rowAt}
+use Rattle.sheet.specs.Sheet.{vehiclesBefore, sheetCheck}
+use Rattle.sheet.specs.NextVersion.{NextVersion, SameRow, FourthVersion}
 use Rattle.report_words.specs.Report.{report}
 use Rattle.inventory.specs.FactorCall.{factorAnswer}
 use Rattle.inventory.specs.SameGrid.{SameInventory}
@@ -32,3 +33,8 @@ RowTheorem = (s t : List ℕ) (i j : ℕ) → SameRow s t i j → sheetCheck s �
 -- and every accepted version 2 sheet is accepted in version 3, with the same inventory
 abbrev pub VersionTheorem : Type 0
 VersionTheorem = (s t : List ℕ) → NextVersion s t → sheetCheck s ≡ Pass → SameInventory s t
+
+-- "Version 4 is version 3 with bytes 6 and 7 as a u16 row count .. In version 4 the vehicles of all rows together are at most 100,000,000":
+-- every accepted version 3 sheet with no more vehicles than that is accepted in version 4, with the same inventory
+abbrev pub FourthTheorem : Type 0
+FourthTheorem = (s t : List ℕ) → FourthVersion s t → sheetCheck s ≡ Pass → vehiclesBefore s (rowsOf s) ≤ fleetLimit → SameInventory s t

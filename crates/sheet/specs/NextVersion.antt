@@ -25,3 +25,12 @@ pub record SameRow (s t : List ℕ) (i j : ℕ) : Type 0 where
   pub seasons : seasonsOf t ≡ seasonsOf s
   pub parking-and-seasons : (k : ℕ) → k < 1152 + 8 * seasonsOf s → u8At t (8 + k) ≡ u8At s (8 + k)
   pub row : (k : ℕ) → k < 24 → u8At t (rowPlace t j + k) ≡ u8At s (rowPlace s i + k)
+
+-- t is s in version 4: all bytes but the two of the version are the same. "Version 4 is version 3 with bytes 6 and 7 as a u16 row count":
+-- byte 7 of s is 0.
+pub record FourthVersion (s t : List ℕ) : Type 0 where
+  pub old : versionOf s ≡ 3
+  pub new : versionOf t ≡ 4
+  pub length-is : length t ≡ length s
+  pub letters : (k : ℕ) → k < 3 → u8At t k ≡ u8At s k
+  pub after : (k : ℕ) → u8At t (5 + k) ≡ u8At s (5 + k)
