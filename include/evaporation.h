@@ -41,9 +41,10 @@ extern "C" {
 /* No text is longer, in bytes: 151 for each of 1,000 rows, and 622. */
 #define EVP_TEXT_BYTES 151622
 
-/* Why a call answers nothing else. 0 stands for a sheet that is accepted. The first that applies is returned, in the order in
- * which they stand here, with its place: a byte of the head, the first byte of a list or grid, or the first byte of the season
- * or row at fault. 8 and 9 are of version 1 alone, 24 from version 2 on; 21 of versions 1 and 2, 25 from version 3 on; 6 of versions 1
+/* Why a call answers nothing else. 0 stands for a call that is answered. The first that applies is returned, with its place: a byte of the
+ * head, the first byte of a list or grid, or the first byte of the season or row at fault. The numbers of a sheet, from EVP_HEAD_SHORT to
+ * EVP_MILEAGE, stand here in the order in which every call asks them; those of the calls, from EVP_ROOM on, come after them, and each call
+ * says in which order it asks its own. 8 and 9 are of version 1 alone, 24 from version 2 on; 21 of versions 1 and 2, 25 from version 3 on; 6 of versions 1
  * to 3, 26 of version 4. */
 enum evp_number {
     EVP_ACCEPTED = 0,
@@ -159,7 +160,8 @@ static const char *const evp_species_names[EVP_SPECIES] = {
  * words keep what they had. */
 struct evp_check evp_species(uint64_t total, uint64_t *milligrams, size_t count);
 
-/* Cells for a map: masses in milligrams, as doubles that are whole numbers. */
+/* Cells for a map: masses in milligrams, as doubles that are whole numbers. The calls for cells answer the same however the machine is set
+ * to round, and where it takes the smallest doubles for 0 (as in a program that is linked with -ffast-math): this is tested, not proved. */
 
 /* The largest mass of a cell: 2^53 milligrams, some nine million tonnes. Up to here every whole number is a double. */
 #define EVP_MASS_LIMIT UINT64_C(9007199254740992)

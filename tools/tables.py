@@ -72,7 +72,7 @@ PLACES = [
     ("bounds/specs/Exponential.antt", r"\nmiddle =\n", listed(MIDDLE), r"\[\]\n"),
     ("thresholds/src/lib.rt", r"const FAR: \[u64; 15\] = \[\n", source(FAR), r"\];"),
     ("thresholds/specs/Thresholds.antt", r"\nfar =\n", listed(FAR), r"\[\]\n"),
-    ("thresholds/specs/Thresholds.antt", r"\nfarAbove =\n", listed(FAR_ABOVE), r"\[\]\n"),
+    ("thresholds/proofs/Far.antt", r"\nfarAbove =\n", listed(FAR_ABOVE), r"\[\]\n"),
 ]
 
 

@@ -9,10 +9,10 @@ use Rattle.numbers.proofs.Order.{NonNegative, positive→nonNegative, nonNegati
 use Rattle.bounds.specs.Series.{E}
 use Rattle.bounds.specs.Enclosure.{Within}
 use Rattle.bounds.specs.Exponential.{exponential, exponent, exponentLimit, exponentialError}
-use Rattle.bounds.proofs.Exponential.{E-mono, E-positive, E-below, E-tangent}
+use Rattle.bounds.proofs.Exponential.{E-mono, E-positive, E-tangent}
 use Rattle.bounds.proofs.Sums.{E-most-1}
 use Rattle.bounds.proofs.ExponentialBound.{exponential-within, exponentialError-0, exponentialError-3}
-use Rattle.bounds.proofs.Ends.{end-3}
+use Rattle.bounds.proofs.Ends.{E-to-3}
 use Rattle.bounds.proofs.Within.{widen, within-above, within-below, within-from, within-cross, whole-within, +-within, div-mono}
 
 -- How steep E is up to an exponent.
@@ -41,7 +41,7 @@ unfolding whole _/10^_
 written-3 = omega arith
 
 pub steep-3 : (n : ℕ) → 40 ≤ n → {z : Fraction} → z ≤ᶠ whole 3 → E n z ≤ᶠ 201 /10^ 1
-steep-3 n n40 h = E-below 40 3 0 201 1 (omega arith) end-3 n n40 (≤-trans h written-3)
+steep-3 n n40 h = E-to-3 n n40 (≤-trans h written-3)
 
 pub moves-3 : (w : ℕ) → Within (2 ^ 40) 0 (5 * w + 1) (ratio (22 * w + 1) (10 ^ 14) (ten-pos 14) *ᶠ 201 /10^ 1)
 unfolding ratio _*ᶠ_ _/10^_

@@ -10,10 +10,10 @@ use native.Mathlib.Nat.{sub-add-cancel, sub-eq-zero-of-le, mul-pos, mul-le-mul-r
 use lib.Pow.{pow-add}
 use lib.Dec.{lit<}
 use Rattle.numbers.specs.Fraction.{Fraction, _≤ᶠ_, _*ᶠ_, _^ᶠ_, whole}
-use Rattle.bounds.specs.Series.{rootFrom, root, cutRoot, power2·5, two-pos}
+use Rattle.bounds.specs.Series.{rootFrom, root, cutRoot, power2·5, two-pos, multiple, LargestMultiple}
 use Rattle.bounds.specs.Enclosure.{Within, WithinAll}
 use Rattle.bounds.specs.Power.{degrees, halfPower, powerFrom, power, degreesLimit, powerError}
-use Rattle.bounds.proofs.Root.{root-is, root-less, multiple, LargestMultiple, cutRoot-is, power2·5-above, power2·5-below}
+use Rattle.bounds.proofs.Root.{root-is, root-less, cutRoot-is, power2·5-above, power2·5-below}
 
 -- N at the highest temperature that is served, 65 °C
 abbrev warmest : ℕ

@@ -11,7 +11,7 @@ use lib.Dec.{leb}
 use borrow.Author.Tests.{leb-true, leb-false, le-leb, lt-leb}
 use Rattle.numbers.specs.Fraction.{Fraction, _≤ᶠ_, _<ᶠ_, _*ᶠ_, _^ᶠ_, whole, _≤?_}
 use Rattle.numbers.proofs.Order.{NonNegative, test-cases}
-use Rattle.bounds.specs.Series.{rootFrom, root, cutRoot, power2·5, two-pos}
+use Rattle.bounds.specs.Series.{rootFrom, root, cutRoot, power2·5, two-pos, multiple, LargestMultiple, CutRootTheorem}
 
 -- the larger square has the larger root
 pub root-less : {a b : ℕ} → a * a < b * b → a < b
@@ -90,15 +90,6 @@ halved-above x r h =
     let b : r + (q + 1) ≤ 2 * (s + 1) = omega arith in
     omega (arith, a, four-products r (q + 1), mul-le-mul b b)
 
--- k / 2ⁿ
-unfoldable pub multiple : ℕ → ℕ → Fraction
-multiple n k = record { up = k; down = 0; den = 2 ^ n; pos = two-pos n }
-
--- r / 2ⁿ is "the largest multiple of 2⁻ⁿ whose square is at most" x
-pub record LargestMultiple (n : ℕ) (x : Fraction) (r : ℕ) : Type 0 where
-  pub low : multiple n r *ᶠ multiple n r ≤ᶠ x
-  pub largest : (k : ℕ) → multiple n k *ᶠ multiple n k ≤ᶠ x → k ≤ r
-
 -- 4ⁿ is the square of 2ⁿ
 pub four-power : (n : ℕ) → 4 ^ n ≡ 2 ^ n * 2 ^ n
 four-power zero = refl
@@ -135,7 +126,7 @@ largest-cross two x u d e k q p g h =
     ]
 
 -- the cut root of an x from 0 upward is the largest multiple of 2⁻ⁿ whose square is at most x
-pub cutRoot-is : (n : ℕ) (x : Fraction) → whole 0 ≤ᶠ x → LargestMultiple n x ((cutRoot n x) .up)
+pub cutRoot-is : CutRootTheorem
 unfolding cutRoot multiple _*ᶠ_ whole
 cutRoot-is n x h =
     let two = 2 ^ n in

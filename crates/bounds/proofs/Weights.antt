@@ -14,12 +14,7 @@ use Rattle.numbers.proofs.Order.{ratio, sub-mul}
 use Rattle.bounds.proofs.Exponential.{quotient, E-at}
 use Rattle.bounds.proofs.Tail.{belowTest, below}
 use Rattle.bounds.proofs.Table.{both, both-left, both-right, every, at}
-use Rattle.bounds.specs.Weights.{weights, w, oneWay, apart, weightExponent}
-
--- "differs from 10⁹·E of that exponent by less than one half for every n ≥ 40": by 0.49 at most
-pub record Nearest (i weight : ℕ) : Type 0 where
-  pub low : (n : ℕ) → 40 ≤ n → whole weight -ᶠ 49 /10^ 2 ≤ᶠ whole (10 ^ 9) *ᶠ E n (weightExponent i)
-  pub high : (n : ℕ) → 40 ≤ n → whole (10 ^ 9) *ᶠ E n (weightExponent i) ≤ᶠ whole weight +ᶠ 49 /10^ 2
+use Rattle.bounds.specs.Weights.{weights, w, oneWay, apart, weightExponent, Nearest, NearestTheorem, RoundTheDay}
 
 -- the denominator of the exponents
 abbrev parts : ℕ
@@ -91,8 +86,7 @@ passes→nearest i weight t =
           (rw (zero-sub, sub-zero) (below parts 40 _ 0 _ k (lit< tt) (lit< tt) (both-right down up t) n m));
     }
 
--- "w(i) is the whole number nearest to 10⁹·e^(−0.0247·(i/2−14)²), and differs from 10⁹·E of that exponent by less than one half"
-pub weight-nearest : (i : ℕ) → i < 48 → Nearest i (w i)
+pub weight-nearest : NearestTheorem
 unfolding weights
 weight-nearest i h = passes→nearest i (w i) (at nearestTest weights all-pass i h)
 
@@ -107,8 +101,8 @@ w-most i =
 
 -- Round the day.
 
--- hour 24 is as far from 14:00 as hour 0: "the temperature of 24:00 and of 0:00 is one temperature"
-pub midnight : apart 48 ≡ apart 0
+-- hour 24 is as far from 14:00 as hour 0
+midnight : apart 48 ≡ apart 0
 unfolding apart oneWay
 midnight = refl
 
@@ -116,7 +110,7 @@ midnight = refl
 furtherTest : ℕ → ℕ → Bool
 furtherTest k unused = eqb (apart ((28 + k + 1) % 48)) (apart ((28 + k) % 48) + 1)
 
-pub further : (k : ℕ) → k < 24 → apart ((28 + k + 1) % 48) ≡ apart ((28 + k) % 48) + 1
+further : (k : ℕ) → k < 24 → apart ((28 + k + 1) % 48) ≡ apart ((28 + k) % 48) + 1
 unfolding apart oneWay furtherTest
 further k h = eqb→eq _ _ (at furtherTest (replicate 24 0) tt k h)
 
@@ -124,7 +118,7 @@ further k h = eqb→eq _ _ (at furtherTest (replicate 24 0) tt k h)
 nearerTest : ℕ → ℕ → Bool
 nearerTest k unused = eqb (apart (4 + k)) (apart (4 + k + 1) + 1)
 
-pub nearer : (k : ℕ) → k < 24 → apart (4 + k) ≡ apart (4 + k + 1) + 1
+nearer : (k : ℕ) → k < 24 → apart (4 + k) ≡ apart (4 + k + 1) + 1
 unfolding apart oneWay nearerTest
 nearer k h = eqb→eq _ _ (at nearerTest (replicate 24 0) tt k h)
 
@@ -132,7 +126,7 @@ nearer k h = eqb→eq _ _ (at nearerTest (replicate 24 0) tt k h)
 fallTest : ℕ → ℕ → Bool
 fallTest k unused = leb (suc (w ((28 + k + 1) % 48))) (w ((28 + k) % 48))
 
-pub falls : (k : ℕ) → k < 24 → w ((28 + k + 1) % 48) < w ((28 + k) % 48)
+falls : (k : ℕ) → k < 24 → w ((28 + k + 1) % 48) < w ((28 + k) % 48)
 unfolding weights fallTest
 falls k h = leb→le _ _ (at fallTest (replicate 24 0) tt k h)
 
@@ -140,9 +134,27 @@ falls k h = leb→le _ _ (at fallTest (replicate 24 0) tt k h)
 riseTest : ℕ → ℕ → Bool
 riseTest k unused = leb (suc (w (4 + k))) (w (4 + k + 1))
 
-pub rises : (k : ℕ) → k < 24 → w (4 + k) < w (4 + k + 1)
+rises : (k : ℕ) → k < 24 → w (4 + k) < w (4 + k + 1)
 unfolding weights riseTest
 rises k h = leb→le _ _ (at riseTest (replicate 24 0) tt k h)
+
+lowestTest : ℕ → ℕ → Bool
+lowestTest i unused = leb (w 4) (w i)
+
+lowest : (i : ℕ) → i < 48 → w 4 ≤ w i
+unfolding weights lowestTest
+lowest i h = leb→le _ _ (at lowestTest (replicate 48 0) tt i h)
+
+pub round-the-day : RoundTheDay
+round-the-day = record {
+  midnight = midnight;
+  at-most-12-hours = apart-most;
+  further = further;
+  nearer = nearer;
+  falls = falls;
+  rises = rises;
+  lowest = lowest;
+}
 
 -- so from a mark to the next the weight rises just from mark 4 to mark 28
 wayTest : ℕ → ℕ → Bool

@@ -1,29 +1,76 @@
--- What the crates above this one may take from it: the series' order, and the bounds of what is computed. Definitions only.
+-- What the crates above this one may take from it of the series, the computed exponential, T^2.5 and the weights: "of which the inventory
+-- uses the stated bounds alone". Proved as `laws` in proofs/Laws. Definitions only.
 use mathlib.Core.Bool.{_&&_}
 use mathlib.Core.Path.{_≡_}
-use Prim.Native.Nat.{ℕ, _+_, _%_, _^_, _≤_, _<_}
+use Prim.Native.Nat.{ℕ, _+_, _*_, _%_, _^_, _≤_, _<_}
 use lib.Dec.{leb, ltb}
-use Rattle.numbers.specs.Fraction.{Fraction, _≤ᶠ_, _≈ᶠ_, whole}
-use Rattle.bounds.specs.Series.{E, power2·5}
+use Rattle.numbers.specs.Fraction.{Fraction, _≤ᶠ_, _<ᶠ_, _≈ᶠ_, _+ᶠ_, negᶠ, _*ᶠ_, _^ᶠ_, whole, _/10^_}
+use Rattle.bounds.specs.Series.{E, cutRoot, power2·5, multiple, CutRootTheorem}
 use Rattle.bounds.specs.Enclosure.{WithinAll}
 use Rattle.bounds.specs.Exponential.{exponent, exponentLimit, exponential, exponentialError}
 use Rattle.bounds.specs.Power.{degrees, degreesLimit, power, powerError}
-use Rattle.bounds.specs.Weights.{w}
+use Rattle.bounds.specs.Weights.{w, NearestTheorem}
+
+-- E for every n
+pub record SeriesLaws : Type 0 where
+  -- equal exponents have equal values, it grows, it is above 0, and 1 at 0
+  pub same : {x y : Fraction} (n : ℕ) → x ≈ᶠ y → E n x ≈ᶠ E n y
+  pub grows : {x y : Fraction} (n : ℕ) → x ≤ᶠ y → E n x ≤ᶠ E n y
+  pub positive : (n : ℕ) (x : Fraction) → whole 0 <ᶠ E n x
+  pub at-0 : (n : ℕ) → E n (whole 0) ≈ᶠ whole 1
+  pub to-0 : {x : Fraction} (n : ℕ) → x ≤ᶠ whole 0 → E n x ≤ᶠ whole 1
+  -- a sum of exponents from above and from below, and 1 + x
+  pub product-above : (n : ℕ) {x y : Fraction} → whole 0 ≤ᶠ x → whole 0 ≤ᶠ y → E n (x +ᶠ y) ≤ᶠ E n x *ᶠ E n y
+  pub product-below : (n m : ℕ) {x y : Fraction} → whole 0 ≤ᶠ x → whole 0 ≤ᶠ y → E n x *ᶠ E m y ≤ᶠ E (n + m) (x +ᶠ y)
+  pub one-plus : (x : Fraction) → whole 0 ≤ᶠ x → whole 1 +ᶠ x ≤ᶠ E 1 x
+
+-- E for every n from 40 upward, at the ends of the ranges that an accepted sheet brings
+pub record EndLaws : Type 0 where
+  pub to-0·44 : {z : Fraction} (n : ℕ) → 40 ≤ n → z ≤ᶠ 44 /10^ 2 → E n z ≤ᶠ 156 /10^ 2
+  pub to-2·255 : {z : Fraction} (n : ℕ) → 40 ≤ n → z ≤ᶠ 2255 /10^ 3 → E n z ≤ᶠ 954 /10^ 2
+  pub to-2·8201 : {z : Fraction} (n : ℕ) → 40 ≤ n → z ≤ᶠ 28201 /10^ 4 → E n z ≤ᶠ 169 /10^ 1
+  pub to-3 : {z : Fraction} (n : ℕ) → 40 ≤ n → z ≤ᶠ 3 /10^ 0 → E n z ≤ᶠ 201 /10^ 1
+  pub to-3·58 : {z : Fraction} (n : ℕ) → 40 ≤ n → z ≤ᶠ 35800 /10^ 4 → E n z ≤ᶠ 36 /10^ 0
+  pub to-4·0096 : {z : Fraction} (n : ℕ) → 40 ≤ n → z ≤ᶠ 40096 /10^ 4 → E n z ≤ᶠ 56 /10^ 0
+  pub at-2·78 : (n : ℕ) → 40 ≤ n → whole 16 ≤ᶠ E n (278 /10^ 2)
+  pub at-minus-7·75 : (n : ℕ) → 40 ≤ n → E n (negᶠ (775 /10^ 2)) ≤ᶠ 125 /10^ 3
+
+-- the computed exponential, in units of 2⁻⁴⁰, of the exponent x·10⁻¹⁴ − 16
+pub record ExponentialLaws : Type 0 where
+  -- it encloses E for every n from 40 upward, within an error that grows and has these bounds up to 1.41, 2.3, 3.6 and at the end
+  pub encloses : (x : ℕ) → x < exponentLimit → WithinAll (2 ^ 40) (exponential x) (exponentialError x) (λ n. E n (exponent x))
+  pub error-grows : {x y : ℕ} → x ≤ y → y < exponentLimit → exponentialError x ≤ exponentialError y
+  pub error-1·41 : (x : ℕ) → x ≤ 16 * 10 ^ 14 + 2 ^ 47 → exponentialError x ≤ 35
+  pub error-2·3 : (x : ℕ) → x ≤ 183 * 10 ^ 13 → exponentialError x ≤ 83
+  pub error-3·6 : (x : ℕ) → x ≤ 196 * 10 ^ 13 → exponentialError x ≤ 291
+  pub error-4·1 : (x : ℕ) → x < exponentLimit → exponentialError x ≤ 475
+  -- it grows; how large it is everywhere, up to 1.41 and up to 0; and at 0 and at 1.41
+  pub grows : {x y : ℕ} → x ≤ y → y < exponentLimit → exponential x ≤ exponential y
+  pub fits : (x : ℕ) → x < exponentLimit → exponential x < 2 ^ 46
+  pub fits-1·41 : (x : ℕ) → x ≤ 16 * 10 ^ 14 + 2 ^ 47 → exponential x < 2 ^ 43
+  pub to-0 : (x : ℕ) → x ≤ 16 * 10 ^ 14 → exponential x ≤ 2 ^ 40
+  pub at-0 : exponential (16 * 10 ^ 14) ≡ 2 ^ 40
+  pub at-1·41 : 4 * 2 ^ 40 ≤ exponential (16 * 10 ^ 14 + 2 ^ 47)
+
+-- T^2.5 and its root
+pub record PowerLaws : Type 0 where
+  pub encloses : (θ : ℕ) → θ ≤ degreesLimit → WithinAll (2 ^ 24) (power θ) powerError (λ n. power2·5 n (degrees θ))
+  pub fits : (θ : ℕ) → θ ≤ degreesLimit → power θ < 2 ^ 40
+  pub least : (n : ℕ) (t : Fraction) → whole 0 ≤ᶠ power2·5 n t
+  pub from-0 : (n : ℕ) {t : Fraction} → whole 0 ≤ᶠ t → power2·5 n t ≡ cutRoot n (t ^ᶠ 5)
+  pub below-0 : (n : ℕ) {t : Fraction} → t <ᶠ whole 0 → power2·5 n t ≡ whole 0
+  pub root-is : CutRootTheorem
+  pub root-multiple : (n : ℕ) (x : Fraction) → cutRoot n x ≡ multiple n ((cutRoot n x) .up)
+
+-- the hourly weights: each is the nearest; they are at most 1, and from a mark to the next they rise from 2:00 to 14:00 and fall else
+pub record WeightLaws : Type 0 where
+  pub nearest : NearestTheorem
+  pub most : (i : ℕ) → w i ≤ 10 ^ 9
+  pub rises : (i : ℕ) → i < 48 → leb (w i) (w ((i + 1) % 48)) ≡ (leb 4 i && ltb i 28)
 
 pub record Laws : Type 0 where
-  -- E, for every n: equal exponents have equal values, it grows, and it is 1 at 0
-  pub series-same : {x y : Fraction} (n : ℕ) → x ≈ᶠ y → E n x ≈ᶠ E n y
-  pub series-grows : {x y : Fraction} (n : ℕ) → x ≤ᶠ y → E n x ≤ᶠ E n y
-  pub series-at-0 : (n : ℕ) → E n (whole 0) ≈ᶠ whole 1
-  -- the computed exponential encloses E for every n from 40 upward, within an error that grows; it fits, and grows
-  pub exponential-encloses : (x : ℕ) → x < exponentLimit → WithinAll (2 ^ 40) (exponential x) (exponentialError x) (λ n. E n (exponent x))
-  pub error-grows : {x y : ℕ} → x ≤ y → y < exponentLimit → exponentialError x ≤ exponentialError y
-  pub exponential-fits : (x : ℕ) → x < exponentLimit → exponential x < 2 ^ 46
-  pub exponential-grows : {x y : ℕ} → x ≤ y → y < exponentLimit → exponential x ≤ exponential y
-  -- the computed T^2.5 encloses the exact one, which is 0 or more
-  pub power-encloses : (θ : ℕ) → θ ≤ degreesLimit → WithinAll (2 ^ 24) (power θ) powerError (λ n. power2·5 n (degrees θ))
-  pub power-fits : (θ : ℕ) → θ ≤ degreesLimit → power θ < 2 ^ 40
-  pub power-least : (n : ℕ) (t : Fraction) → whole 0 ≤ᶠ power2·5 n t
-  -- the hourly weights are at most 1, and from a mark to the next they rise from 2:00 to 14:00 and fall else
-  pub weight-most : (i : ℕ) → w i ≤ 10 ^ 9
-  pub weight-rises : (i : ℕ) → i < 48 → leb (w i) (w ((i + 1) % 48)) ≡ (leb 4 i && ltb i 28)
+  pub series : SeriesLaws
+  pub ends : EndLaws
+  pub exponential : ExponentialLaws
+  pub power : PowerLaws
+  pub weights : WeightLaws

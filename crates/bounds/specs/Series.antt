@@ -1,9 +1,9 @@
 -- The truncated exponential and the cut root of document 01, "Exact masses", n a parameter of each. Definitions only.
 use mathlib.Core.Bool.{true, false}
-use Prim.Native.Nat.{ℕ, suc, zero, _+_, _*_, _-_, _^_, _/_, _<_}
+use Prim.Native.Nat.{ℕ, suc, zero, _+_, _*_, _-_, _^_, _/_, _≤_, _<_}
 use native.Mathlib.Omega.{arith}
 use lib.Dec.{leb}
-use Rattle.numbers.specs.Fraction.{Fraction, _+ᶠ_, negᶠ, _^ᶠ_, whole, _over_, inverse, _≤?_}
+use Rattle.numbers.specs.Fraction.{Fraction, _≤ᶠ_, _+ᶠ_, negᶠ, _*ᶠ_, _^ᶠ_, whole, _over_, inverse, _≤?_}
 
 unfoldable pub factorial : ℕ → ℕ
 factorial zero = 1
@@ -41,9 +41,22 @@ pub two-pos : (n : ℕ) → 0 < 2 ^ n
 two-pos zero = omega arith
 two-pos (suc n) = omega (arith, two-pos n)
 
+-- a multiple of 2⁻ⁿ: k of them
+unfoldable pub multiple : ℕ → ℕ → Fraction
+multiple n k = record { up = k; down = 0; den = 2 ^ n; pos = two-pos n }
+
 -- a root of x ≥ 0 "cut after n binary places, that is the largest multiple of 2⁻ⁿ whose square is at most" x
 unfoldable pub cutRoot : ℕ → Fraction → Fraction
 cutRoot n x = record { up = root (4 ^ n * (x .up - x .down) / x .den); down = 0; den = 2 ^ n; pos = two-pos n }
+
+-- r / 2ⁿ is "the largest multiple of 2⁻ⁿ whose square is at most" x
+pub record LargestMultiple (n : ℕ) (x : Fraction) (r : ℕ) : Type 0 where
+  pub low : multiple n r *ᶠ multiple n r ≤ᶠ x
+  pub largest : (k : ℕ) → multiple n k *ᶠ multiple n k ≤ᶠ x → k ≤ r
+
+-- the cut root is that multiple. Proved as `cutRoot-is` in proofs/Root.
+abbrev pub CutRootTheorem : Type 0
+CutRootTheorem = (n : ℕ) (x : Fraction) → whole 0 ≤ᶠ x → LargestMultiple n x ((cutRoot n x) .up)
 
 -- "T^2.5 is the root of T⁵ cut after n binary places .. and 0 for T below 0, where the source has no value."
 unfoldable pub power2·5 : ℕ → Fraction → Fraction

@@ -4,11 +4,12 @@ use crate::Masses;
 use crate::Whole;
 use crate::doubles::whole_of;
 ghost use mathlib.Core.Path.{_≡_};
-ghost use Rattle.cells.specs.Between.{cellBetween};
+ghost use Rattle.cells.specs.Between.{LowAndHigh, cellBetween};
 ghost use Rattle.cells.specs.Cells.{exactMasses, bandMasses, massesOf};
 
 // Empty where the high is 0, one mass where low and high are equal.
 pub fn cell_between(low: f64, high: f64) -> Cell
+    requires { ⌜ LowAndHigh low high ⌝ }
     ensures { λ r. ⌜ r ≡ cellBetween low high ⌝ }
 {
     if high == 0.0 {

@@ -12,7 +12,7 @@ use Rattle.exact.specs.declared.Season.{Season}
 use Rattle.exact.specs.declared.Row.{Row}
 use Rattle.exact.specs.Canister.{a, b}
 use Rattle.exact.specs.Factors.{F2, factor}
-use Rattle.exact.specs.Volatile.{atPressure}
+use Rattle.exact.proofs.Volatile.{atPressure}
 use Rattle.exact.proofs.Open.{definitions}
 
 pub a-falls : {p q : Fraction} (T : Fraction) → p ≤ᶠ q → a q T ≤ᶠ a p T

@@ -12,24 +12,9 @@ use Rattle.bounds.specs.Weights.{w}
 use Rattle.exact.specs.Day.{startMark}
 use Rattle.exact.specs.Permeation.{bracket}
 use Rattle.exact.specs.Canister.{a, b, curve, breakthrough}
+use Rattle.exact.specs.Marked.{Marked}
 use Rattle.exact.proofs.Loss.{B-up-to, B-above}
 use Rattle.exact.proofs.Open.{definitions}
-
-pub record Marked : Type 0 where
-  pub S2-at-1 : S 2 (whole 1) ≈ᶠ whole 5 over 2
-  pub S3-at-1 : S 3 (whole 1) ≈ᶠ whole 8 over 3
-  pub E-at-minus-1 : E 2 (negᶠ (whole 1)) ≈ᶠ whole 2 over 5
-  pub E-at-0 : (n : ℕ) → E n (whole 0) ≈ᶠ whole 1
-  pub power-at-4 : (n : ℕ) → power2·5 n (whole 4) ≈ᶠ whole 32
-  pub power-at-9 : (n : ℕ) → power2·5 n (whole 9) ≈ᶠ whole 243
-  pub power-at-minus-5 : (n : ℕ) → power2·5 n (negᶠ (whole 5)) ≈ᶠ whole 0
-  pub bracket-at-4 : (n : ℕ) → bracket n (whole 4) ≈ᶠ 207972992 /10^ 10
-  pub a-at-60-and-20 : a (whole 60) (whole 20) ≈ᶠ negᶠ (106 /10^ 1)
-  pub b-at-60-and-20 : b (whole 60) (whole 20) ≈ᶠ 108 /10^ 3
-  pub w-at-28 : w 28 ≡ 10 ^ 9
-  pub start-of-12-hours-to-1 : startMark 1 24 ≡ 26
-  pub start-of-half-an-hour-to-24 : startMark 24 1 ≡ 47
-  pub saturated : (n : ℕ) (vp s T m v : Fraction) → whole 0 ≤ᶠ v → breakthrough n vp s m T m v ≈ᶠ v
 
 -- the root of a whole square k = m², cut after n places
 square-root : (n k m : ℕ) → k ≡ m * m → root (4 ^ n * k / 1) ≡ m * 2 ^ n
@@ -58,7 +43,7 @@ full n vp s T m v h =
     (≈-trans (sub-self _) (≈-sym z))))
     (λ k. rw (B-above n vp s m T (m +ᶠ v) k, B-up-to n vp s m T m (≤-refl m)) (overflow (curve n vp s m T m) m v))
 
-marked : Marked
+pub marked : Marked
 unfolding definitions
 marked = record {
   S2-at-1 = record { cross = refl };

@@ -2,14 +2,14 @@
 -- Assumes nothing.
 use Prim.Native.Nat.{ℕ}
 use Rattle.numbers.specs.Fraction.{_≤?_, _+ᶠ_, negᶠ, _-ᶠ_, _*ᶠ_, whole, _^ᶠ_, _/10^_, _over_, inverse, _times_}
-use Rattle.bounds.specs.Series.{factorial, term, S, E, rootFrom, root, cutRoot, power2·5}
+use Rattle.bounds.specs.Series.{factorial, term, S, E, rootFrom, root, multiple, cutRoot, power2·5}
 use Rattle.exact.specs.Classes.{smallFirst, mediumFirst, without, alwaysSmall, classes, atTechnology, atClass, equipment}
 use Rattle.bounds.specs.Weights.{weights, weightExponent}
 use Rattle.exact.specs.Day.{signedTenths, temperature, startMark}
 use Rattle.exact.specs.Vapour.{vapour, stepVapour, parkingVapour}
 use Rattle.exact.specs.Permeation.{bracket, permeation, markRates, parkingPermeation}
 use Rattle.exact.specs.Canister.{a, b, curve, B, breakthrough, escape}
-use Rattle.exact.specs.Mileage.{multiple, multiples, g, driven, reaches, firstOf, startingLoad}
+use Rattle.exact.specs.Mileage.{multiples, g, driven, reaches, firstOf, startingLoad}
 use Rattle.exact.specs.Factors.{vp, rowVapour, rowLoad, rowEscape, escapeOver, openVapour, hours, T1, T2, diurnalFactor, soakPermeation, runningPermeation, carFactor, twoWheelerFactor, parkingFactor, endHour, duration, total, weightedSum, mean, products, factor}
 use Rattle.exact.specs.Masses.{blend, dayMass, mass}
 

@@ -7,8 +7,9 @@ use native.Mathlib.Omega.{arith}
 use native.Mathlib.Decide.{decLe}
 use native.Mathlib.Nat.{mul-le-mul-right, mul-le-mul-left, div-mul-le-self, lt-div-mul-add, mul-sub}
 use Rattle.numbers.specs.Fraction.{Fraction, _≤ᶠ_, whole}
-use Rattle.numbers.proofs.Order.{NonNegative, test-cases}
-use Rattle.exact.specs.Mileage.{multiple, multiples, driven, reaches, firstOf, startingLoad}
+use Rattle.numbers.proofs.Order.{NonNegative, nonNegative, test-cases}
+use Rattle.exact.specs.Mileage.{multiples, driven, reaches, firstOf, startingLoad, Reaches, IsStart, smallest, none-reaches, StartTheorem}
+use Rattle.bounds.specs.Series.{multiple}
 
 -- The multiples from 0 to x are those of k up to `multiples n x`.
 
@@ -42,39 +43,31 @@ module _ (n : ℕ) {x : Fraction} (p : NonNegative x) where
       ]
 
 module _ (n : ℕ) (vp s T : Fraction) (M : ℕ) (saturation : Fraction) where
-  -- "The load reaches M"
-  pub record Reaches (m : Fraction) : Type 0 where
-    pub far : whole M ≤ᶠ driven n vp s T m
-
-  -- "The starting load is the smallest multiple of 2⁻ⁿ gram, from 0 to m_sat, that reaches M, and m_sat if none does"
-  pub data IsStart : Fraction → Type 0 where
-    smallest : (k : ℕ) → multiple n k ≤ᶠ saturation → Reaches (multiple n k) → ((j : ℕ) → j < k → ¬ Reaches (multiple n j)) → IsStart (multiple n k)
-    none-reaches : ((j : ℕ) → multiple n j ≤ᶠ saturation → ¬ Reaches (multiple n j)) → IsStart saturation
-
   -- none before k reaches, nor does k: none before its successor
-  later : (k : ℕ) → ((j : ℕ) → j < k → ¬ Reaches (multiple n j)) → ¬ Reaches (multiple n k) → (j : ℕ) → j < suc k → ¬ Reaches (multiple n j)
+  later : (k : ℕ) → ((j : ℕ) → j < k → ¬ Reaches n vp s T M saturation (multiple n j)) → ¬ Reaches n vp s T M saturation (multiple n k) → (j : ℕ) → j < suc k → ¬ Reaches n vp s T M saturation (multiple n j)
   later k before here j l =
       elim (decLe (suc j) k) [
         | yes h ↦ before j h
-        | no h ↦ let e : k ≡ j = omega arith in subst (λ (i : ℕ). ¬ Reaches (multiple n i)) e here
+        | no h ↦ let e : k ≡ j = omega arith in subst (λ (i : ℕ). ¬ Reaches n vp s T M saturation (multiple n i)) e here
       ]
 
   -- the search from k on, where none before k reaches and the multiples up to m_sat are those before k + count
   from-k : (count k : ℕ) → ((j : ℕ) → j < k + count → multiple n j ≤ᶠ saturation) → ((j : ℕ) → multiple n j ≤ᶠ saturation → j < k + count)
-      → ((j : ℕ) → j < k → ¬ Reaches (multiple n j)) → IsStart (firstOf n vp s T M saturation count k)
+      → ((j : ℕ) → j < k → ¬ Reaches n vp s T M saturation (multiple n j)) → IsStart n vp s T M saturation (firstOf n vp s T M saturation count k)
   unfolding firstOf reaches
   from-k zero k up-to only before = none-reaches (λ j l. before j (omega (arith, only j l)))
   from-k (suc count) k up-to only before =
       test-cases
-      (λ (c : Bool). IsStart (elim c [ true ↦ multiple n k | false ↦ firstOf n vp s T M saturation count (suc k) ]))
+      (λ (c : Bool). IsStart n vp s T M saturation (elim c [ true ↦ multiple n k | false ↦ firstOf n vp s T M saturation count (suc k) ]))
       (whole M) (driven n vp s T (multiple n k))
       (λ h. smallest k (up-to k (omega arith)) (record { far = h }) before)
       (λ h.
       from-k count (suc k) (λ j l. up-to j (omega arith)) (λ j l. let i = only j l in omega arith)
       (later k before (λ r. h (r .far))))
 
-  pub startingLoad-is : NonNegative saturation → IsStart (startingLoad n vp s T M saturation)
-  unfolding startingLoad
-  startingLoad-is p =
-      from-k (suc (multiples n saturation)) 0 (λ j l. multiple-≤ n p j (omega arith)) (λ j l. let i = multiple-most n p j l in omega arith)
-      (λ j l. absurd (omega arith))
+pub startingLoad-is : StartTheorem
+unfolding startingLoad
+startingLoad-is n vp s T M saturation h =
+    let p = nonNegative h in
+    from-k n vp s T M saturation (suc (multiples n saturation)) 0 (λ j l. multiple-≤ n p j (omega arith)) (λ j l. let i = multiple-most n p j l in omega arith)
+    (λ j l. absurd (omega arith))

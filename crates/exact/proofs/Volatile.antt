@@ -8,14 +8,31 @@ use lib.Dec.{leb}
 use Rattle.numbers.specs.Fraction.{Fraction, _≤ᶠ_, _+ᶠ_, whole, _/10^_}
 use Rattle.numbers.proofs.Order.{NonNegative, ≤-refl, whole-nonNegative, decimal-nonNegative, decimal-mono, +-mono, +-grows, *-mono-right, over-mono, over-nonNegative, times-mono}
 use Rattle.exact.specs.declared.Canister.{Canister}
+use Rattle.exact.specs.declared.Canister.the-variants.{None}
 use Rattle.exact.specs.declared.Season.{Season}
 use Rattle.exact.specs.declared.Row.{Row}
 use Rattle.exact.specs.Day.{temperature}
 use Rattle.exact.specs.Canister.{escape}
 use Rattle.exact.specs.Factors.{Factor, F1, F2, F3, F4, F5, F6, F7, vp, rowVapour, rowEscape, escapeOver, openVapour, hours, T1, T2, diurnalFactor, soakPermeation, runningPermeation, carFactor, twoWheelerFactor, parkingFactor, endHour, duration, total, weightedSum, mean, factor}
 use Rattle.exact.specs.Masses.{Mechanism, diurnal, soak, running, blend, dayMass, mass}
-use Rattle.exact.specs.Volatile.{atPressure, MoreVolatile, none, next, WithoutCanister}
 use Rattle.exact.proofs.Pressure.{rest-nonNegative, permeation-rises, parkingPermeation-rises, vapour-rises, parkingVapour-rises}
+
+-- the season with another vapour pressure, in tenths of kPa
+abbrev pub atPressure : Season → ℕ → Season
+atPressure season vp = record { days = season .days; lowest = season .lowest; highest = season .highest; vp = vp }
+
+-- the second list of seasons is the first, each at a pressure that is as high or higher
+pub data MoreVolatile : List Season → List Season → Type 0 where
+  none : MoreVolatile [] []
+  next : (season : Season) (vp : ℕ) {seasons others : List Season} → season .vp ≤ vp → MoreVolatile seasons others
+      → MoreVolatile (season ∷ seasons) (atPressure season vp ∷ others)
+
+-- a row without a canister, its three shares at most 100 percent
+pub record WithoutCanister (row : Row) : Type 0 where
+  pub no-canister : row .canister ≡ None
+  pub carburettor-most : row .carburettor ≤ 100
+  pub hot-most : row .hot ≤ 100
+  pub fill-most : row .fill ≤ 100
 
 -- Without a canister everything escapes.
 all-escapes : (n : ℕ) (season : Season) (row : Row) → WithoutCanister row → (T v : Fraction) → rowEscape n season row T v ≡ v

@@ -7,4 +7,4 @@ pub mod Canister
 pub mod Mileage
 pub mod Factors
 pub mod Masses
-pub mod Volatile
+pub mod Marked

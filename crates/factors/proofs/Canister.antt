@@ -22,9 +22,8 @@ use Rattle.exact.specs.declared.Row.{Row}
 use Rattle.exact.specs.Canister.{a, b, size, breakthrough}
 use Rattle.exact.specs.Factors.{rowLoad}
 use Rattle.exact.proofs.Loads.{load-written, load-driven}
-use Rattle.starting_loads.specs.Steps.{startError}
 use Rattle.starting_loads.specs.Net.{startUnits}
-use Rattle.starting_loads.proofs.Start.{halves-pos, mileage-within}
+use Rattle.starting_loads.proofs.Start.{startError, halves-pos, mileage-within}
 use Rattle.starting_loads.proofs.Empty.{empty-within}
 use Rattle.sheet.specs.Limits.{vpLimit}
 use Rattle.sheet.specs.Range.{warmth, markWarmth, halves, SeasonInRange, RowInRange}

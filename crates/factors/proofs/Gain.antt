@@ -5,7 +5,7 @@ use native.Mathlib.Omega.{arith}
 use native.Mathlib.Nat.{mul-le-mul}
 use mathlib.Core.Path.{_≡_, ap}
 use Rattle.numbers.specs.Fraction.{Fraction, _≤ᶠ_, _≈ᶠ_, _+ᶠ_, negᶠ, _-ᶠ_, _*ᶠ_, whole, _/10^_}
-use Rattle.bounds.proofs.Ends.{end-2·255}
+use Rattle.bounds.proofs.Ends.{E-to-2·255}
 use Rattle.bounds.specs.Series.{E}
 use Rattle.bounds.specs.Enclosure.{WithinAll}
 use Rattle.bounds.specs.Exponential.{exponential, exponent}
@@ -17,7 +17,7 @@ use Rattle.exact.specs.declared.Season.{Season}
 use Rattle.exact.specs.declared.Row.{Row}
 use Rattle.sheet.specs.Limits.{vpLimit, tankLimit}
 use Rattle.sheet.specs.Range.{SeasonInRange, RowInRange}
-use Rattle.marks.proofs.Most.{exponential-most}
+use Rattle.marks.proofs.Most.{all-most}
 use Rattle.exact.specs.Rise as vapour
 use Rattle.factors.specs.Units.{gain}
 
@@ -46,7 +46,7 @@ pressure-within vp h =
 -- E(2.255) ≤ 9.54
 pressure-size : (vp : ℕ) → vp ≤ vpLimit → exponential (205 * vp * 10 ^ 9 + 16 * 10 ^ 14) ≤ 954 * 2 ^ 40 / 100
 pressure-size vp h =
-    omega (arith, exponential-most 2255 3 954 2 (pressure-within vp h) (pressure-most vp h) (omega arith) end-2·255)
+    omega (arith, all-most 954 2 (pressure-within vp h) (E-to-2·255 40 (omega arith) (pressure-most vp h)))
 
 forty-thousand-pos : 0 < 40000
 forty-thousand-pos = omega arith

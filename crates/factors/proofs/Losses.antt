@@ -24,12 +24,12 @@ use Rattle.exact.specs.Permeation.{permeation, parkingPermeation}
 use Rattle.exact.specs.Factors.{vp, rowVapour, rowEscape, escapeOver, openVapour, hours, endHour, duration, total, mean}
 use Rattle.sheet.specs.Range.{SeasonInRange}
 use Rattle.sheet.specs.Range.{markWarmth}
-use Rattle.marks.specs.Marks.{raise, tenths, rate, riseError, raisedError, rateError}
+use Rattle.marks.specs.Marks.{raise, tenths, rate, riseError, raisedError}
 use Rattle.sheet.proofs.Temperature.{warmth-most, temperature-is}
 use Rattle.marks.proofs.Heat.{raise-within, raise-most}
 use Rattle.marks.proofs.Rise.{rises-cong, vapour-rises}
 use Rattle.marks.proofs.Curve.{season-rise-within, season-rise-most}
-use Rattle.marks.proofs.Permeation.{permeation-cong, parkingPermeation-cong, rate-within, permeation-within}
+use Rattle.marks.proofs.Permeation.{rateError, permeation-cong, parkingPermeation-cong, rate-within, permeation-within}
 use Rattle.sheet.specs.Range.{RowInRange}
 use Rattle.factors.specs.Means.{meanUnits}
 use Rattle.factors.specs.Units.{startOf, endOf, parkingRise, parkingRates, escapeUnits, escapeOverUnits, openUnits}

@@ -3,18 +3,13 @@
 use mathlib.Core.Bool.{Bool}
 use mathlib.Core.List.{List}
 use mathlib.Core.Path.{_≡_, refl}
-use Prim.Native.Nat.{ℕ, suc, zero, _+_, _/_, _%_, _≤_, _<_}
+use Prim.Native.Nat.{ℕ, suc, zero, _+_, _≤_, _<_}
 use native.Mathlib.Omega.{arith}
-use lib.ListN.{length, set}
 use Rattle.numbers.proofs.Lists.{tab-ext}
-use Rattle.exact.specs.declared.Canister.{Canister}
-use Rattle.exact.specs.declared.Equipment.the-variants.{Fitted}
 use Rattle.sheet.specs.declared.Check.{Check}
 use Rattle.sheet.specs.declared.Check.the-variants.{Pass, Refused}
-use Rattle.sheet.specs.Integers.{u8At, u16At}
-use Rattle.sheet.specs.Bytes.{seasonsOf, rowsOf, rowPlace, equipmentAt}
-use Rattle.sheet.specs.ByClass.{codeOf}
-use Rattle.sheet.proofs.Alike.{Alike, canister-alike, tank-alike, both-alike}
+use Rattle.sheet.specs.Bytes.{seasonsOf, rowsOf}
+use Rattle.sheet.proofs.Alike.{Alike}
 use Rattle.inventory.specs.FactorCall.{factorCheck, unitsAt, answered, factorAnswer}
 use Rattle.report_words.specs.Report.{reportLength, wordsOf, rowWords, subtotal, subtotals, grandTotal, report}
 use Rattle.inventory.specs.ReportCall.{reportCheck}
@@ -86,28 +81,3 @@ module _ {s s' : List ℕ} (a : Alike s s') where
   unfolding report
   report-alike =
       simp (a .rows-same, rowWords-same (rowsOf s) (omega arith), subtotals-same, grandTotal-same)
-
--- the same answers from both calls, whatever is asked
-pub record SameAnswers (s s' : List ℕ) : Type 0 where
-  pub factor-same : (season row k : ℕ) → factorAnswer s' season row k ≡ factorAnswer s season row k
-  pub check-same : (room : ℕ) → reportCheck s' room ≡ reportCheck s room
-  pub words-same : report s' ≡ report s
-
--- sheets that count alike have them
-same-answers : {s s' : List ℕ} → Alike s s' → SameAnswers s s'
-same-answers a = record { factor-same = factor-alike a; check-same = report-check-alike a; words-same = report-alike a }
-
--- Row i, inside the sheet, whose class stands for canister c and tank t.
-module _ (s : List ℕ) (i : ℕ) {c : Canister} {t : ℕ} (fitted : equipmentAt s (rowPlace s i) ≡ Fitted c t) (inside : rowPlace s i + 24 ≤ length s) where
-  -- the class's canister written for 255
-  pub canister-answers : u8At s (rowPlace s i + 2) ≡ 255 → SameAnswers s (set s (rowPlace s i + 2) (codeOf c))
-  canister-answers h = same-answers (canister-alike s i fitted inside h)
-
-  -- its tank written for 0
-  pub tank-answers : u16At s (rowPlace s i + 6) ≡ 0 → SameAnswers s (set (set s (rowPlace s i + 6) (t % 256)) (rowPlace s i + 7) (t / 256))
-  tank-answers h = same-answers (tank-alike s i fitted inside h)
-
-  -- both
-  pub both-answers : u8At s (rowPlace s i + 2) ≡ 255 → u16At s (rowPlace s i + 6) ≡ 0
-      → SameAnswers s (set (set (set s (rowPlace s i + 2) (codeOf c)) (rowPlace s i + 6) (t % 256)) (rowPlace s i + 7) (t / 256))
-  both-answers h k = same-answers (both-alike s i fitted inside h k)

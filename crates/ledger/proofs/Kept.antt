@@ -235,7 +235,7 @@ ledger-kept s w bytes h calls =
       answers-are = answered s w calls (opened s w) start ∙ ap (machineAnswers (hasManyRows s) calls) (opened-counts s w);
     }
 
--- What is no ledger stays as it is.
+-- What opening would refuse stays as it is.
 module _ (x : Ledger) {number place : ℕ} (h : reportCheck (x .sheet) (length (x .words)) ≡ Refused number place) where
   not-open : (call : Call) → answer x call ≡ Refused number place
   unfolding answer changeCheck _then_

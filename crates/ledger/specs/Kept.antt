@@ -45,7 +45,7 @@ pub record Kept (s w : List ℕ) (calls : List Call) : Type 0 where
 abbrev pub LedgerTheorem : Type 0
 LedgerTheorem = (s w : List ℕ) → ((k : ℕ) → u8At s k < 256) → reportCheck s (length w) ≡ Pass → (calls : List Call) → Kept s w calls
 
--- and what is no ledger stays as it is, each call being refused as opening it is
+-- and what opening would refuse stays as it is, each call being refused alike; words that are not the report of the sheet are not noticed
 abbrev pub RefusedTheorem : Type 0
 RefusedTheorem = (x : Ledger) (number place : ℕ) → reportCheck (x .sheet) (length (x .words)) ≡ Refused number place
     → (calls : List Call) → (run calls x ≡ x) × (answers calls x ≡ map (λ (call : Call). Refused number place) calls)

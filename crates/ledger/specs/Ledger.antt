@@ -21,7 +21,7 @@ use Rattle.ledger.specs.declared.Call.{Call}
 use Rattle.ledger.specs.declared.Call.the-variants.{Arrival, Departure}
 use Rattle.ledger.specs.Machine.{rowOf, wrong, newCount}
 
--- the answer: what is no ledger is refused as opening it would be; then 29, "place 0"
+-- the answer: what opening would refuse is refused alike; then 29, "place 0"
 unfoldable pub changeCheck : List ℕ → ℕ → Call → Check
 changeCheck s room call = reportCheck s room then refuse (wrong (hasManyRows s) (countsOf s) call) 29 0
 

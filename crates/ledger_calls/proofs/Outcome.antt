@@ -87,7 +87,7 @@ module _ (s w : List ℕ) (call : Call) where
       → ChangeAnswer s w call after words r
   answered e b c = record { answer-is = e; sheet-is = b; words-are = c; says = rw e (change-says s (length w) call) }
 
-  -- the buffers hold no ledger,
+  -- opening would refuse them,
   pub not-open : {r : Check} {n p : ℕ} → r ≡ reportCheck s (length w) → r ≡ Refused n p → ChangeAnswer s w call s w r
   unfolding changeCheck sheetAfter wordsAfter _then_
   not-open {r} {n} {p} e h =

@@ -3,7 +3,7 @@ use mathlib.Core.Path.{_≡_}
 use Prim.Native.Nat.{ℕ, _+_, _*_, _-_, _^_, _≤_, _<_}
 use native.Mathlib.Omega.{arith}
 use Rattle.numbers.specs.Fraction.{Fraction, _≤ᶠ_, _≈ᶠ_, _-ᶠ_, _*ᶠ_, _/10^_}
-use Rattle.bounds.proofs.Ends.{end-3·58, end-4·0096}
+use Rattle.bounds.proofs.Ends.{E-to-3·58, E-to-4·0096}
 use Rattle.bounds.specs.Series.{E}
 use Rattle.bounds.specs.Enclosure.{Within, WithinAll}
 use Rattle.bounds.specs.Exponential.{exponent, exponentialError, exponentLimit}
@@ -14,7 +14,7 @@ use Rattle.bounds.proofs.Exponential.{E-cong, E-mono}
 use Rattle.bounds.proofs.ExponentialBound.{exponential-within, exponentialError-3·6, exponentialError-4·1}
 use Rattle.bounds.proofs.Growth.{exponential-mono}
 use Rattle.sheet.proofs.Temperature.{degrees-mono}
-use Rattle.marks.proofs.Most.{exponential-most}
+use Rattle.marks.proofs.Most.{all-most}
 use Rattle.marks.specs.Marks.{heat, heatError, raisedError, raise}
 
 -- x − y where y ≤ x, both enclosed with the width e: what x surely is above y
@@ -60,11 +60,11 @@ module _ (θ : ℕ) where
 
   -- E(0.0716·50) ≤ 36
   pub heat-most : θ ≤ 80 * 10 ^ 10 → heat θ ≤ 36 * 2 ^ 40
-  heat-most h = omega (arith, exponential-most 35800 4 36 0 (heat-within h) (warm-≤ 80 35800 (omega arith) h) (omega arith) end-3·58)
+  heat-most h = omega (arith, all-most 36 0 (heat-within h) (E-to-3·58 40 (omega arith) (warm-≤ 80 35800 (omega arith) h)))
 
   -- E(0.0716·56) ≤ 56
   pub raised-most : θ ≤ 86 * 10 ^ 10 → heat θ ≤ 56 * 2 ^ 40
-  raised-most h = omega (arith, exponential-most 40096 4 56 0 (raised-within h) (warm-≤ 86 40096 (omega arith) h) (omega arith) end-4·0096)
+  raised-most h = omega (arith, all-most 56 0 (raised-within h) (E-to-4·0096 40 (omega arith) (warm-≤ 86 40096 (omega arith) h)))
 
 module _ (r θ : ℕ) (small : r ≤ 6 * 10 ^ 10) (h : θ ≤ 80 * 10 ^ 10) where
   -- the rise of E(0.0716·T) when T is raised by at most 6 °C

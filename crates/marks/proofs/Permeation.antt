@@ -6,8 +6,8 @@ use native.Mathlib.Omega.{arith}
 use native.Mathlib.Nat.{le-antisymm, le-of-lt, mul-comm, mul-le-mul}
 use Rattle.sheet.specs.Limits.{vpLimit}
 use Rattle.numbers.specs.Fraction.{Fraction, _≤ᶠ_, _≈ᶠ_, _*ᶠ_, whole, _/10^_}
-use Rattle.bounds.proofs.Ends.{end-0·44}
-use Rattle.bounds.specs.Series.{E, cutRoot, power2·5, two-pos}
+use Rattle.bounds.proofs.Ends.{E-to-0·44}
+use Rattle.bounds.specs.Series.{E, cutRoot, power2·5, two-pos, multiple, LargestMultiple}
 use Rattle.bounds.specs.Enclosure.{WithinAll}
 use Rattle.bounds.specs.Exponential.{exponent}
 use Rattle.bounds.specs.Power.{degrees, power}
@@ -16,11 +16,15 @@ use Rattle.bounds.proofs.Within.{widen, weaken, within-≈, round-within, decim
 use Rattle.bounds.proofs.Exponential.{E-cong}
 use Rattle.bounds.proofs.ExponentialBound.{exponential-within, exponentialError-2·3}
 use Rattle.bounds.proofs.PowerBound.{power-within, power-size}
-use Rattle.bounds.proofs.Root.{multiple, LargestMultiple, cutRoot-is, cutRoot-multiple, power2·5-above, power2·5-below}
+use Rattle.bounds.proofs.Root.{cutRoot-is, cutRoot-multiple, power2·5-above, power2·5-below}
 use Rattle.exact.specs.Day.{startMark}
 use Rattle.exact.specs.Permeation.{bracket, permeation, markRates, parkingPermeation}
-use Rattle.marks.specs.Marks.{pressureFactor, bracketUnits, rate, rateError, passed}
-use Rattle.marks.proofs.Most.{exponential-most}
+use Rattle.marks.specs.Marks.{pressureFactor, bracketUnits, rate, passed}
+use Rattle.marks.proofs.Most.{all-most}
+
+-- how far permeation per hour can be above `rate`
+abbrev pub rateError : ℕ
+rateError = 494
 
 -- Equal temperatures.
 
@@ -85,7 +89,7 @@ module _ (vp : ℕ) (h : vp ≤ vpLimit) where
 
   -- E(0.44) ≤ 1.56
   pub pressure-most : pressureFactor vp ≤ 156 * 2 ^ 40 / 100
-  pressure-most = omega (arith, exponential-most 44 2 156 2 pressure-within pressure-≤ (omega arith) end-0·44)
+  pressure-most = omega (arith, all-most 156 2 pressure-within (E-to-0·44 40 (omega arith) pressure-≤))
 
 module _ (θ : ℕ) (h : θ ≤ 95 * 10 ^ 10) where
   -- 6.1656·10⁻⁶·T^2.5

@@ -52,7 +52,3 @@ rate vp θ = pressureFactor vp * bracketUnits θ / 2 ^ 40
 unfoldable pub passed : (ℕ → ℕ) → ℕ → ℕ → ℕ
 passed f hour zero = 0
 passed f hour (suc d) = passed f hour d + f (startMark hour (suc d))
-
--- how far permeation per hour can be above `rate`
-abbrev pub rateError : ℕ
-rateError = 494

@@ -19,11 +19,11 @@ use Rattle.sheet.specs.Limits.{vpLimit}
 use Rattle.sheet.specs.Range.{markWarmth, SeasonInRange}
 use Rattle.sheet.proofs.Temperature.{temperature-is, season-in-range}
 use Rattle.marks.specs.Runs.{rising, runs}
-use Rattle.marks.specs.Marks.{stepAt, heatError, rate, rateError, passed}
+use Rattle.marks.specs.Marks.{stepAt, heatError, rate, passed}
 use Rattle.marks.proofs.Rise.{rises-cong, vapour-rises}
 use Rattle.marks.proofs.Runs.{shape, rise-within}
 use Rattle.marks.proofs.Curve.{season-rise-within}
-use Rattle.marks.proofs.Permeation.{permeation-within}
+use Rattle.marks.proofs.Permeation.{rateError, permeation-within}
 use Rattle.parking.specs.Grid.{passedIn}
 use Rattle.parking.specs.Walk.{stepsBack, walked}
 use Rattle.parking.specs.Carried.{SeasonAllowed, carriedAfter, seasonSteps, CarriedRise, CarriedTheorem}

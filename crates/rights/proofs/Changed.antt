@@ -14,11 +14,12 @@ use Rattle.numbers.proofs.Lists.{sum-ext}
 use Rattle.sheet.specs.declared.Check.the-variants.{Pass}
 use Rattle.sheet.specs.Versions.{hasManyRows}
 use Rattle.sheet.specs.Bytes.{rowsOf, cellsOf, seasonList, rowAt}
-use Rattle.sheet.specs.Counts.{countsOf, withCount, withVehicles}
+use Rattle.sheet.specs.Counts.{countsOf, withCount}
 use Rattle.sheet.specs.Check.{_then_}
 use Rattle.sheet.proofs.Checks.{then-pass, refuse-pass, met-passes}
 use Rattle.sheet.proofs.BeforeRows.{rows, season-list, cells}
 use Rattle.sheet.proofs.Count.{before-rows, row-changed, row-kept}
+use Rattle.sheet.proofs.RowDemands.{withVehicles}
 use Rattle.report_words.specs.Report.{counted}
 use Rattle.inventory.specs.ReportCall.{reportCheck}
 use Rattle.inventory.proofs.CallConditions.{report-judged, allowed}

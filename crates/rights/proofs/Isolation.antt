@@ -14,7 +14,7 @@ use Rattle.numbers.proofs.Lists.{sum-ext}
 use Rattle.sheet.specs.declared.Check.{Check}
 use Rattle.sheet.specs.declared.Check.the-variants.{Pass, Refused}
 use Rattle.sheet.specs.Bytes.{rowsOf, rowAt}
-use Rattle.sheet.specs.Counts.{withVehicles}
+use Rattle.sheet.proofs.RowDemands.{withVehicles}
 use Rattle.sheet.specs.Check.{refuse, _then_}
 use Rattle.report_words.specs.Report.{counted, wordsOf}
 use Rattle.ledger.specs.declared.Call.{Call}

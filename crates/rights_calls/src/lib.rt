@@ -55,7 +55,7 @@ fn past_share(held: u64, call: Call) -> bool
     }
 }
 
-// A change: what holds no shared ledger, then 30, 29 and 31.
+// A change: what opening would refuse, then 30, 29 and 31.
 fn change_check(s: &[u8], owners: &[u8], room: usize, who: u64, call: Call) -> Check
     ensures { λ r. ⌜ r ≡ changeCheck (now (s .entry)) (now (owners .entry)) room who call ⌝ }
 {
@@ -117,7 +117,7 @@ pub fn depart(
     change(s, owners, words, who, Call::Departure(row, vehicles))
 }
 
-// A read of a row: what holds no shared ledger, then 30 and 29.
+// A read of a row: what opening would refuse, then 30 and 29.
 fn row_check(s: &[u8], owners: &[u8], room: usize, who: u64, row: u64) -> Check
     ensures { λ r. ⌜ r ≡ rowCheck (now (s .entry)) (now (owners .entry)) room who row ⌝ }
 {
@@ -135,7 +135,7 @@ fn row_check(s: &[u8], owners: &[u8], room: usize, who: u64, row: u64) -> Check
     Check::Pass
 }
 
-// A read of the totals: what holds no shared ledger, then 30.
+// A read of the totals: what opening would refuse, then 30.
 fn totals_check(s: &[u8], owners: &[u8], room: usize, who: u64) -> Check
     ensures { λ r. ⌜ r ≡ totalsCheck (now (s .entry)) (now (owners .entry)) room who ⌝ }
 {

@@ -1,7 +1,7 @@
 -- The cells of a row as the program makes them.
-use mathlib.Core.Path.{_≡_, ap, _∙_}
+use mathlib.Core.Path.{_≡_, refl, ap, _∙_}
 use mathlib.Core.Bool.{Bool, true, false, _||_}
-use Rattle.cells.specs.Between.{cellBetween}
+use Rattle.cells.specs.Between.{LowAndHigh, cellBetween}
 use Rattle.cells.proofs.Between.{between-is}
 use Rattle.shares.specs.declared.Travel.{Travel}
 use Rattle.shares.specs.declared.Words.{Words}
@@ -21,6 +21,12 @@ use Rattle.row_cells.proofs.Demanded.{room-met}
 road-cell : (s : RoadShares) → Fits s → {k : Limits} → k ≡ limitsOf s → cellBetween (k .low) (k .high) ≡ roadCell s
 unfolding limitsOf roadCell
 road-cell s h e = rw e (between-is (total (s .low)) (total (s .high)) (h .order) (h .room))
+
+-- and they are a low and a high mass
+pub limits-in : (s : RoadShares) → Fits s → {k : Limits} → k ≡ limitsOf s → LowAndHigh (k .low) (k .high)
+unfolding limitsOf
+limits-in s h e =
+    rw e (record { least = total (s .low); most = total (s .high); low-is = refl; high-is = refl; order = h .order; room = h .room })
 
 pub record AllFit (s : RowShares) : Type 0 where
   pub urban-fits : Fits (s .urban)

@@ -2,7 +2,7 @@
 -- proved in proofs/SharedOut.
 use Prim.Native.Nat.{_≤_}
 use Rattle.cells.specs.Doubles.{massLimit, double}
-use Rattle.cells.specs.Between.{cellBetween}
+use Rattle.cells.specs.Between.{LowAndHigh, cellBetween}
 use Rattle.shares.specs.declared.RoadShares.{RoadShares}
 use Rattle.shares.specs.Shares.{total}
 use Rattle.row_cells.specs.declared.Limits.{Limits}
@@ -16,6 +16,12 @@ pub record Fits (s : RoadShares) : Type 0 where
 
 unfoldable pub limitsOf : RoadShares → Limits
 limitsOf s = record { low = double (total (s .low)); high = double (total (s .high)) }
+
+-- each road kind's two doubles are a low and a high mass
+pub record LimitsIn (k : RoadLimits) : Type 0 where
+  pub urban-in : LowAndHigh (k .urban .low) (k .urban .high)
+  pub rural-in : LowAndHigh (k .rural .low) (k .rural .high)
+  pub highway-in : LowAndHigh (k .highway .low) (k .highway .high)
 
 unfoldable pub cellsOf : RoadLimits → RowCells
 cellsOf k = record {

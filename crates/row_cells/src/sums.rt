@@ -11,7 +11,7 @@ use shares::RowShares;
 ghost use mathlib.Core.Path.{_≡_};
 ghost use Rattle.shares.specs.Range.{SharesIn, RowIn};
 ghost use Rattle.row_cells.specs.Rows.{over, sharedOut};
-ghost use Rattle.row_cells.specs.Limits.{Fits, limitsOf, cellsOf};
+ghost use Rattle.row_cells.specs.Limits.{Fits, limitsOf, LimitsIn, cellsOf};
 
 // The highs of a road kind pass 2^53. Asked of whole numbers: the double of 2^53 + 1 would not show it.
 fn over(s: RoadShares) -> bool
@@ -34,6 +34,7 @@ fn limits(s: RoadShares) -> Limits
 
 // The three cells, from the lows and highs of the three road kinds.
 fn cells_of(k: RoadLimits) -> RowCells
+    requires { ⌜ LimitsIn k ⌝ }
     ensures { λ r. ⌜ r ≡ cellsOf k ⌝ }
 {
     RowCells {

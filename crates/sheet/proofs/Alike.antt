@@ -155,11 +155,11 @@ module _ (s s' : List ℕ) (i : ℕ) (c : Canister) (t : ℕ) (fitted : equipmen
   }
 
 -- nothing written
-pub nothing-written : (s : List ℕ) (p : ℕ) (c : Canister) (t : ℕ) → Written s s p c t
+nothing-written : (s : List ℕ) (p : ℕ) (c : Canister) (t : ℕ) → Written s s p c t
 nothing-written s p c t = record { same-length = refl; elsewhere = λ k a b d. refl; canister = inl refl; tank = inl refl }
 
 -- the canister written, where the row left it to the class
-pub canister-written : {s s' : List ℕ} {p : ℕ} {c : Canister} {t : ℕ} → p + 24 ≤ length s → u8At s (p + 2) ≡ 255 → Written s s' p c t
+canister-written : {s s' : List ℕ} {p : ℕ} {c : Canister} {t : ℕ} → p + 24 ≤ length s → u8At s (p + 2) ≡ 255 → Written s s' p c t
     → Written s (set s' (p + 2) (codeOf c)) p c t
 canister-written {s} {s'} {p} {c} inside h w =
     let kept : (k : ℕ) → ¬ (k ≡ p + 2) → u8At (set s' (p + 2) (codeOf c)) k ≡ u8At s' k = λ k a. getD-set-other s' (p + 2) k (codeOf c) 0 a in
@@ -172,7 +172,7 @@ canister-written {s} {s'} {p} {c} inside h w =
     }
 
 -- the tank written, where the row left it to the class
-pub tank-written : {s s' : List ℕ} {p : ℕ} {c : Canister} {t : ℕ} → p + 24 ≤ length s → u16At s (p + 6) ≡ 0 → Written s s' p c t
+tank-written : {s s' : List ℕ} {p : ℕ} {c : Canister} {t : ℕ} → p + 24 ≤ length s → u16At s (p + 6) ≡ 0 → Written s s' p c t
     → Written s (set (set s' (p + 6) (t % 256)) (p + 7) (t / 256)) p c t
 tank-written {s} {s'} {p} {c} {t} inside h w =
     let low : List ℕ = set s' (p + 6) (t % 256) in
@@ -191,21 +191,7 @@ tank-written {s} {s'} {p} {c} {t} inside h w =
       tank = inr (h, omega (arith, first, second));
     }
 
--- Row i, inside the sheet, whose class stands for canister c and tank t: the class's canister may be written for 255,
-pub canister-alike : (s : List ℕ) (i : ℕ) {c : Canister} {t : ℕ} → equipmentAt s (rowPlace s i) ≡ Fitted c t
-    → rowPlace s i + 24 ≤ length s → u8At s (rowPlace s i + 2) ≡ 255
-    → Alike s (set s (rowPlace s i + 2) (codeOf c))
-canister-alike s i {c} {t} fitted inside h = alike s _ i c t fitted (canister-written inside h (nothing-written s (rowPlace s i) c t))
-
--- its tank for 0,
-pub tank-alike : (s : List ℕ) (i : ℕ) {c : Canister} {t : ℕ} → equipmentAt s (rowPlace s i) ≡ Fitted c t
-    → rowPlace s i + 24 ≤ length s → u16At s (rowPlace s i + 6) ≡ 0
-    → Alike s (set (set s (rowPlace s i + 6) (t % 256)) (rowPlace s i + 7) (t / 256))
-tank-alike s i {c} {t} fitted inside h = alike s _ i c t fitted (tank-written inside h (nothing-written s (rowPlace s i) c t))
-
--- and both.
-pub both-alike : (s : List ℕ) (i : ℕ) {c : Canister} {t : ℕ} → equipmentAt s (rowPlace s i) ≡ Fitted c t → rowPlace s i + 24 ≤ length s
-    → u8At s (rowPlace s i + 2) ≡ 255
-    → u16At s (rowPlace s i + 6) ≡ 0
-    → Alike s (set (set (set s (rowPlace s i + 2) (codeOf c)) (rowPlace s i + 6) (t % 256)) (rowPlace s i + 7) (t / 256))
-both-alike s i {c} {t} fitted inside h k = alike s _ i c t fitted (tank-written inside k (canister-written inside h (nothing-written s (rowPlace s i) c t)))
+-- So there is such a sheet for every row inside s that leaves both to its class.
+pub both-written : {s : List ℕ} {p : ℕ} {c : Canister} {t : ℕ} → p + 24 ≤ length s → u8At s (p + 2) ≡ 255 → u16At s (p + 6) ≡ 0
+    → Written s (set (set (set s (p + 2) (codeOf c)) (p + 6) (t % 256)) (p + 7) (t / 256)) p c t
+both-written {s} {p} {c} {t} inside h k = tank-written inside k (canister-written inside h (nothing-written s p c t))

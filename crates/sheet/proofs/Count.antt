@@ -15,7 +15,7 @@ use Rattle.sheet.specs.Limits.{vehiclesLimit, fleetLimit}
 use Rattle.sheet.specs.Integers.{u8At, u32At}
 use Rattle.sheet.specs.Versions.{versionOf}
 use Rattle.sheet.specs.Bytes.{seasonsOf, rowsOf, rowPlace, rowFrom, rowAt}
-use Rattle.sheet.specs.Counts.{fourBytes, withCount, withVehicles}
+use Rattle.sheet.specs.Counts.{fourBytes, withCount}
 use Rattle.sheet.specs.Sheet.{vehiclesBefore, rowCheck, sheetCheck}
 use Rattle.sheet.specs.Demands.{Met, MileageRight, rowDemands}
 use Rattle.sheet.proofs.Checks.{met-passes}
@@ -24,7 +24,7 @@ use Rattle.sheet.proofs.Accepted.{Bytes, row-accepted}
 use Rattle.sheet.proofs.Fleet.{vehicles-rise}
 use Rattle.sheet.proofs.Local.{Same, byte-at, word-at, long-at, equipment-same}
 use Rattle.sheet.proofs.BeforeRows.{BeforeRows, version, start, seasons, season, rows-accepted}
-use Rattle.sheet.proofs.RowDemands.{RowBut, VersionMet, row-met-but}
+use Rattle.sheet.proofs.RowDemands.{withVehicles, RowBut, VersionMet, row-met-but}
 
 -- digits of a number to the base 256
 digits : (v a b c x y z : ℕ) {w : ℕ} → a * 256 + x ≡ v → b * 256 + y ≡ a → c * 256 + z ≡ b → w ≡ c → x + 256 * y + 65536 * (z + 256 * w) ≡ v

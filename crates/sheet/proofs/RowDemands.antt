@@ -4,14 +4,31 @@ use mathlib.Core.List.{List}
 use mathlib.Core.Path.{_≡_, refl}
 use Prim.Native.Nat.{ℕ, _+_, _≤_, _<_}
 use native.Mathlib.Omega.{arith}
+use Rattle.exact.specs.declared.Row.{Row}
 use Rattle.sheet.specs.Limits.{vehiclesLimit, fleetLimit}
 use Rattle.sheet.specs.Integers.{u8At, u16At}
 use Rattle.sheet.specs.Versions.{versionOf}
 use Rattle.sheet.specs.Bytes.{seasonsOf, rowPlace, seasonAt, rowAt, equipmentAt}
-use Rattle.sheet.specs.Counts.{withVehicles}
 use Rattle.sheet.specs.Sheet.{vehiclesBefore}
 use Rattle.sheet.specs.Demands.{Met, ExponentMost, MileageRight, rowDemands}
 use Rattle.sheet.proofs.Local.{Same, byte-at, word-at, equipment-same, row-same}
+
+-- a row with v vehicles
+abbrev pub withVehicles : Row → ℕ → Row
+withVehicles row v = record {
+  class = row .class;
+  canister = row .canister;
+  carburettor = row .carburettor;
+  hot = row .hot;
+  fill = row .fill;
+  tank = row .tank;
+  vehicles = v;
+  trips = row .trips;
+  minutes = row .minutes;
+  load = row .load;
+  saturation = row .saturation;
+  mileage = row .mileage;
+}
 
 -- t has the row and the seasons of s
 pub record RowKept (s t : List ℕ) (i : ℕ) : Type 0 where

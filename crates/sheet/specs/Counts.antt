@@ -3,7 +3,6 @@ use mathlib.Core.List.{List, [], _∷_}
 use Prim.Native.Nat.{ℕ, _+_, _/_, _%_}
 use lib.Seq.{sets}
 use Rattle.numbers.specs.Lists.{tab}
-use Rattle.exact.specs.declared.Row.{Row}
 use Rattle.sheet.specs.Bytes.{rowsOf, rowPlace, rowAt}
 
 -- "8 u32 vehicles", row by row
@@ -17,20 +16,3 @@ fourBytes v = v % 256 ∷ v / 256 % 256 ∷ v / 65536 % 256 ∷ v / 16777216 % 2
 -- the sheet with v vehicles in row i: four bytes are stored, and no other
 unfoldable pub withCount : List ℕ → ℕ → ℕ → List ℕ
 withCount s i v = sets s (rowPlace s i + 8) (fourBytes v)
-
--- a row with v vehicles
-abbrev pub withVehicles : Row → ℕ → Row
-withVehicles row v = record {
-  class = row .class;
-  canister = row .canister;
-  carburettor = row .carburettor;
-  hot = row .hot;
-  fill = row .fill;
-  tank = row .tank;
-  vehicles = v;
-  trips = row .trips;
-  minutes = row .minutes;
-  load = row .load;
-  saturation = row .saturation;
-  mileage = row .mileage;
-}

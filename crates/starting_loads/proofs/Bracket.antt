@@ -8,7 +8,7 @@ use native.Mathlib.Decide.{decLe}
 use native.Mathlib.Nat.{mul-le-mul-right, pow-le-pow-right, le-refl}
 use Rattle.numbers.specs.Fraction.{Fraction, _≤ᶠ_, _≈ᶠ_, _+ᶠ_, _-ᶠ_, _*ᶠ_, whole}
 use Rattle.numbers.proofs.Order.{NonNegative, positive→nonNegative, nonNegative→≤, ≤-refl, ≤-trans, ≈-refl, ≈→≤, ≈→≥, +-mono, +-cong, +-comm, +-grows, +-nonNegative, sub-cong, sub-≤, regain, *-cong, ratio, ratio-nonNegative}
-use Rattle.bounds.specs.Series.{E}
+use Rattle.bounds.specs.Series.{E, multiple}
 use Rattle.bounds.specs.Enclosure.{Within}
 use Rattle.bounds.specs.Exponential.{exponent}
 use Rattle.bounds.proofs.Exponential.{E-cong, E-mono, E-positive}
@@ -17,8 +17,8 @@ use Rattle.bounds.proofs.Within.{within-above, within-below, within-from, withi
 use Rattle.bounds.proofs.Units.{unit-pos, units, units-≤, units-sum, units-fold}
 use Rattle.bounds.proofs.Line.{rising, along, along-is, along-mono}
 use Rattle.exact.specs.Canister.{a, b}
-use Rattle.exact.specs.Mileage.{multiple, multiples, g, startingLoad}
-use Rattle.exact.proofs.Smallest.{Reaches, IsStart, smallest, none-reaches, startingLoad-is, multiple-≤, multiple-next}
+use Rattle.exact.specs.Mileage.{multiples, g, startingLoad, Reaches, IsStart, smallest, none-reaches}
+use Rattle.exact.proofs.Smallest.{startingLoad-is, multiple-≤, multiple-next}
 
 -- Multiples of 2⁻ⁿ.
 
@@ -104,7 +104,7 @@ module _ (n A K : ℕ) {σ : ℕ} (vp s saturation T : Fraction) (n40 : 40 ≤ n
         }
 
     pub startingLoad-balanced : Balanced n A K G W saturation (startingLoad n vp s T M saturation)
-    startingLoad-balanced = balanced (startingLoad-is n vp s T M saturation sat-nonNegative)
+    startingLoad-balanced = balanced (startingLoad-is n vp s T M saturation (nonNegative→≤ sat-nonNegative))
 
 -- A balanced load up to an exponent of 0 is at most G + W, a unit and a gram.
 module _ (n A K G W : ℕ) {σ : ℕ} {saturation m : Fraction} (top : along A K saturation ≤ᶠ whole 0) (full : Within (2 ^ 40) σ 1 saturation)

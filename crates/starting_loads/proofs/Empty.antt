@@ -4,45 +4,33 @@ use mathlib.Core.Bool.{Bool, true, false}
 use mathlib.Core.Path.{_≡_, ap}
 use Prim.Native.Nat.{ℕ, _*_, _^_, _≤_, _<_}
 use native.Mathlib.Omega.{arith}
-use Rattle.numbers.specs.Fraction.{Fraction, _≤ᶠ_, _≈ᶠ_, _+ᶠ_, negᶠ, _-ᶠ_, _*ᶠ_, whole, one-pos, _/10^_, ten-pos, inverse}
-use Rattle.numbers.proofs.Order.{positive→nonNegative, test-true, whole-mono, whole-is, ≤-refl, ≤-trans, ≈-refl, ≈-sym, ≈-trans, ≈→≤, ≈→≥, +-mono, +-cong, +-zero, sub-mono, *-mono-left, *-mono-right, *-cong, *-zero, inverse-positive, ratio, ratio-nonNegative}
-use Rattle.bounds.specs.Series.{E}
+use Rattle.numbers.specs.Fraction.{Fraction, _≤ᶠ_, _≈ᶠ_, _+ᶠ_, negᶠ, _-ᶠ_, _*ᶠ_, whole, _/10^_, inverse}
+use Rattle.numbers.proofs.Order.{positive→nonNegative, test-true, whole-mono, ≤-refl, ≤-trans, ≈-refl, ≈-sym, ≈-trans, ≈→≤, ≈→≥, +-mono, +-cong, +-zero, sub-mono, *-mono-left, *-mono-right, *-cong, *-zero, inverse-positive, ratio, ratio-nonNegative}
+use Rattle.bounds.specs.Series.{E, multiple}
 use Rattle.bounds.specs.Enclosure.{Within}
 use Rattle.bounds.specs.Exponential.{exponent}
 use Rattle.bounds.proofs.Within.{widen, within-≈, whole-within}
-use Rattle.bounds.proofs.Ends.{end-2·78, end-7·75}
-use Rattle.bounds.proofs.Exponential.{E-mono, ratio-≤-E}
-use Rattle.bounds.proofs.Sums.{E-neg-most}
+use Rattle.bounds.proofs.Ends.{E-at-2·78, E-at-minus-7·75}
+use Rattle.bounds.proofs.Exponential.{E-mono}
 use Rattle.exact.specs.Canister.{a, b}
-use Rattle.exact.specs.Mileage.{multiple, multiples, g, driven, reaches, firstOf, startingLoad}
+use Rattle.exact.specs.Mileage.{multiples, g, driven, reaches, firstOf, startingLoad}
 use Rattle.starting_loads.proofs.Bracket.{multiple-0}
 use Rattle.starting_loads.proofs.Start.{halves-pos, drivenExponent, drivenExponent-cong}
 
-eight-pos : 0 < 8
-eight-pos = omega arith
-
 -- −7.75, above which no a is; and 2.78, where E is 16 or more
 abbrev top-a : Fraction
-top-a = negᶠ (ratio 775 (10 ^ 2) (ten-pos 2))
+top-a = negᶠ (775 /10^ 2)
 
 abbrev for-16 : Fraction
-for-16 = ratio 278 (10 ^ 2) (ten-pos 2)
+for-16 = 278 /10^ 2
 
 -- a ≤ −7.75, as it is held
 top-a-held : (A : ℕ) → A ≤ 825 * 10 ^ 12 → exponent A ≤ᶠ top-a
-unfolding negᶠ ratio
+unfolding negᶠ _/10^_
 top-a-held A h = omega arith
 
--- E(−7.75) ≤ 1/8
-top-a-lost : (n : ℕ) → 40 ≤ n → E n top-a ≤ᶠ ratio 1 8 eight-pos
-top-a-lost n n40 = E-neg-most n 8 1 _ eight-pos one-pos (ratio-≤-E 40 775 (10 ^ 2) 8 1 (ten-pos 2) one-pos end-7·75 n n40)
-
--- 16 ≤ E(2.78)
-reaches-16 : (n : ℕ) → 40 ≤ n → whole 16 ≤ᶠ E n for-16
-reaches-16 n n40 = ≤-trans (≈→≤ (whole-is 16 one-pos)) (ratio-≤-E 40 278 (10 ^ 2) 16 1 (ten-pos 2) one-pos end-2·78 n n40)
-
 -- 2.78 ≤ (s·(0 − 1/8) + 22.92)/8.13 for s ≤ 2
-for-16-≤ : (h : ℕ) → h ≤ 4 → for-16 ≤ᶠ drivenExponent (ratio h 2 halves-pos) (whole 0 -ᶠ ratio 1 8 eight-pos)
+for-16-≤ : (h : ℕ) → h ≤ 4 → for-16 ≤ᶠ drivenExponent (ratio h 2 halves-pos) (whole 0 -ᶠ 125 /10^ 3)
 unfolding ratio _+ᶠ_ _-ᶠ_ negᶠ _*ᶠ_ _/10^_ inverse whole
 for-16-≤ h l = record { cross = omega arith }
 
@@ -50,9 +38,9 @@ module _ (n A h M : ℕ) (vp s saturation T : Fraction) (n40 : 40 ≤ n) (ea : a
     (es : s ≈ᶠ ratio h 2 halves-pos) (h4 : h ≤ 4) (most : M ≤ 16)
   where
     -- −1/8 ≤ g(0)
-    g-0 : whole 0 -ᶠ ratio 1 8 eight-pos ≤ᶠ g n vp s T (multiple n 0)
+    g-0 : whole 0 -ᶠ 125 /10^ 3 ≤ᶠ g n vp s T (multiple n 0)
     unfolding g
-    g-0 = sub-mono (≈→≥ (multiple-0 n)) (≤-trans (E-mono n (≤-trans (≈→≤ at-0) (top-a-held A A-most))) (top-a-lost n n40))
+    g-0 = sub-mono (≈→≥ (multiple-0 n)) (≤-trans (E-mono n (≤-trans (≈→≤ at-0) (top-a-held A A-most))) (E-at-minus-7·75 n n40))
       where
         at-0 : a vp T +ᶠ b vp T *ᶠ s *ᶠ multiple n 0 ≈ᶠ exponent A
         at-0 = ≈-trans (+-cong ea (≈-trans (*-cong (≈-refl _) (multiple-0 n)) (*-zero _))) (+-zero _)
@@ -67,7 +55,7 @@ module _ (n A h M : ℕ) (vp s saturation T : Fraction) (n40 : 40 ≤ n) (ea : a
     unfolding driven
     empty-reaches =
         ≤-trans (whole-mono most)
-        (≤-trans (reaches-16 n n40)
+        (≤-trans (E-at-2·78 n n40)
         (E-mono n (≤-trans (for-16-≤ h h4) (≤-trans (drivenExponent-mono g-0) (≈→≥ (drivenExponent-cong (g n vp s T (multiple n 0)) es))))))
 
     -- the starting load is 0

@@ -14,12 +14,11 @@ use Rattle.bounds.proofs.Within.{widen}
 use Rattle.bounds.proofs.Units.{units}
 use Rattle.bounds.proofs.Line.{rising, along}
 use Rattle.exact.specs.Canister.{a, b}
-use Rattle.exact.specs.Mileage.{g, driven, startingLoad}
-use Rattle.exact.proofs.Smallest.{Reaches}
+use Rattle.exact.specs.Mileage.{g, driven, startingLoad, Reaches}
 use Rattle.thresholds.specs.Thresholds.{margin, enough, short}
 use Rattle.thresholds.proofs.Threshold.{exponents}
 use Rattle.thresholds.proofs.Found.{enough-reaches, enough-least, short-enough, short-fails}
-use Rattle.starting_loads.specs.Steps.{stepCount, startError}
+use Rattle.starting_loads.specs.Steps.{stepCount}
 use Rattle.starting_loads.specs.Net.{net, startUnits}
 use Rattle.starting_loads.proofs.Bracket.{startingLoad-balanced}
 use Rattle.starting_loads.proofs.Newton.{leftOpen, stepsWidth, steps-within}
@@ -52,6 +51,10 @@ net-high h y G x h0 k l =
 -- how far what is kept can be off, at s = 0.5
 abbrev netError : ℕ
 netError = 71514
+
+-- how far the starting load can be above the computed one
+abbrev pub startError : ℕ
+startError = 129370
 
 -- the cuts of `net`, over bare numbers: v = 8.13·y − 22.92, t = 2·v/h
 low-cut : (h t v y G : ℕ) → v + 2292 * 10 ^ 14 ≡ 813 * y → t * h ≤ 2 * v → G * 5 ^ 16 ≤ t * 2 ^ 24

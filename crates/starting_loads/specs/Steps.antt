@@ -40,7 +40,3 @@ start A K σ G = steps A K σ G stepCount
 -- at each mark
 abbrev pub startsAt : List ℕ → List ℕ → ℕ → ℕ → List ℕ
 startsAt bases growths σ G = tab (λ (mark : ℕ). start (at bases mark) (at growths mark) σ G) 48
-
--- how far the starting load can be above the computed one
-abbrev pub startError : ℕ
-startError = 129370

@@ -2,6 +2,7 @@
 -- `margin` less a unit passes from one to the other. One computed test for each law.
 -- Assumes nothing.
 use mathlib.Core.Bool.{Bool}
+use mathlib.Core.List.{List, [], _∷_}
 use Prim.Native.Nat.{ℕ, suc, _+_, _*_, _-_, _^_, _≤_, _<_}
 use native.Mathlib.Omega.{arith}
 use lib.Dec.{leb, leb→le}
@@ -12,7 +13,13 @@ use Rattle.numbers.proofs.Order.{≤-trans, ≈→≤, ≈→≥, ratio, whole-
 use Rattle.bounds.proofs.Tail.{belowTest}
 use Rattle.bounds.proofs.Table.{every, at}
 use Rattle.bounds.proofs.Exponential.{E-mono, E-≤-ratio, ratio-≤-E}
-use Rattle.thresholds.specs.Thresholds.{far, farAbove, nearError, margin}
+use Rattle.thresholds.specs.Thresholds.{far, nearError, margin}
+
+-- 2³⁰·E(c) from above, for c from 0 to 14 and every n from 40 upward
+unfoldable pub farAbove : List ℕ
+farAbove =
+    1073741824 ∷ 2918732889 ∷ 7933938574 ∷ 21566681052 ∷ 58624317204 ∷ 159357416161 ∷ 433178368580 ∷ 1177500887790 ∷
+    3200779266274 ∷ 8700620116420 ∷ 23650737558790 ∷ 64289370135714 ∷ 174756626603088 ∷ 475037762501068 ∷ 1291286517713430 ∷ []
 
 -- t·2⁻³⁰
 abbrev pub farUnits : ℕ → Fraction

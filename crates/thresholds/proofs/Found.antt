@@ -12,9 +12,8 @@ use Rattle.numbers.specs.Fraction.{_≤ᶠ_, whole, _/10^_}
 use Rattle.bounds.specs.Series.{E}
 use Rattle.bounds.specs.Exponential.{exponential}
 use Rattle.numbers.proofs.Order.{≤-trans, ratio}
-use Rattle.bounds.proofs.Exponential.{E-below}
 use Rattle.bounds.proofs.ExponentialBound.{exponential-at-0, exponential-at-1·41}
-use Rattle.bounds.proofs.Ends.{end-2·8201}
+use Rattle.bounds.proofs.Ends.{E-to-2·8201}
 use Rattle.thresholds.specs.Thresholds.{far, nearError, within, digit, digits, firstAfter, wholeAbove, enough, margin, short}
 use Rattle.thresholds.proofs.Far.{triple}
 use Rattle.thresholds.proofs.Threshold.{exponents, reached, beyond}
@@ -172,7 +171,7 @@ module _ (M : ℕ) (least : 17 ≤ M) (most : M ≤ 10 ^ 6) where
             absurd
             (too-small M least
             (≤-trans (enough-reaches 40 (omega arith))
-            (E-below 40 28201 4 169 1 (omega arith) end-2·8201 40 (omega arith) (exponents-decimal (enough M) h))))
+            (E-to-2·8201 40 (omega arith) (exponents-decimal (enough M) h))))
         | no h ↦ omega arith
       ]
 

@@ -17,8 +17,8 @@ use Rattle.bounds.proofs.Sums.{E-product-above, E-product-below, one-plus}
 use Rattle.bounds.proofs.ExponentialBound.{exponential-within, exponentialError-1·41}
 use Rattle.bounds.proofs.Within.{widen, within-≈, within-above, within-below}
 use Rattle.bounds.proofs.Units.{unit-pos, units}
-use Rattle.thresholds.specs.Thresholds.{far, farAbove, nearError, margin}
-use Rattle.thresholds.proofs.Far.{farUnits, far-below, far-above, grown, gap}
+use Rattle.thresholds.specs.Thresholds.{far, nearError, margin}
+use Rattle.thresholds.proofs.Far.{farAbove, farUnits, far-below, far-above, grown, gap}
 
 -- k·10⁻¹⁴
 abbrev pub exponents : ℕ → Fraction

@@ -9,8 +9,7 @@ use Rattle.numbers.specs.Fraction.{_≤ᶠ_, whole}
 use Rattle.numbers.specs.Lists.{at}
 use Rattle.numbers.proofs.Order.{≤-trans, *-mono-left, whole-nonNegative}
 use Rattle.exact.specs.Masses.{Mechanism, diurnal, soak, running}
-use Rattle.exact.specs.Volatile.{WithoutCanister}
-use Rattle.exact.proofs.Volatile.{mass-rises}
+use Rattle.exact.proofs.Volatile.{WithoutCanister, mass-rises}
 use Rattle.sheet.specs.declared.Check.the-variants.{Pass}
 use Rattle.sheet.specs.Bytes.{cellsOf, seasonList, rowAt}
 use Rattle.sheet.specs.Sheet.{sheetCheck}

@@ -1,4 +1,4 @@
--- `ledger_calls::change` meets its contract: what holds no ledger is refused as opening it would be, then 29, then the count is changed, and
+-- `ledger_calls::change` meets its contract: what opening would refuse is refused alike, then 29, then the count is changed, and
 -- the words of its row and all sums are made anew.
 -- Assumes nothing.
 use mathlib.Core.Bool.{false}

@@ -1,6 +1,6 @@
 -- `row_cells::sums::share_out` meets its contract.
 use borrow.Author.Needs.{needs}
-use Rattle.row_cells.proofs.SharedOut.{AllFit, out-over, all-fit, out-cells}
+use Rattle.row_cells.proofs.SharedOut.{limits-in, AllFit, out-over, all-fit, out-cells}
 use Rattle.row_cells.proofs.sums.share_out.Statement.{statement}
 use Rattle.row_cells.proofs.sums.share_out.Tie as tie
 
@@ -24,6 +24,15 @@ limits-requires-2 c κs = fits (c .before) .rural-fits
 limits-requires-3 : tie.Need-limits-requires-3
 limits-requires-3 c κs = fits (c .before .before) .highway-fits
 
+cells-of-requires : tie.Need-cells-of-requires
+cells-of-requires c κs =
+    let all = fits (c .before .before .before) in
+    record {
+      urban-in = limits-in _ (all .urban-fits) (c .before .before .limits .ensures);
+      rural-in = limits-in _ (all .rural-fits) (c .before .limits2 .ensures);
+      highway-in = limits-in _ (all .highway-fits) (c .limits3 .ensures);
+    }
+
 returns-2 : tie.Need-returns-2
 returns-2 c =
     let b : tie.Else1 = c .before .before .before .before in
@@ -41,5 +50,5 @@ share-out-spec =
     limits-requires
     limits-requires-2
     limits-requires-3
-    (λ c κs. search needs)
+    cells-of-requires
     returns-2)
