@@ -5,7 +5,9 @@ use libc::STDIN_FILENO;
 use rights::RowAnswer;
 use rights::TotalsAnswer;
 use sheet::Check;
+use vectors::bytes::LONGEST;
 use vectors::bytes::copy;
+use vectors::bytes::room;
 use vectors::bytes::same_bytes;
 use vectors::input::COUNT;
 use vectors::input::record_at;
@@ -18,7 +20,6 @@ use vectors::print::text;
 use vectors::tally::next;
 use vectors::tally::smaller;
 use vectors::words::OLD;
-use vectors::words::kept;
 use vectors::words::stands;
 ghost use mathlib.Core.Path.{_≡_};
 ghost use Prim.Native.Nat.{_≤_, _<_};
@@ -32,9 +33,6 @@ const HEAD: usize = 12;
 // each; the number that is expected in one and the place in two; the count that is told in four; from which word on the words told stand in
 // the buffer in two; and in two where the answer is kept to be compared, 0 where it is not
 const CALL: usize = 36;
-
-// The bytes of the longest sheet
-const LONGEST: usize = 25256;
 
 // The numbers of an answer: number, place, then what is told. Of a ledger 25 answers are kept.
 const ANSWER: usize = 28;
@@ -130,7 +128,7 @@ fn of_change(sheet: &mut [u8], owners: &[u8], words: &mut [u64], c: &[u8]) -> [u
     ensures { λ r. ⌜ length r ≡ 28 ⌝ }
 {
     let n = smaller(sheet.len(), LONGEST);
-    let mut bytes = [0u8; 25256];
+    let mut bytes = room();
     copy(&mut bytes, &sheet[0..n]);
     let mut old = [0u64; 6144];
     store(&mut old, 0, words);
@@ -200,6 +198,14 @@ fn print_call(call: u64, asked: u64, found: u64) {
     text(b" or leaves something else\n");
 }
 
+// Whether an answer is the one that is expected
+fn is_expected(words: &[u64], answer: &[u64], c: &[u8]) -> bool
+    requires { ⌜ (36 ≤ length (now c)) × (28 ≤ length (now answer)) ⌝ }
+{
+    let numbers = (answer[0] == u8_at(c, 25)) & (answer[1] == u16_at(c, 26));
+    numbers & tells(words, answer, c)
+}
+
 // Makes a call and keeps its answer. Whether it is the one that is expected
 fn call_right(
     sheet: &mut [u8],
@@ -212,8 +218,7 @@ fn call_right(
     requires { ⌜ 36 ≤ length (now c) ⌝ }
 {
     let answer = answer_of(sheet, owners, words, c);
-    let numbers = (answer[0] == u8_at(c, 25)) & (answer[1] == u16_at(c, 26));
-    let right = numbers & tells(words, &answer, c);
+    let right = is_expected(words, &answer, c);
     keep(answers, u16_at(c, 34) as usize, &answer);
     if !right {
         print_call(call, u8_at(c, 0), answer[0]);
@@ -249,10 +254,16 @@ fn opens(found: Check, unchanged: bool, head: &[u8]) -> bool
     numbers & ((answer[0] == 0) | unchanged)
 }
 
+// Whether every word of the buffer is as it was before anything was opened in it
+fn untouched(words: &[u64]) -> bool {
+    let old = [OLD; 6144];
+    stands(words, 0, &old)
+}
+
 // Whether the words are those that a fresh report leaves in a buffer that held nothing, or, where the ledger did not open, as they were
-fn ends(s: &[u8], words: &[u64; 6144], refused: bool) -> bool {
+fn ends(s: &[u8], words: &[u64], refused: bool) -> bool {
     if refused {
-        return kept(words, 0);
+        return untouched(words);
     }
     let mut fresh = [OLD; 6144];
     inventory::report(s, &mut fresh);
@@ -267,7 +278,39 @@ fn paired(before: &mut [u64], answers: &[u64], like: bool, tallies: &mut [u64; 8
     store(before, 0, answers);
 }
 
-// A ledger: whether it opens as expected, its calls, its words at the end, and whether the answers kept are those of the ledger before
+// Opens a ledger: whether it is answered as expected, the sheet as it was, and where it is refused the words too
+fn with_opening(
+    s: &[u8],
+    sheet: &[u8],
+    owners: &[u8],
+    words: &mut [u64],
+    head: &[u8],
+    tallies: &mut [u64; 8],
+)
+    requires { ⌜ 12 ≤ length (now head) ⌝ }
+{
+    let found = rights_calls::open(sheet, owners, words);
+    let right = opens(found, untouched(words), head);
+    tried(tallies, OPENINGS, right & same_bytes(sheet, s));
+}
+
+// The end of a ledger: its words, and whether the answers kept are those of the ledger before
+fn with_end(
+    sheet: &[u8],
+    words: &[u64],
+    answers: &[u64],
+    head: &[u8],
+    before: &mut [u64],
+    tallies: &mut [u64; 8],
+)
+    requires { ⌜ 12 ≤ length (now head) ⌝ }
+{
+    let like = u16_at(head, 10) != 0;
+    tried(tallies, ENDS, ends(sheet, words, u16_at(head, 6) != 0));
+    paired(before, answers, like, tallies);
+}
+
+// A ledger: its opening, its calls and its end
 fn with_sheet(
     s: &[u8],
     sheet: &mut [u8],
@@ -279,17 +322,11 @@ fn with_sheet(
 )
     requires { ⌜ 12 ≤ length (now head) ⌝ }
 {
-    let refused = u16_at(head, 6) != 0;
-    let like = u16_at(head, 10) != 0;
     let mut words = [OLD; 6144];
     let mut answers = [0u64; 700];
-    let found = rights_calls::open(sheet, owners, &mut words);
-    let opened = opens(found, kept(&words, 0), head) & same_bytes(sheet, s);
-    tried(tallies, OPENINGS, opened);
+    with_opening(s, sheet, owners, &mut words, head, tallies);
     with_calls(sheet, owners, &mut words, &mut answers, calls, tallies);
-    let ended = ends(sheet, &words, refused);
-    tried(tallies, ENDS, ended);
-    paired(before, &answers, like, tallies);
+    with_end(sheet, &words, &answers, head, before, tallies);
 }
 
 // With a copy of the sheet that the calls may change; the owners stand behind it
@@ -298,7 +335,7 @@ fn with_ledger(s: &[u8], calls: &[u8], head: &[u8], before: &mut [u64], tallies:
 {
     let n = smaller(smaller(u16_at(head, 4) as usize, s.len()), LONGEST);
     let end = s.len();
-    let mut sheet = [0u8; 25256];
+    let mut sheet = room();
     copy(&mut sheet, &s[0..n]);
     with_sheet(
         &s[0..n],
@@ -333,10 +370,19 @@ fn with_ledgers(s: &[u8], before: &mut [u64], tallies: &mut [u64; 8]) {
     }
 }
 
-fn print(name: &[u8], tried: u64, right: u64) {
-    number(name, tried);
-    number(b" right ", right);
+fn print(name: &[u8], tallies: &[u64; 8], what: usize)
+    requires { ⌜ what < 7 ⌝ }
+{
+    number(name, tallies[what]);
+    number(b" right ", tallies[what + 1]);
     text(b"\n");
+}
+
+fn print_all(tallies: &[u64; 8]) {
+    print(b"openings ", tallies, OPENINGS);
+    print(b"calls ", tallies, CALLS);
+    print(b"words at the end ", tallies, ENDS);
+    print(b"pairs told the same ", tallies, PAIRS);
 }
 
 // A ledger that is cut off is missing from the tallies; the count of calls that the input gives shows it.
@@ -348,11 +394,8 @@ fn report(s: &[u8]) {
     let mut before = [0u64; 700];
     let mut tallies = [0u64; 8];
     with_ledgers(&s[COUNT..], &mut before, &mut tallies);
-    print(b"openings ", tallies[0], tallies[1]);
-    print(b"calls ", tallies[2], tallies[3]);
-    print(b"words at the end ", tallies[4], tallies[5]);
-    print(b"pairs told the same ", tallies[6], tallies[7]);
-    vectors::print::count(tallies[2], u32_at(s, 0), b" calls\n");
+    print_all(&tallies);
+    vectors::print::count(tallies[CALLS], u32_at(s, 0), b" calls\n");
 }
 
 fn main() {
