@@ -1,6 +1,6 @@
 //! Nanoseconds of one exponential: that of `bounds`, the same method in Rust, and `exp` of an f64; the same
 //! exponents for all.
-use common::clock::{in_turn, RUNS};
+use common::clock::{in_turn, Run, RUNS};
 use method::exponential::exponential;
 use method::products::{Halves, OneWhole, Products, Wide};
 use std::hint::black_box;
@@ -50,22 +50,16 @@ fn main() {
     let same: [(&str, Sum); 3] =
         [(Wide::NAME, sum_same::<Wide>), (Halves::NAME, sum_same::<Halves>), (OneWhole::NAME, sum_same::<OneWhole>)];
     let mut names = vec!["bounds".to_string()];
-    let mut runs: Vec<Box<dyn FnMut()>> = vec![Box::new(|| {
-        black_box(sum_ours(black_box(&xs)));
-    })];
+    let mut runs = vec![Run::new(PASSES, || sum_ours(black_box(&xs)))];
     for (products, sum) in same {
         assert_eq!(sum_ours(&xs), sum(&xs), "the two methods differ");
         names.push(format!("the same method in Rust, {products}"));
         let xs = &xs;
-        runs.push(Box::new(move || {
-            black_box(sum(black_box(xs)));
-        }));
+        runs.push(Run::new(PASSES, move || sum(black_box(xs))));
     }
     names.push("f64 exp".to_string());
-    runs.push(Box::new(|| {
-        black_box(sum_float(black_box(&zs)));
-    }));
-    let times = in_turn(PASSES, &mut runs);
+    runs.push(Run::new(PASSES, || sum_float(black_box(&zs))));
+    let times = in_turn(&mut runs);
     println!(
         "One exponential, nanoseconds: median of {RUNS} runs of {PASSES} times {EXPONENTS} exponents; how many\n\
          times as long bounds takes\n"

@@ -1,6 +1,6 @@
 //! One report of a sheet of 32 rows, the most before version 4, with 12 seasons and no empty cell: the library
 //! and the plain program in f64, whose masses are compared first.
-use common::clock::{in_turn, RUNS};
+use common::clock::{in_turn, Run, RUNS};
 use common::library::{report, report_words};
 use common::samples::{full, Kind};
 use std::hint::black_box;
@@ -25,15 +25,10 @@ fn compare(sheet: &[u8]) {
 /// Microseconds: the library's and the plain program's.
 fn report_times(sheet: &[u8]) -> [f64; 2] {
     let mut words = report_words(sheet, ROWS);
-    let times = in_turn(
-        CALLS,
-        &mut [
-            Box::new(|| report(black_box(sheet), black_box(&mut words)).unwrap()),
-            Box::new(|| {
-                black_box(floats::plain::report(black_box(sheet)).unwrap());
-            }),
-        ],
-    );
+    let times = in_turn(&mut [
+        Run::new(CALLS, || report(black_box(sheet), black_box(&mut words)).unwrap()),
+        Run::new(CALLS, || floats::plain::report(black_box(sheet)).unwrap()),
+    ]);
     [times[0].median(), times[1].median()]
 }
 

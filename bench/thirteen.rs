@@ -5,7 +5,7 @@
 //!
 //! `thirteen FOLDER` writes the last figures to FOLDER/rows.txt and FOLDER/seasons.txt as well, in the form
 //! that tools/picture.py draws.
-use common::clock::{in_turn, Machine, Times, RUNS};
+use common::clock::{in_turn, Machine, Run, Times, RUNS};
 use common::library;
 use common::samples::{damaged, full, random, Kind, THREE};
 use common::sheet::Sheet;
@@ -18,7 +18,7 @@ use std::process::ExitCode;
 const ROWS: usize = 1_000;
 const SEASONS: usize = 12;
 
-/// A row in a season is computed so often in each run, whatever the sheet.
+/// The rows of Thirteen's sheet in all its seasons.
 const ROW_SEASONS: usize = ROWS * SEASONS;
 
 /// A mass in f64 may be outside its band by this part of it.
@@ -174,37 +174,40 @@ fn compare_floats() -> Outcome<()> {
 
 // ---------------------------------------------------------------- how long it takes
 
-fn library_run(bytes: &[u8], rows: usize) -> Box<dyn FnMut() + '_> {
-    let mut words = vec![0; library::words_of(rows)];
-    Box::new(move || library::report(black_box(bytes), black_box(&mut words)).unwrap())
+/// So many calls that every run takes about as long, whatever the sheet.
+fn calls(rows: usize, seasons: usize) -> usize {
+    (ROW_SEASONS / (rows * seasons)).max(1)
 }
 
-fn rust_run(program: Program, bytes: &[u8], rows: usize) -> Box<dyn FnMut() + '_> {
+fn library_run(calls: usize, bytes: &[u8], rows: usize) -> Run<'_> {
     let mut words = vec![0; library::words_of(rows)];
-    Box::new(move || program(black_box(bytes), black_box(&mut words)).unwrap())
+    Run::new(calls, move || library::report(black_box(bytes), black_box(&mut words)).unwrap())
 }
 
-fn float_run(program: floats::Program, bytes: &[u8]) -> Box<dyn FnMut() + '_> {
-    Box::new(move || {
-        black_box(program(black_box(bytes)).unwrap());
-    })
+fn rust_run(calls: usize, program: Program, bytes: &[u8], rows: usize) -> Run<'_> {
+    let mut words = vec![0; library::words_of(rows)];
+    Run::new(calls, move || program(black_box(bytes), black_box(&mut words)).unwrap())
+}
+
+fn float_run(program: floats::Program, bytes: &[u8]) -> Run<'_> {
+    Run::new(1, move || program(black_box(bytes)).unwrap())
 }
 
 /// The programs of request Thirteen, each with a line of what it is.
 struct Field<'a> {
     names: Vec<String>,
-    runs: Vec<Box<dyn FnMut() + 'a>>,
+    runs: Vec<Run<'a>>,
 }
 
 impl<'a> Field<'a> {
     fn new(bytes: &'a [u8]) -> Self {
         let mut field = Field { names: Vec::new(), runs: Vec::new() };
-        field.add("library, proved (evp_report)".to_string(), library_run(bytes, ROWS));
+        field.add("library, proved (evp_report)".to_string(), library_run(1, bytes, ROWS));
         for step in Step::ALL {
             let now = if step == LIBRARY { " *" } else { "" };
             for (products, program) in step.programs() {
                 let name = format!("Rust, {}: {products}{now}", step.what());
-                field.add(name, rust_run(program, bytes, ROWS));
+                field.add(name, rust_run(1, program, bytes, ROWS));
             }
         }
         for (name, program) in floats::PROGRAMS {
@@ -213,7 +216,7 @@ impl<'a> Field<'a> {
         field
     }
 
-    fn add(&mut self, name: String, run: Box<dyn FnMut() + 'a>) {
+    fn add(&mut self, name: String, run: Run<'a>) {
         self.names.push(name);
         self.runs.push(run);
     }
@@ -240,7 +243,7 @@ fn fastest(times: &[Times]) -> Fastest {
 fn time_thirteen() -> Fastest {
     let bytes = thirteen();
     let Field { names, mut runs } = Field::new(&bytes);
-    let times = in_turn(1, &mut runs);
+    let times = in_turn(&mut runs);
     let ours = times[0].median();
     heading(&format!(
         "One report of Thirteen's sheet, milliseconds of processor time: median of {RUNS} runs and their range; how\n\
@@ -269,43 +272,59 @@ fn time_kinds(rust: &Fastest) {
         rust.products
     ));
     println!(
-        "{:<16}{:>10}{:>10}{:>10}{:>10}{:>10}{:>10}{:>14}",
-        "rows", "library", "Rust", "plain", "shared", "all", "ratio", "us"
+        "{:<16}{:>10}{:>10}{:>10}{:>10}{:>10}{:>10}{:>10}",
+        "rows", "library", "Rust", "plain", "shared", "all", "ratio", "µs"
     );
     let kinds = [("no canister", Kind::Open), ("load", Kind::Load), ("mileage", Kind::Mileage)];
     for (name, kind) in kinds {
         let bytes = full(4, &[kind], SEASONS, ROWS);
-        let mut runs = vec![library_run(&bytes, ROWS), rust_run(rust.program, &bytes, ROWS)];
+        let mut runs = vec![library_run(1, &bytes, ROWS), rust_run(1, rust.program, &bytes, ROWS)];
         runs.extend(floats::PROGRAMS.map(|(_, program)| float_run(program, &bytes)));
-        let medians: Vec<f64> = in_turn(1, &mut runs).iter().map(Times::median).collect();
+        let medians: Vec<f64> = in_turn(&mut runs).iter().map(Times::median).collect();
         let mut line = format!("{name:<16}");
         for median in &medians {
             write!(line, "{:>10.3}", median / 1e3).expect("a string can be written to");
         }
         let a_row = medians[0] / ROW_SEASONS as f64;
-        println!("{line}{:>10.2}{a_row:>14.3}", medians[0] / medians[1]);
+        println!("{line}{:>10.2}{a_row:>10.3}", medians[0] / medians[1]);
     }
 }
 
-/// One line of the table of rows and seasons; gives the library's median in microseconds.
-fn time_size(program: Program, rows: usize, seasons: usize) -> f64 {
-    let bytes = full(4, THREE, seasons, rows);
-    let calls = (ROW_SEASONS / (rows * seasons)).max(1);
-    let mut runs = [library_run(&bytes, rows), rust_run(program, &bytes, rows)];
-    let [ours, rust] = &in_turn(calls, &mut runs)[..] else { unreachable!("two programs have two times") };
-    println!(
-        "{:>6}{seasons:>9}{} {:>9.3}{:>8.2}{:>14.3}",
-        grouped(rows),
-        ours.milliseconds(),
-        rust.median() / 1e3,
-        ours.median() / rust.median(),
-        ours.median() / (rows * seasons) as f64
-    );
-    ours.median()
+/// The size of a sheet, and the library's median for it in microseconds.
+struct Size {
+    rows: usize,
+    seasons: usize,
+    time: f64,
+}
+
+/// Prints a line for each size. All are measured in turn, so that the machine is the same for each.
+fn time_each(rust: &Fastest, sizes: &mut [Size]) {
+    let sheets: Vec<Vec<u8>> = sizes.iter().map(|size| full(4, THREE, size.seasons, size.rows)).collect();
+    let mut runs = Vec::new();
+    for (bytes, size) in sheets.iter().zip(sizes.iter()) {
+        let calls = calls(size.rows, size.seasons);
+        runs.push(library_run(calls, bytes, size.rows));
+        runs.push(rust_run(calls, rust.program, bytes, size.rows));
+    }
+    let times = in_turn(&mut runs);
+    println!("{:>6}{:>9}{:>9} {:>22} {:>9}{:>8}{:>10}", "rows", "seasons", "library", "", "Rust", "ratio", "µs");
+    for (size, pair) in sizes.iter_mut().zip(times.chunks_exact(2)) {
+        let (ours, rust) = (&pair[0], pair[1].median());
+        size.time = ours.median();
+        println!(
+            "{:>6}{:>9}{} {:>9.3}{:>8.2}{:>10.3}",
+            grouped(size.rows),
+            size.seasons,
+            ours.milliseconds(),
+            rust / 1e3,
+            size.time / rust,
+            size.time / (size.rows * size.seasons) as f64
+        );
+    }
 }
 
 /// Figures in the form of docs/rows.txt.
-fn figures(title: &str, what: &str, found: &[(usize, f64)]) -> String {
+fn figures(title: &str, what: &str, found: impl Iterator<Item = (usize, f64)>) -> String {
     let mut text = format!(
         "# One report of a version 4 sheet with no empty parking cell, rows without canister, with a load and with a\n\
          # mileage in turn: {what}, and microseconds of processor time, the median of {RUNS} runs\n\
@@ -327,23 +346,25 @@ fn time_sizes(rust: &Fastest, folder: Option<&Path>) -> Outcome<()> {
          season has for all rows:",
         rust.products
     ));
-    println!("{:>6}{:>9}{:>9} {:>22} {:>9}{:>8}{:>14}", "rows", "seasons", "library", "", "Rust", "ratio", "us");
-    let sizes = [1, 10].into_iter().chain((100..=ROWS).step_by(100));
-    let by_rows: Vec<_> = sizes.map(|rows| (rows, time_size(rust.program, rows, SEASONS))).collect();
-    println!();
-    let sizes = [1, 2, 4, 8, SEASONS];
-    let by_seasons = sizes.map(|seasons| (seasons, time_size(rust.program, ROWS, seasons)));
-    if let Some(folder) = folder {
-        let write = |file: &str, text: String| {
-            let path = folder.join(file);
-            std::fs::write(&path, text).map_err(|error| format!("{}: {error}", path.display()))
-        };
-        let title = "One report of 12 seasons, by the rows of its sheet";
-        write("rows.txt", figures(title, "the rows, with 12 seasons", &by_rows))?;
-        let title = "One report of 1,000 rows, by the seasons of its sheet";
-        write("seasons.txt", figures(title, "the seasons, with 1,000 rows", &by_seasons))?;
-    }
-    Ok(())
+    let by_rows = [1, 10].into_iter().chain((100..=ROWS).step_by(100)).map(|rows| (rows, SEASONS));
+    let by_seasons = [1, 2, 4, 8, SEASONS].map(|seasons| (ROWS, seasons));
+    let all = by_rows.chain(by_seasons);
+    let mut sizes: Vec<Size> = all.map(|(rows, seasons)| Size { rows, seasons, time: 0.0 }).collect();
+    time_each(rust, &mut sizes);
+    let Some(folder) = folder else {
+        return Ok(());
+    };
+    let (by_rows, by_seasons) = sizes.split_at(sizes.len() - by_seasons.len());
+    let by_rows = by_rows.iter().map(|size| (size.rows, size.time));
+    let by_seasons = by_seasons.iter().map(|size| (size.seasons, size.time));
+    let write = |file: &str, text: String| {
+        let path = folder.join(file);
+        std::fs::write(&path, text).map_err(|error| format!("{}: {error}", path.display()))
+    };
+    let title = "One report of 12 seasons, by the rows of its sheet";
+    write("rows.txt", figures(title, "the rows, with 12 seasons", by_rows))?;
+    let title = "One report of 1,000 rows, by the seasons of its sheet";
+    write("seasons.txt", figures(title, "the seasons, with 1,000 rows", by_seasons))
 }
 
 fn run(folder: Option<&Path>) -> Outcome<()> {
