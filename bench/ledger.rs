@@ -1,57 +1,49 @@
-//! The time of one call on a ledger of version 4 with 12 seasons and no empty cell, by the number of its rows and by what the row has, beside
-//! that of the report of the same sheet. The calls go through the static library; at the end the words are held against a fresh report.
+//! One call on a ledger of version 4 with 12 seasons and no empty cell, by the number of its rows and by what
+//! the row has, beside the report of the same sheet. At the end the words are held against a fresh report.
+use common::clock::{timed, Times, RUNS};
+use common::library::{arrive, depart, report, report_words};
+use common::samples::{full, THREE};
 use std::hint::black_box;
 
-// the sheets and the clock of bench/report.rs
-#[allow(dead_code)]
-mod report;
-use report::{full_sheet, measured, median, proved_report, Canisters, Check, CALLS, ROUNDS, SEASONS};
+const SEASONS: usize = 12;
+const CALLS: usize = 20;
 
-#[link(name = "evaporation", kind = "static")]
-extern "C" {
-    fn evp_arrive(sheet: *mut u8, bytes: usize, words: *mut u64, count: usize, row: u64, vehicles: u64) -> Check;
-    fn evp_depart(sheet: *mut u8, bytes: usize, words: *mut u64, count: usize, row: u64, vehicles: u64) -> Check;
-}
-
-// one vehicle arrives, or departs
-fn change(sheet: &mut [u8], words: &mut [u64], row: usize, arrives: bool) {
-    let call = if arrives { evp_arrive } else { evp_depart };
-    let check = unsafe { call(sheet.as_mut_ptr(), sheet.len(), words.as_mut_ptr(), words.len(), row as u64, 1) };
-    assert_eq!((check.number, check.place), (0, 0), "the call is refused");
-}
-
-// microseconds of a report, and of a call on a row without canister, with a load and with a mileage
-fn ledger_times(count: usize) {
-    let (mut sheet, _, _, _) = full_sheet(Canisters::Three, count);
-    let mut words = vec![0u64; 6 * count + 26];
-    proved_report(&sheet, &mut words);
-    let mut other = words.clone();
+/// Microseconds of a report, and of a call on a row without canister, with a load and with a mileage.
+fn ledger_times(rows: usize) -> (f64, [f64; 3]) {
+    let mut sheet = full(4, THREE, SEASONS, rows);
+    let mut words = report_words(&sheet, rows);
+    let mut fresh = words.clone();
     let mut reports = Vec::new();
     let mut calls = [Vec::new(), Vec::new(), Vec::new()];
-    for _ in 0..ROUNDS {
-        reports.push(measured(|| proved_report(black_box(&sheet), black_box(&mut other))));
-        for kind in 0..3 {
+    for _ in 0..RUNS {
+        reports.push(timed(CALLS, || report(black_box(&sheet), black_box(&mut fresh)).unwrap()));
+        for (kind, calls) in calls.iter_mut().enumerate() {
             // the last row of its kind
-            let row = count - 1 - (count - 1 + 3 - kind) % 3;
+            let row = (0..rows).rev().find(|row| row % 3 == kind).expect("there are three rows");
             let mut arrives = false;
-            calls[kind].push(measured(|| {
+            calls.push(timed(CALLS, || {
                 arrives = !arrives;
-                change(black_box(&mut sheet), black_box(&mut words), row, arrives);
+                let change = if arrives { arrive } else { depart };
+                change(black_box(&mut sheet), black_box(&mut words), row).unwrap();
             }));
         }
     }
-    proved_report(&sheet, &mut other);
-    assert_eq!(words, other, "the words are not those of a fresh report");
-    let report = median(reports);
-    let call = calls.map(median);
-    let slowest = call.iter().copied().fold(0.0, f64::max);
-    println!("{:>5} {:>9.0} {:>9.0} {:>9.0} {:>9.0} {:>9.0}", count, report, call[0], call[1], call[2], report / slowest);
+    assert_eq!(words, report_words(&sheet, rows), "the words are not those of a fresh report");
+    (Times::new(reports).median(), calls.map(|runs| Times::new(runs).median()))
 }
 
 fn main() {
-    println!("one call on a ledger, {} seasons: median of {} rounds of {} calls, microseconds", SEASONS, ROUNDS, CALLS);
-    println!("{:>5} {:>9} {:>9} {:>9} {:>9} {:>9}", "rows", "report", "none", "load", "mileage", "times");
-    for rows in [3, 10, 32, 100, 320, 1000] {
-        ledger_times(rows);
+    println!(
+        "One vehicle arrives at a row of a ledger or departs, {SEASONS} seasons, microseconds: median of {RUNS} runs\n\
+         of {CALLS} calls\n"
+    );
+    println!(
+        "{:>6}{:>10}{:>14}{:>8}{:>10}{:>28}",
+        "rows", "report", "no canister", "load", "mileage", "report / slowest call"
+    );
+    for rows in [3, 10, 32, 100, 320, 1_000] {
+        let (report, [open, load, mileage]) = ledger_times(rows);
+        let slowest = open.max(load).max(mileage);
+        println!("{rows:>6}{report:>10.0}{open:>14.0}{load:>8.0}{mileage:>10.0}{:>28.1}", report / slowest);
     }
 }
