@@ -62,13 +62,12 @@ def told(case):
     return Vector(case, first, all_told)
 
 
-# Few cells and one season, since each change makes a row anew.
+# Few cells and one season, since each change makes a row anew. The products of
+# the two lists are the cells of a version 1 sheet.
 GRID = cells_grid({(7, 3): 5, (24, 24): 2})
-
-LISTS = ((0,) * 6 + (5,) + (0,) * 17, (0, 0, 1) + (0,) * 21)
-
+LISTS = ((0,) * 6 + (5,) + (0,) * 16 + (3,), (0, 0, 1) + (0,) * 20 + (2,))
+PRODUCTS = tuple(j * q for q in LISTS[1] for j in LISTS[0])
 WITHOUT = {**ROW, "class": 6, "technology": 0, **EMPTY}
-
 KIND_ROWS = (WITHOUT, ROW, {**ROW, "class": 4, "technology": 3}, {**ROW, "class": 2, "technology": 2, "load": 100})
 
 
@@ -80,10 +79,10 @@ def rows_with(counts, version, kinds=KIND_ROWS):
         yield {**row, "load": 0, "mileage": 52_000} if version > 2 and i % 4 == 1 and row["saturation"] else row
 
 
-def plan_of(version, rows):
+def plan_of(version, rows, grid=GRID):
     if version == 1:
         return Plan((SEASON,), tuple(rows), *LISTS)
-    return Plan((SEASON,), tuple(rows), grid=GRID, metered=version > 2, many=version == 4)
+    return Plan((SEASON,), tuple(rows), grid=grid, metered=version > 2, many=version == 4)
 
 
 def ledger(words, version, counts, owners, asks, whose=None, like=False):
@@ -157,7 +156,8 @@ def chance_ask(chance, whos, rows):
 def pair(position, versions, whose):
     """Two ledgers in which the same rows are a participant's, alike, and all else
     by chance: the other rows, their owners, how many there are behind, and the
-    calls of the others between those of the participant."""
+    calls of the others between those of the participant. Beside a version 1 sheet
+    the grid is that of its products."""
     chance = Chance("pair %d" % position)
     others = [who for who in PARTICIPANTS if who != whose]
     theirs = sorted({chance.below(8) for _ in range(3)})
@@ -165,6 +165,7 @@ def pair(position, versions, whose):
     if min(versions) > 2:
         own = {i: {**row, "load": 0, "mileage": 52_000} if row["saturation"] and i % 2 else row for i, row in own.items()}
     asks = [chance_ask(chance, (whose,), theirs * 4 + [0, 3, 7, 9, HUGE]) for _ in range(24)]
+    grid = PRODUCTS if 1 in versions else GRID
     for like, version in enumerate(versions):
         count = max(theirs) + 1 + chance.below(5)
         owners = [whose if i in own else chance.one_of(others) for i in range(count)]
@@ -172,21 +173,24 @@ def pair(position, versions, whose):
         for i, owner in enumerate(owners):
             vehicles = 0 if i in own else chance.below(left[owner] + 1)
             left[owner] -= vehicles
-            rows.append(own[i] if i in own else {**KIND_ROWS[chance.below(4)], "vehicles": vehicles})
+            row = {**KIND_ROWS[chance.below(4)], "vehicles": vehicles}
+            if version > 2 and row["saturation"] and chance.below(2):
+                row = {**row, "load": 0, "mileage": chance.between(1, 200_000)}
+            rows.append(own.get(i, row))
         calls = []
         for ask in asks:
             calls += [chance_ask(chance, others + [MARKER, 9], range(count + 2)) for _ in range(chance.below(4))] + [ask]
         words = "version %d: pair %d, participant %d" % (version, position, whose)
-        yield Case(words, plan_of(version, rows).data(), bytes(owners), calls, whose, bool(like))
+        yield Case(words, plan_of(version, rows, grid).data(), bytes(owners), calls, whose, bool(like))
+
+
+# The versions of the two sheets of a pair: every two, since the version does not show.
+VERSIONS = ((1, 1), (2, 2), (3, 3), (4, 4), (1, 2), (1, 3), (1, 4), (4, 1), (2, 3), (2, 4), (4, 2), (3, 4))
 
 
 def pair_cases():
-    """In each version, and with two versions that have the same cells."""
-    position = 0
-    for versions in ((1, 1), (2, 2), (3, 3), (4, 4), (2, 4), (4, 2), (3, 4), (2, 3)):
-        for _ in range(5):
-            yield from pair(position, versions, 1 + position % 8)
-            position += 1
+    for position in range(4 * len(VERSIONS)):
+        yield from pair(position, VERSIONS[position // 4], 1 + position % 8)
 
 
 def all_vectors():
@@ -228,14 +232,30 @@ def missing(vectors):
             if (version, number) not in openings:
                 yield "version %d: no opening answered %d" % (version, number)
     pairs = [(a, b) for a, b in zip(vectors, vectors[1:]) if b.case.like]
+    yield from missing_pairs(pairs)
+
+
+def known_to(case):
+    """What may show in what a participant is told, but for their calls: seasons
+    and parking, which rows are theirs, and those rows."""
+    sheet = reckoning.read(case.data)
+    return sheet.seasons, sheet.grid, {i: row for i, row in enumerate(sheet.rows) if case.owners[i] == case.whose}
+
+
+def missing_pairs(pairs):
+    """Pairs that agree for no one, that do not differ for the others, or whose
+    answers differ; pairs of two versions in which little is told."""
+    passed = Counter()
     for a, b in pairs:
         mine = [[(t.ask, t.answer, t.count) for t in v.told if t.slot] for v in (a, b)]
-        if mine[0] != mine[1] or a.opening != (0, 0) or b.opening != (0, 0):
+        if mine[0] != mine[1] or a.opening != (0, 0) or b.opening != (0, 0) or known_to(a.case) != known_to(b.case):
             yield "%s: what is told differs" % b.case.words
         if a.case.data == b.case.data or [t.ask for t in a.told] == [t.ask for t in b.told]:
             yield "%s: nothing differs" % b.case.words
-    if len(pairs) < 40 or sum(t.answer[0] == 0 for _, b in pairs for t in b.told if t.slot) < 200:
-        yield "%d pairs tell too little" % len(pairs)
+        passed[a.case.data[3], b.case.data[3]] += sum(t.answer[0] == 0 for t in b.told if t.slot)
+    for versions in VERSIONS:
+        if passed[versions] < 20:
+            yield "pairs of versions %d and %d tell too little" % versions
 
 
 def encoded(vectors):

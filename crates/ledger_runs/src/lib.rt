@@ -1,11 +1,14 @@
 // One call of a list that tools/ledgers.py wrote, made on a ledger and held against what is expected; and one opening.
 use ledger::Call;
 use sheet::Check;
+use vectors::bytes::copy;
+use vectors::bytes::same_bytes;
 use vectors::input::u8_at;
 use vectors::input::u16_at;
 use vectors::input::u64_at;
 use vectors::tally::smaller;
 use vectors::words::OLD;
+use vectors::words::stands;
 ghost use Prim.Native.Nat.{_≤_};
 ghost use lib.ListN.{length};
 
@@ -18,45 +21,6 @@ fn answers(found: Check, number: u64, place: u64) -> bool {
         Check::Pass => number == 0,
         Check::Refused(n, p) => (n == number) & (p == place),
     }
-}
-
-// The first bytes of a buffer become these.
-pub fn copy(buffer: &mut [u8], s: &[u8])
-    requires { ⌜ length (now s) ≤ length (now buffer) ⌝ }
-{
-    let mut i: usize = 0;
-    while i < s.len() {
-        buffer[i] = s[i];
-        i += 1;
-    }
-}
-
-fn same_bytes(a: &[u8], b: &[u8]) -> bool {
-    if a.len() != b.len() {
-        return false;
-    }
-    let mut i: usize = 0;
-    while i < a.len() {
-        if a[i] != b[i] {
-            return false;
-        }
-        i += 1;
-    }
-    true
-}
-
-// Whether words are the first of a buffer
-fn same_words(words: &[u64], buffer: &[u64; 6144]) -> bool
-    requires { ⌜ length (now words) ≤ 6144 ⌝ }
-{
-    let mut i: usize = 0;
-    while i < words.len() {
-        if words[i] != buffer[i] {
-            return false;
-        }
-        i += 1;
-    }
-    true
 }
 
 // The report into the first words of a buffer
@@ -72,7 +36,7 @@ fn is_fresh(s: &[u8], words: &[u64]) -> bool
 {
     let mut fresh = [OLD; 6144];
     report_into(s, words.len(), &mut fresh);
-    same_words(words, &fresh)
+    stands(&fresh, 0, words)
 }
 
 // The call that stands here

@@ -1,11 +1,11 @@
 // Runs the lists of calls on ledgers that tools/ledgers.py put into standard input: how many ledgers open as expected, and how many calls are
 // answered as the plain machine says, leave the bytes that it says, and leave the words of a fresh report of these bytes.
 use ledger_runs::call_right;
-use ledger_runs::copy;
 use ledger_runs::opens;
 use ledger_runs::report_into;
 use ledger_runs::room_of;
 use libc::STDIN_FILENO;
+use vectors::bytes::copy;
 use vectors::input::COUNT;
 use vectors::input::record_at;
 use vectors::input::u8_at;

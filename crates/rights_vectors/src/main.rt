@@ -1,10 +1,12 @@
-// Runs the lists of calls on shared ledgers that tools/rights.py put into standard input: how many openings and calls are answered as expected,
-// how many ledgers end with the words of a fresh report, and how many participants are told the same, answer by answer, by two lists on two
-// ledgers that agree for them.
+// Runs the lists of calls on shared ledgers that tools/rights.py put into standard input: how many openings and calls are answered as expected
+// and, where they are refused, leave every byte of the sheet and every word of the buffer as it was; how many ledgers end with the words of a
+// fresh report; and how many participants are told the same, answer by answer, by two lists on two ledgers that agree for them.
 use libc::STDIN_FILENO;
 use rights::RowAnswer;
 use rights::TotalsAnswer;
 use sheet::Check;
+use vectors::bytes::copy;
+use vectors::bytes::same_bytes;
 use vectors::input::COUNT;
 use vectors::input::record_at;
 use vectors::input::u8_at;
@@ -13,11 +15,11 @@ use vectors::input::u32_at;
 use vectors::input::u64_at;
 use vectors::print::number;
 use vectors::print::text;
-use vectors::tally::Tally;
-use vectors::tally::Verdict;
 use vectors::tally::next;
 use vectors::tally::smaller;
 use vectors::words::OLD;
+use vectors::words::kept;
+use vectors::words::stands;
 ghost use mathlib.Core.Path.{_≡_};
 ghost use Prim.Native.Nat.{_≤_, _<_};
 ghost use lib.ListN.{length};
@@ -37,41 +39,23 @@ const LONGEST: usize = 25256;
 // The numbers of an answer: number, place, then what is told. Of a ledger 25 answers are kept.
 const ANSWER: usize = 28;
 
-// What came of the openings, the calls, the words at the end and the pairs
-struct Tallies {
-    openings: Tally,
-    calls: Tally,
-    ends: Tally,
-    pairs: Tally,
-}
+// What is tallied. Of each stand two numbers side by side, how many were tried and how many were right.
+const OPENINGS: usize = 0;
 
-// The first bytes of a buffer become these.
-fn copy(buffer: &mut [u8], s: &[u8])
-    requires { ⌜ length (now s) ≤ length (now buffer) ⌝ }
+const CALLS: usize = 2;
+
+const ENDS: usize = 4;
+
+const PAIRS: usize = 6;
+
+// One more of what is tallied
+fn tried(tallies: &mut [u64; 8], what: usize, right: bool)
+    requires { ⌜ what < 7 ⌝ }
 {
-    let mut i: usize = 0;
-    while i < s.len() {
-        buffer[i] = s[i];
-        i += 1;
+    tallies[what] = next(tallies[what]);
+    if right {
+        tallies[what + 1] = next(tallies[what + 1]);
     }
-}
-
-// Whether these words stand in a buffer from a place on
-fn stands(words: &[u64], place: usize, told: &[u64]) -> bool {
-    if words.len() < told.len() {
-        return false;
-    }
-    if words.len() - told.len() < place {
-        return false;
-    }
-    let mut i: usize = 0;
-    while i < told.len() {
-        if words[place + i] != told[i] {
-            return false;
-        }
-        i += 1;
-    }
-    true
 }
 
 // Words are stored from a place on, where there is room.
@@ -127,20 +111,59 @@ fn of_totals(found: TotalsAnswer) -> [u64; 28]
     answer
 }
 
-// What a call is answered
-fn answer_of(sheet: &mut [u8], owners: &[u8], words: &mut [u64], c: &[u8]) -> [u64; 28]
+// The call for an arrival or a departure
+fn changed(sheet: &mut [u8], owners: &[u8], words: &mut [u64], c: &[u8]) -> Check
+    requires { ⌜ 36 ≤ length (now c) ⌝ }
+{
+    let who = u64_at(c, 1);
+    let row = u64_at(c, 9);
+    let vehicles = u64_at(c, 17);
+    if u8_at(c, 0) == 0 {
+        return rights_calls::arrive(sheet, owners, words, who, row, vehicles);
+    }
+    rights_calls::depart(sheet, owners, words, who, row, vehicles)
+}
+
+// A change tells nothing. Where it is refused and has changed a byte or a word, 1 stands in the place of what is told.
+fn of_change(sheet: &mut [u8], owners: &[u8], words: &mut [u64], c: &[u8]) -> [u64; 28]
+    requires { ⌜ 36 ≤ length (now c) ⌝ }
+    ensures { λ r. ⌜ length r ≡ 28 ⌝ }
+{
+    let n = smaller(sheet.len(), LONGEST);
+    let mut bytes = [0u8; 25256];
+    copy(&mut bytes, &sheet[0..n]);
+    let mut old = [0u64; 6144];
+    store(&mut old, 0, words);
+    let mut answer = bare(changed(sheet, owners, words, c));
+    let same = same_bytes(sheet, &bytes[0..n]) & stands(&old, 0, words);
+    if (answer[0] != 0) & !same {
+        answer[2] = 1;
+    }
+    answer
+}
+
+// A read of a row or of the totals
+fn of_read(sheet: &[u8], owners: &[u8], words: &[u64], c: &[u8]) -> [u64; 28]
     requires { ⌜ 36 ≤ length (now c) ⌝ }
     ensures { λ r. ⌜ length r ≡ 28 ⌝ }
 {
     let who = u64_at(c, 1);
     let row = u64_at(c, 9);
-    let vehicles = u64_at(c, 17);
-    match u8_at(c, 0) {
-        0 => bare(rights_calls::arrive(sheet, owners, words, who, row, vehicles)),
-        1 => bare(rights_calls::depart(sheet, owners, words, who, row, vehicles)),
-        2 => of_row(rights_calls::read_row(sheet, owners, words, who, row)),
-        _ => of_totals(rights_calls::read_totals(sheet, owners, words, who)),
+    if u8_at(c, 0) == 2 {
+        return of_row(rights_calls::read_row(sheet, owners, words, who, row));
     }
+    of_totals(rights_calls::read_totals(sheet, owners, words, who))
+}
+
+// What a call is answered
+fn answer_of(sheet: &mut [u8], owners: &[u8], words: &mut [u64], c: &[u8]) -> [u64; 28]
+    requires { ⌜ 36 ≤ length (now c) ⌝ }
+    ensures { λ r. ⌜ length r ≡ 28 ⌝ }
+{
+    if u8_at(c, 0) < 2 {
+        return of_change(sheet, owners, words, c);
+    }
+    of_read(sheet, owners, words, c)
 }
 
 // Whether a read told the words that stand in the buffer, and any other call and any refusal nothing
@@ -160,37 +183,42 @@ fn tells(words: &[u64], answer: &[u64], c: &[u8]) -> bool
 }
 
 // An answer is kept in its place, counted from 1, where it is to be compared.
-fn keep(kept: &mut [u64], slot: usize, answer: &[u64])
+fn keep(answers: &mut [u64], slot: usize, answer: &[u64])
     requires { ⌜ slot < 65536 ⌝ }
 {
     if slot == 0 {
         return;
     }
-    store(kept, ANSWER * (slot - 1), answer);
+    store(answers, ANSWER * (slot - 1), answer);
 }
 
-// One call, and its answer
-fn with_call(
+// The line of a call that is answered otherwise
+fn print_call(call: u64, asked: u64, found: u64) {
+    number(b"call ", call);
+    number(b" asked ", asked);
+    number(b" is answered ", found);
+    text(b" or leaves something else\n");
+}
+
+// Makes a call and keeps its answer. Whether it is the one that is expected
+fn call_right(
     sheet: &mut [u8],
     owners: &[u8],
     words: &mut [u64],
-    kept: &mut [u64],
+    answers: &mut [u64],
     c: &[u8],
-    tally: Tally,
-) -> Tally
+    call: u64,
+) -> bool
     requires { ⌜ 36 ≤ length (now c) ⌝ }
 {
     let answer = answer_of(sheet, owners, words, c);
     let numbers = (answer[0] == u8_at(c, 25)) & (answer[1] == u16_at(c, 26));
     let right = numbers & tells(words, &answer, c);
-    keep(kept, u16_at(c, 34) as usize, &answer);
+    keep(answers, u16_at(c, 34) as usize, &answer);
     if !right {
-        number(b"call ", next(tally.tried));
-        number(b" asked ", u8_at(c, 0));
-        number(b" is answered ", answer[0]);
-        text(b"\n");
+        print_call(call, u8_at(c, 0), answer[0]);
     }
-    tally.with(Verdict::bare(right))
+    right
 }
 
 // The calls on a ledger, one after another
@@ -198,118 +226,93 @@ fn with_calls(
     sheet: &mut [u8],
     owners: &[u8],
     words: &mut [u64],
-    kept: &mut [u64],
+    answers: &mut [u64],
     calls: &[u8],
-    before: Tally,
-) -> Tally {
-    let mut tally = before;
+    tallies: &mut [u64; 8],
+) {
     let mut at: usize = 0;
     while CALL <= calls.len() - at {
         let end = at + CALL;
-        tally = with_call(sheet, owners, words, kept, &calls[at..end], tally);
+        let call = next(tallies[CALLS]);
+        let right = call_right(sheet, owners, words, answers, &calls[at..end], call);
+        tried(tallies, CALLS, right);
         at = end;
     }
-    tally
 }
 
-// Whether the words are those that a fresh report leaves in a buffer that held nothing
-fn is_fresh(s: &[u8], words: &[u64]) -> bool {
+// Whether opening is answered as expected, and every word is as it was where it is refused
+fn opens(found: Check, unchanged: bool, head: &[u8]) -> bool
+    requires { ⌜ 12 ≤ length (now head) ⌝ }
+{
+    let answer = bare(found);
+    let numbers = (answer[0] == u16_at(head, 6)) & (answer[1] == u16_at(head, 8));
+    numbers & ((answer[0] == 0) | unchanged)
+}
+
+// Whether the words are those that a fresh report leaves in a buffer that held nothing, or, where the ledger did not open, as they were
+fn ends(s: &[u8], words: &[u64; 6144], refused: bool) -> bool {
+    if refused {
+        return kept(words, 0);
+    }
     let mut fresh = [OLD; 6144];
     inventory::report(s, &mut fresh);
     stands(words, 0, &fresh)
 }
 
-// Whether opening is answered as expected
-fn opens(found: Check, head: &[u8]) -> bool
-    requires { ⌜ 12 ≤ length (now head) ⌝ }
-{
-    let answer = bare(found);
-    (answer[0] == u16_at(head, 6)) & (answer[1] == u16_at(head, 8))
-}
-
-// Whether the answers kept are those of the ledger before, whose place they take
-fn paired(before: &mut [u64], kept: &[u64]) -> bool {
-    let same = stands(before, 0, kept);
-    store(before, 0, kept);
-    same
-}
-
-// A tally with one pair more, where it is one
-fn with_pair(pairs: Tally, like: bool, same: bool) -> Tally {
+// Where a ledger is to be like the one before: whether the answers kept are those of that one, whose place they take
+fn paired(before: &mut [u64], answers: &[u64], like: bool, tallies: &mut [u64; 8]) {
     if like {
-        return pairs.with(Verdict::bare(same));
+        tried(tallies, PAIRS, stands(before, 0, answers));
     }
-    pairs
-}
-
-// The tallies with those of the calls, and one ledger more
-fn with_ends(
-    all: Tallies,
-    calls: Tally,
-    right: bool,
-    fresh: bool,
-    same: bool,
-    head: &[u8],
-) -> Tallies
-    requires { ⌜ 12 ≤ length (now head) ⌝ }
-{
-    let refused = u16_at(head, 6) != 0;
-    let like = u16_at(head, 10) != 0;
-    let openings = all.openings;
-    let ends = all.ends;
-    let pairs = all.pairs;
-    let opened = openings.with(Verdict::bare(right));
-    let ended = ends.with(Verdict::bare(refused | fresh));
-    let told = with_pair(pairs, like, same);
-    Tallies {
-        openings: opened,
-        calls,
-        ends: ended,
-        pairs: told,
-    }
+    store(before, 0, answers);
 }
 
 // A ledger: whether it opens as expected, its calls, its words at the end, and whether the answers kept are those of the ledger before
 fn with_sheet(
+    s: &[u8],
     sheet: &mut [u8],
     owners: &[u8],
     calls: &[u8],
     head: &[u8],
     before: &mut [u64],
-    all: Tallies,
-) -> Tallies
+    tallies: &mut [u64; 8],
+)
     requires { ⌜ 12 ≤ length (now head) ⌝ }
 {
-    let some = all.calls;
+    let refused = u16_at(head, 6) != 0;
+    let like = u16_at(head, 10) != 0;
     let mut words = [OLD; 6144];
-    let mut kept = [0u64; 700];
-    let right = opens(rights_calls::open(sheet, owners, &mut words), head);
-    let more = with_calls(sheet, owners, &mut words, &mut kept, calls, some);
-    let fresh = is_fresh(sheet, &words);
-    let same = paired(before, &kept);
-    with_ends(all, more, right, fresh, same, head)
+    let mut answers = [0u64; 700];
+    let found = rights_calls::open(sheet, owners, &mut words);
+    let opened = opens(found, kept(&words, 0), head) & same_bytes(sheet, s);
+    tried(tallies, OPENINGS, opened);
+    with_calls(sheet, owners, &mut words, &mut answers, calls, tallies);
+    let ended = ends(sheet, &words, refused);
+    tried(tallies, ENDS, ended);
+    paired(before, &answers, like, tallies);
 }
 
 // With a copy of the sheet that the calls may change; the owners stand behind it
-fn with_ledger(s: &[u8], calls: &[u8], head: &[u8], before: &mut [u64], all: Tallies) -> Tallies
+fn with_ledger(s: &[u8], calls: &[u8], head: &[u8], before: &mut [u64], tallies: &mut [u64; 8])
     requires { ⌜ 12 ≤ length (now head) ⌝ }
 {
     let n = smaller(smaller(u16_at(head, 4) as usize, s.len()), LONGEST);
     let end = s.len();
     let mut sheet = [0u8; 25256];
     copy(&mut sheet, &s[0..n]);
-    with_sheet(&mut sheet[0..n], &s[n..end], calls, head, before, all)
+    with_sheet(
+        &s[0..n],
+        &mut sheet[0..n],
+        &s[n..end],
+        calls,
+        head,
+        before,
+        tallies,
+    )
 }
 
 // The ledgers, up to the first that the end of the input cuts
-fn tallies_of(s: &[u8]) -> Tallies {
-    let mut all = Tallies {
-        openings: Tally::none(),
-        calls: Tally::none(),
-        ends: Tally::none(),
-        pairs: Tally::none(),
-    };
-    let mut before = [0u64; 700];
+fn with_ledgers(s: &[u8], before: &mut [u64], tallies: &mut [u64; 8]) {
     let mut at = 0;
     while HEAD <= s.len() - at {
         let record = record_at(s, at, HEAD, CALL);
@@ -317,24 +320,22 @@ fn tallies_of(s: &[u8]) -> Tallies {
         let list = record.list;
         let end = record.end;
         if s.len() < end {
-            return all;
+            return;
         }
-        let more = with_ledger(
+        with_ledger(
             &s[start..list],
             &s[list..end],
             &s[at..start],
-            &mut before,
-            all,
+            before,
+            tallies,
         );
-        all = more;
         at = end;
     }
-    all
 }
 
-fn print(name: &[u8], tally: Tally) {
-    number(name, tally.tried);
-    number(b" right ", tally.right);
+fn print(name: &[u8], tried: u64, right: u64) {
+    number(name, tried);
+    number(b" right ", right);
     text(b"\n");
 }
 
@@ -344,16 +345,14 @@ fn report(s: &[u8]) {
         vectors::print::no_count();
         return;
     }
-    let all = tallies_of(&s[COUNT..]);
-    let openings = all.openings;
-    let calls = all.calls;
-    let ends = all.ends;
-    let pairs = all.pairs;
-    print(b"openings ", openings);
-    print(b"calls ", calls);
-    print(b"words at the end ", ends);
-    print(b"pairs told the same ", pairs);
-    vectors::print::count(calls.tried, u32_at(s, 0), b" calls\n");
+    let mut before = [0u64; 700];
+    let mut tallies = [0u64; 8];
+    with_ledgers(&s[COUNT..], &mut before, &mut tallies);
+    print(b"openings ", tallies[0], tallies[1]);
+    print(b"calls ", tallies[2], tallies[3]);
+    print(b"words at the end ", tallies[4], tallies[5]);
+    print(b"pairs told the same ", tallies[6], tallies[7]);
+    vectors::print::count(tallies[2], u32_at(s, 0), b" calls\n");
 }
 
 fn main() {

@@ -1,5 +1,6 @@
 // What the programs *_vectors share: the numbers of their input, a tally of what was tried, and the phrases that they print.
 pub mod answer;
+pub mod bytes;
 pub mod factor;
 pub mod input;
 pub mod mass;

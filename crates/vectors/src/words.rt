@@ -24,6 +24,24 @@ pub fn kept(words: &[u64; 6144], from: usize) -> bool {
     true
 }
 
+// Whether these words stand in a buffer from a place on
+pub fn stands(words: &[u64], place: usize, told: &[u64]) -> bool {
+    if words.len() < told.len() {
+        return false;
+    }
+    if words.len() - told.len() < place {
+        return false;
+    }
+    let mut i: usize = 0;
+    while i < told.len() {
+        if words[place + i] != told[i] {
+            return false;
+        }
+        i += 1;
+    }
+    true
+}
+
 // Whether a row of this category counts in subtotal 0, 1 or 2, which are those of categories 1, 2 and 3, or in 3, that of all rows
 fn counts(category: u64, subtotal: usize) -> bool
     requires { ⌜ subtotal < 4 ⌝ }

@@ -8,11 +8,11 @@ use Rattle.rights_vectors.proofs.with_calls.Statement.{statement}
 use Rattle.rights_vectors.proofs.with_calls.Tie as tie
 
 abbrev Inv-loop : tie.InvT-loop
-Inv-loop sheet₀ owners words₀ kept₀ calls tally₀ at₀ sheet words kept tally at =
-    (at ≤ length calls) × (length sheet ≡ length sheet₀) × (length words ≡ length words₀) × (length kept ≡ length kept₀)
+Inv-loop sheet₀ owners words₀ answers₀ calls tallies₀ at₀ sheet words answers tallies at =
+    (at ≤ length calls) × (length sheet ≡ length sheet₀) × (length words ≡ length words₀) × (length answers ≡ length answers₀)
 
 abbrev μ-loop : tie.MeasureT-loop
-μ-loop sheet₀ owners words₀ kept₀ calls tally₀ at₀ sheet words kept tally at = length calls - at
+μ-loop sheet₀ owners words₀ answers₀ calls tallies₀ at₀ sheet words answers tallies at = length calls - at
 
 pub with-calls-spec : {M : Type 1} → statement M
 with-calls-spec =
@@ -24,8 +24,11 @@ with-calls-spec =
     (λ c. search needs)
     (λ c. search needs)
     (λ c. search needs)
+    (λ c κs. search needs)
     (λ c. search needs)
     (λ c. search needs)
+    (λ c. search needs)
+    (λ c κs. search needs)
     (λ c κs. search needs)
     (λ c. search needs)
     (λ c. search needs)

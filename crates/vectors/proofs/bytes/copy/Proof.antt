@@ -1,10 +1,10 @@
--- `ledger_runs::copy` is safe and ends. The loop's invariant: the length stays. The measure is the bytes that are left.
+-- `vectors::bytes::copy` is safe and ends. The loop's invariant: the length stays. The measure is the bytes that are left.
 use mathlib.Core.Path.{_≡_}
 use Prim.Native.Nat.{_-_}
 use borrow.Author.Needs.{needs}
 use lib.ListN.{length, length-set}
-use Rattle.ledger_runs.proofs.copy.Statement.{statement}
-use Rattle.ledger_runs.proofs.copy.Tie as tie
+use Rattle.vectors.proofs.bytes.copy.Statement.{statement}
+use Rattle.vectors.proofs.bytes.copy.Tie as tie
 
 abbrev Inv-loop : tie.InvT-loop
 Inv-loop buffer₀ s i₀ buffer i = length buffer ≡ length buffer₀

@@ -1,9 +1,9 @@
--- `rights_vectors::stands` is safe and ends. The measure is what is left to compare.
+-- `vectors::words::stands` is safe and ends. The measure is what is left to compare.
 use Prim.Native.Nat.{_-_, _≤_}
 use borrow.Author.Needs.{needs}
 use lib.ListN.{length}
-use Rattle.rights_vectors.proofs.stands.Statement.{statement}
-use Rattle.rights_vectors.proofs.stands.Tie as tie
+use Rattle.vectors.proofs.words.stands.Statement.{statement}
+use Rattle.vectors.proofs.words.stands.Tie as tie
 
 abbrev Inv-loop : tie.InvT-loop
 Inv-loop words place told i₀ i = i ≤ length told
