@@ -234,7 +234,7 @@ static void expect_odometer(void) {
     expect_refused("a mileage in version 2", EVP_ROW_ZEROS, first_row);
 }
 
-/* The species of Table 3-5's total, 44172065 mg, as tools/species.py has them. */
+/* The species of Table 3-5's total, 44172065 mg, as tools/reckoning/species.py has them. */
 static const uint64_t table_species[EVP_SPECIES] = {
     132502, 2274634, 1934543, 2588225, 4721521, 3409743,
     6192304, 11103747, 892186, 728766,
