@@ -1,4 +1,5 @@
-"""What the commands of this package share: parsers whose help has an example, and files that are written or compared."""
+"""What the commands of this package share: parsers whose help has an example, and files that are written or
+compared."""
 
 import argparse
 import signal

@@ -22,13 +22,15 @@ def run_samples(given: argparse.Namespace) -> int:
 
 def run_pressures(_: argparse.Namespace) -> int:
     found, counts = pressures.check()
-    return finish("pressures", found, "%d pairs of sheets: %d masses of %d rows without canister are in order, %d with bands apart" % (
+    return finish("pressures", found,
+                  "%d pairs of sheets: %d masses of %d rows without canister are in order, %d with bands apart" % (
         counts.pairs, 3 * counts.rows, counts.rows, counts.apart))
 
 
 def run_edits(given: argparse.Namespace) -> int:
     what = "are read whole and change one place" + (", and fail by a fact" if given.logs else "")
-    return finish("edits", edits.faults(given.logs, given.crates), "%d edits %s" % (len(edits.find(given.crates)), what))
+    return finish("edits", edits.faults(given.logs, given.crates),
+                  "%d edits %s" % (len(edits.find(given.crates)), what))
 
 
 def run_figures(_: argparse.Namespace) -> int:
@@ -43,7 +45,7 @@ def run_header(_: argparse.Namespace) -> int:
 
 def parser() -> argparse.ArgumentParser:
     top = argparse.ArgumentParser(prog="python3 -m tools.check", **described(
-        "Checks programs that were proved, and files that must agree with one another. Exit status 1 where something is wrong.",
+        "Checks programs that were proved, and files that must agree with one another.",
         "python3 -m tools.check edits"))
     commands = top.add_subparsers(required=True, metavar="WHAT")
     found = {}

@@ -66,7 +66,8 @@ def read(text: str) -> tuple[list[Change], list[Fault]]:
             old = line.removeprefix("old: ")
         elif line.startswith("new:"):
             if old is None or file is None:
-                faults.append(Fault(number, "a new: without an old: before it" if old is None else "no file: before it"))
+                faults.append(Fault(number,
+                                    "a new: without an old: before it" if old is None else "no file: before it"))
             else:
                 changes.append(Change(number - 1, file, old, line.removeprefix("new:").removeprefix(" ")))
             old = None

@@ -32,35 +32,41 @@ PRINTED = {
     "sheet_vectors": ("sheets {sheets} agree *",),
     "factor_vectors": (
         "factors: {factors} enclosed * widest band {factor_band} ug farthest from its middle {middle_ng} ng",
-        "rows with a mileage: {driven_factors} enclosed * widest band {driven_band} ug farthest from its middle {driven_middle_ng} ng",
+        "rows with a mileage: {driven_factors} enclosed * widest band {driven_band} ug * middle {driven_middle_ng} ng",
         "refused calls {refused_factors} alike *",
     ),
     "report_vectors": (
-        "diurnal bands {rows} right * widest {diurnal_ng} ng * with a mileage {driven_rows} right * widest {driven_diurnal_ng} ng",
+        "diurnal bands {rows} right * widest {diurnal_ng} ng *, * {driven_rows} right * widest {driven_diurnal_ng} ng",
         "soak bands * right * widest {soak_ng} ng * with a mileage * right * widest {driven_soak_ng} ng",
         "running bands * right * widest {running_ng} ng * with a mileage * right * widest {driven_running_ng} ng",
         "sums of accepted sheets {reports} right *",
         "refused sheets {refused_reports} right *",
     ),
     "cell_vectors": (
-        "rows with cells {rows_with_cells} agree *", "rows refused 27: {rows_27} agree *", "rows refused 28: {rows_28} agree *",
+        "rows with cells {rows_with_cells} agree *", "rows refused 27: {rows_27} agree *",
+        "rows refused 28: {rows_28} agree *",
         "sums with a cell {sums_with_cell} agree *", "sums refused 27: {sums_27} agree *",
     ),
     "ledger_vectors": ("calls that pass {ledger_passed} right *", "calls that are refused {ledger_refused} right *"),
-    "rights_vectors": ("openings {shared_ledgers} right *", "calls {shared_calls} right *", "pairs told the same {shared_pairs} right *"),
+    "rights_vectors": ("openings {shared_ledgers} right *", "calls {shared_calls} right *",
+                       "pairs told the same {shared_pairs} right *"),
     "pool_vectors": ("refused pairs {refused_pools} right *", "pooled sheets {accepted_pools} right *"),
 }
 
 CLAIMS = (
     # what the programs *_vectors were run on
     "{exponents} exponents and {temperatures} temperatures",
-    "{totals} totals, {sheets} sheets, {factors} factors, {masses} masses, {cell_rows} rows and {cell_sums} sums of cells",
+    "{totals} totals, {sheets} sheets, {factors} factors, {masses} masses, {cell_rows} rows",
+    "and {cell_sums} sums of cells",
     "{sheets} sheets, {sheets_2} of them of version 2, {sheets_3} of version 3 and {sheets_4} of version 4",
     "{factors} factors, {factors_2} of them of version 2, {factors_3} of version 3 and {factors_4} of version 4",
     "on {factors} factors (every version", "and {refused_factors} refused calls",
-    "three masses of {rows} rows of {reports} sheets, {reports_2} of them of version 2, {reports_3} of version 3 and {reports_4} of version 4",
+    "three masses of {rows} rows of {reports} sheets, {reports_2} of them of version 2,"
+    " {reports_3} of version 3 and {reports_4} of version 4",
     "and {refused_reports} refusals",
-    "{totals} totals with", "{cell_rows} rows, {cell_rows_refused} of them refused, and {cell_sums} sums of two cells, {sums_27} of them refused",
+    "{totals} totals with",
+    "{cell_rows} rows, {cell_rows_refused} of them refused,",
+    "and {cell_sums} sums of two cells, {sums_27} of them refused",
     "{ledger_calls} calls on ledgers", "{ledger_calls} calls on {ledgers} ledgers and on {no_ledgers} pairs of buffers",
     "{ledger_passed} calls pass and {ledger_refused} are refused",
     "{shared_calls} calls on shared ledgers", "{shared_calls} calls on {shared_ledgers} shared ledgers",
@@ -71,7 +77,8 @@ CLAIMS = (
     "{tests} tests: {crates} crates proved", "and {edits} must-fail edits refused",
     # the longest sheet, its report and its text
     "longest sheet, which has {sheet_bytes} bytes", "at most {sheet_bytes} for S = 12 and R = 1,000",
-    "the report has at most {report_words} words", "lends {report_words}, those of 1,000 rows", "longer than {text_bytes} bytes",
+    "the report has at most {report_words} words", "lends {report_words}, those of 1,000 rows",
+    "longer than {text_bytes} bytes",
     # docs/METHOD.md, proved and measured
     "the terms left out 11/4 | 2^-40 | 5 | {quadratic_error} |", "E up to 1/16 | 2^-40 | 8 | {fine_error} |",
     "0.004·vp | 2^-40 | {bound_2_3} | {error_2_3} |", "the canister | 2^-40 | {bound_3} | {error_3} |",
@@ -87,12 +94,13 @@ CLAIMS = (
 
 # A figure of two digits or more beside one of these wants a claim.
 NOUNS = (
-    "exponents", "temperatures", "totals", "sheets", "factors", "masses", "sums", "calls", "ledgers", "pairs", "crates", "edits",
-    "must-fail edits", "tests", "refusals",
+    "exponents", "temperatures", "totals", "sheets", "factors", "masses", "sums", "calls", "ledgers", "pairs", "crates",
+    "edits", "must-fail edits", "tests", "refusals",
 )
 # Figures beside a noun that are of the sheet, of the method or of a measurement, and of no program of the gate.
 KNOWN = (
-    "43 pairs are in the table", "29 masses", "26 sums, which are all that grows", "16,384 exponents from the whole range",
+    "43 pairs are in the table", "29 masses", "26 sums, which are all that grows",
+    "16,384 exponents from the whole range",
     "20 calls, processor time",
 )
 
@@ -147,7 +155,8 @@ def header_facts() -> Iterator[tuple[str, str]]:
 def counted_facts() -> Iterator[tuple[str, int]]:
     """What is counted in files, and not printed."""
     for name, by_version in (
-        ("sheets", inputs.sheets_by_version()), ("factors", inputs.factors_by_version()), ("reports", inputs.reports_by_version()),
+        ("sheets", inputs.sheets_by_version()), ("factors", inputs.factors_by_version()),
+        ("reports", inputs.reports_by_version()),
     ):
         yield from (("%s_%d" % (name, version), by_version[version]) for version in (2, 3, 4))
     opened = inputs.ledgers()
@@ -166,12 +175,14 @@ def facts() -> dict[str, str]:
     number = {name: int(value) for name, value in found.items()}
     sums = {
         "masses": 3 * number["rows"], "cell_rows": number["rows_with_cells"] + number["rows_27"] + number["rows_28"],
-        "cell_rows_refused": number["rows_27"] + number["rows_28"], "cell_sums": number["sums_with_cell"] + number["sums_27"],
+        "cell_rows_refused": number["rows_27"] + number["rows_28"],
+        "cell_sums": number["sums_with_cell"] + number["sums_27"],
         "ledger_calls": number["ledger_passed"] + number["ledger_refused"],
         "pools": number["refused_pools"] + number["accepted_pools"], "tests": number["crates"] + number["edits"],
     }
     found |= {name: str(value) for name, value in sums.items()}
-    found |= {name.removesuffix("_ng"): "%.3f" % (value / 1000) for name, value in number.items() if name.endswith("_ng")}
+    found |= {name.removesuffix("_ng"): "%.3f" % (value / 1000)
+              for name, value in number.items() if name.endswith("_ng")}
     return found
 
 

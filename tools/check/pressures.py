@@ -14,7 +14,6 @@ the pressures are. A tenth of kPa moves what a season adds to a mass by some
 The program is target/bin/report, as `rt check report` or `rt ci` made it.
 """
 
-from collections import namedtuple
 from collections.abc import Iterator
 from fractions import Fraction
 from itertools import product
@@ -50,12 +49,17 @@ MECHANISMS = ("diurnal", "soak", "running")
 # The sheet of docs/READING.md: its summer, counted from 0, at another pressure.
 SHOWN_SHEET, SHOWN_SEASON, SHOWN_PRESSURE, SHOWN_ROWS = "region", 2, 700, (1, 22)
 
-# Two sheets that differ in the pressure of one season, which stands at a place;
-# `lower` has the lower.
-Pair = namedtuple("Pair", "words place lower higher")
+
+class Pair(NamedTuple):
+    """Two sheets that differ in the pressure of one season, which stands at a place;
+    `lower` has the lower."""
+    words: str
+    place: int
+    lower: bytes
+    higher: bytes
 
 
-def settled(plan):
+def settled(plan: Plan) -> Plan:
     """The plan, with no canister that holds more than its seasons let pass."""
     for i, row in enumerate(plan.rows):
         canister = fitted(row)
@@ -66,13 +70,13 @@ def settled(plan):
     return plan
 
 
-def open_row(i):
+def open_row(i: int) -> Record:
     """What makes a row one without canister: by its class, or written."""
     without = {"canister": BY_CLASS, "technology": 0, "class": 1 + i // 2 % 8} if i % 2 else {"canister": 0}
     return {**without, **EMPTY, "mileage": 0, "vehicles": 1000 + 997 * i, "trips": 100 + 110 * i, "fill": 9 * i}
 
 
-def pairs():
+def pairs() -> Iterator[Pair]:
     for version, (i, size) in product(PLANS, enumerate(SIZES)):
         season, (low, high) = i % size[0], PRESSURES[i]
         plan = PLANS[version](*size).changed("rows", 0, open_row(i))
@@ -83,12 +87,12 @@ def pairs():
         yield Pair(words, lower.place("seasons", season) + 6, lower.data(), higher.data())
 
 
-def unlike(pair):
+def unlike(pair: Pair) -> list[int]:
     """The places at which a pair differs."""
     return [at for at, (a, b) in enumerate(zip(pair.lower, pair.higher, strict=True)) if a != b]
 
 
-def missing(every):
+def missing(every: list[Pair]) -> Iterator[str]:
     """What the pairs should show and do not."""
     for pair in every:
         if not set(unlike(pair)) <= {pair.place, pair.place + 1}:
@@ -99,13 +103,13 @@ def missing(every):
             yield "no pair of version %d %s" % (version, ends)
 
 
-def open_rows(data):
+def open_rows(data: bytes) -> list[int]:
     """The rows without canister, counted from 0."""
     rows = reckoning.read(data).rows
     return [i for i, row in enumerate(rows) if reckoning.canister_of(row) == reckoning.NONE]
 
 
-def row_words(report):
+def row_words(report: str) -> list[list[int]]:
     """The six words of each row of a report."""
     return [[int(word) for word in line.split()[2:]] for line in report.splitlines() if line.startswith("row ")]
 
@@ -118,13 +122,13 @@ def report_of(data: bytes) -> str:
     return text
 
 
-def exact(data, i):
+def exact(data: bytes, i: int) -> list[list[Fraction]]:
     """The exact masses of a row in milligrams, for each n."""
     sheet = reckoning.read(data)
     return [[1000 * mass for mass in reckoning.masses(sheet, i, n)] for n in NS]
 
 
-def faults(pair, lower, higher):
+def faults(pair: Pair, lower: list[list[int]], higher: list[list[int]]) -> Iterator[str]:
     """What does not hold of a pair with these words of its rows."""
     for i in open_rows(pair.lower):
         masses = list(zip(NS, exact(pair.lower, i), exact(pair.higher, i)))
@@ -140,7 +144,7 @@ def faults(pair, lower, higher):
                     yield "%s: an exact mass is not in its band, n = %d" % (where, n)
 
 
-def shown():
+def shown() -> Iterator[str]:
     """The rows of a sample that docs/READING.md shows, at two pressures."""
     data = (SAMPLES / (SHOWN_SHEET + ".evp")).read_bytes()
     at = reckoning.seasons_start(data) + 8 * SHOWN_SEASON + 6
@@ -150,7 +154,7 @@ def shown():
         yield "".join(lines[row] for row in SHOWN_ROWS)
 
 
-def shown_faults():
+def shown_faults() -> Iterator[str]:
     texts = list(shown())
     stand = blocks((TOP / "docs" / "READING.md").read_text(encoding="utf-8"))
     for text in texts:

@@ -17,13 +17,11 @@ from tools.command import SAMPLES, TOP
 from tools.reckoning import species
 
 REPORT = TOP / "target" / "bin" / "report"
-
 SPECIES = TOP / "target" / "bin" / "species"
-
 INDENT = "    "
 
 
-def printed(program, data):
+def printed(program: Path, data: bytes) -> bytes:
     """What a program prints for a sheet; it must say nothing else."""
     run = subprocess.run([program], input=data, capture_output=True, timeout=60)
     if run.returncode or run.stderr:
@@ -31,7 +29,7 @@ def printed(program, data):
     return run.stdout
 
 
-def blocks(text):
+def blocks(text: str) -> list[str]:
     """The indented blocks of a text, without their indent."""
     found, block = [], []
     for line in [*text.splitlines(), ""]:
@@ -43,7 +41,7 @@ def blocks(text):
     return found
 
 
-def faults(sheets, reports):
+def faults(sheets: Sequence[Path], reports: dict[Path, bytes]) -> Iterator[str]:
     """What differs from the stored reports."""
     for sheet in sheets:
         stored = sheet.with_suffix(".report")
@@ -62,7 +60,7 @@ def faults(sheets, reports):
             yield "the example of README.md is no sample's report"
 
 
-def species_faults(sheet, report):
+def species_faults(sheet: Path, report: bytes) -> Iterator[str]:
     """What the program `species` prints otherwise than it should."""
     data = sheet.read_bytes()
     fields = report.split()

@@ -40,7 +40,8 @@ def parser() -> argparse.ArgumentParser:
     every = add_command(commands, "all", "All of them.", "python3 -m tools.make all --check")
     every.set_defaults(run=lambda given: make_all(given.check))
     for command in commands.choices.values():
-        command.add_argument("--check", action="store_true", help="write nothing; exit status 1 where a file is another")
+        command.add_argument("--check", action="store_true",
+                             help="write nothing; exit status 1 where a file is another")
     return top
 
 

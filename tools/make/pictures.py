@@ -7,7 +7,7 @@ one, on which every row takes the same time; it goes through the last figure.
 """
 
 import math
-from collections.abc import Iterator, Sequence
+from collections.abc import Iterator
 from html import escape
 from itertools import product
 
@@ -15,15 +15,12 @@ from tools.command import TOP, MadeFile
 from tools.make.error import MakeError
 
 FIGURES, PICTURE = "docs/rows.txt", "docs/rows.svg"
-
 WIDTH, HEIGHT = 640, 440
-
 LEFT, RIGHT, TOP_EDGE, BOTTOM = 80, 610, 50, 380
-
 TITLE = "The report call by the rows of its sheet"
 
 
-def read(text):
+def read(text: str) -> tuple[str, list[tuple[int, float]]]:
     """The title, and a pair of rows and microseconds for each figure."""
     title, found = TITLE, []
     for number, line in enumerate(text.splitlines(), 1):
@@ -67,25 +64,24 @@ class Axis:
         return [m * 10 ** i for i, m in product(range(self.low, self.high), range(2, 10))]
 
 
-def short(value):
+def short(value: float) -> str:
     """A number in figures with thousands parted; below 1 as a decimal."""
     return "{:,}".format(value) if value >= 1 else "%g" % value
 
 
-def line(x1, y1, x2, y2, look):
+def line(x1: float, y1: float, x2: float, y2: float, look: str) -> str:
     return '<line x1="%.1f" y1="%.1f" x2="%.1f" y2="%.1f" %s/>' % (x1, y1, x2, y2, look)
 
 
-def words(x, y, said, look):
+def words(x: float, y: float, said: str, look: str) -> str:
     return '<text x="%.1f" y="%.1f" %s>%s</text>' % (x, y, look, escape(said))
 
 
 GREY, LIGHT, BLACK = 'stroke="#bbbbbb"', 'stroke="#e8e8e8"', 'stroke="#000000"'
-
 MIDDLE, END = 'text-anchor="middle"', 'text-anchor="end"'
 
 
-def axes(across, up):
+def axes(across: Axis, up: Axis) -> Iterator[str]:
     """The net of both axes with the numbers beside it, and their names."""
     for look, values in ((LIGHT, Axis.minor), (GREY, Axis.powers)):
         yield from (line(across.at(v), TOP_EDGE, across.at(v), BOTTOM, look) for v in values(across))
@@ -98,7 +94,7 @@ def axes(across, up):
     yield words(LEFT, TOP_EDGE - 10, "microseconds", MIDDLE)
 
 
-def even(across, up, rows, time):
+def even(across: Axis, up: Axis, rows: int, time: float) -> Iterator[str]:
     """The line on which each row takes time/rows, as far as the net goes."""
     each = time / rows
     first = max(10 ** across.low, 10 ** up.low / each)
@@ -108,7 +104,7 @@ def even(across, up, rows, time):
     yield words(RIGHT - 8, BOTTOM - 10, "dashed: %.3g microseconds for each row" % each, END + ' fill="#1a5fb4"')
 
 
-def drawn(text):
+def drawn(text: str) -> str:
     """The picture of the figures in this text."""
     title, found = read(text)
     rows, times = zip(*found)

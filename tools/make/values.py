@@ -1,5 +1,7 @@
-"""crates/exact/proofs/Values.antt: exact factors and masses of small sheets and starting loads for small n, calculated by the
-reckoning, which antt then computes anew from the definitions in specs/.
+"""crates/exact/proofs/Values.antt: exact factors and masses of small sheets and starting loads for small n.
+
+They are calculated by the reckoning, and antt computes them anew from the
+definitions in specs/.
 
 The starting loads are chosen so that each of MISREADINGS changes one of them,
 and the rows with a mileage so that T1 for T2 in running changes a factor; the
@@ -66,7 +68,8 @@ row class=2 technology=0 minutes=30
 season days=1 lowest=-5.0 highest=6.0 vp=45.0
 row class=4 technology=0 fill=20 tank=45.5 minutes=30
 """),
-    Scene("round-midnight", 2, "12 hours that end at hour 1, from mark 26 round midnight, rising and falling", ((24, 1, 1),), """
+    Scene("round-midnight", 2, "12 hours that end at hour 1, from mark 26 round midnight, rising and falling",
+          ((24, 1, 1),), """
 season days=1 lowest=5.0 highest=25.0 vp=70.0
 row class=4 technology=5 fill=50 minutes=45 load=10.0 saturation=50.0
 """),
@@ -74,7 +77,9 @@ row class=4 technology=5 fill=50 minutes=45 load=10.0 saturation=50.0
 season days=1 lowest=5.0 highest=25.0 vp=70.0
 row class=2 technology=0 fill=50 minutes=45
 """),
-    Scene("over-noon", 3, "over the warmest mark, rising and then falling; a written 'none' beside a class with canister", ((6, 16, 1),), """
+    Scene(
+        "over-noon", 3, "over the warmest mark, rising and then falling; a written 'none' beside a class with canister",
+        ((6, 16, 1),), """
 season days=1 lowest=5.0 highest=25.0 vp=70.0
 row class=2 technology=1 canister=none fill=50 minutes=45
 """),
@@ -258,8 +263,8 @@ def a_b(vp: int, T: int) -> tuple[Fraction, Fraction]:
 
 
 def read_as(
-        load: Load, shift=Fraction(2292, 100), divisor=Fraction(813, 100), sign=-1, outer=None, inner=None, T=None, first=0,
-        full=True, which=0) -> Fraction:
+        load: Load, shift=Fraction(2292, 100), divisor=Fraction(813, 100), sign=-1, outer=None, inner=None, T=None,
+        first=0, full=True, which=0) -> Fraction:
     """The starting load by a search of its own; the later arguments misread it."""
     a, b = a_b(load.vp, load.T if T is None else T)
     outer, inner = (load.s if size is None else size for size in (outer, inner))
@@ -280,13 +285,15 @@ def unseen() -> Iterator[str]:
 
 
 def load_claim(load: Load) -> str:
-    value = reckoning.starting_load(*a_b(load.vp, load.T), Fraction(load.s), load.M, Fraction(load.m_sat), load.n, "exact")
+    value = reckoning.starting_load(*a_b(load.vp, load.T), Fraction(load.s), load.M, Fraction(load.m_sat), load.n,
+                                    "exact")
     if value != read_as(load):
         raise MakeError("%s: two searches find two loads" % load.name)
     call = "startingLoad %d %s %s %s %d %s" % (
         load.n, *map(short_text, (load.vp, load.s, load.T)), load.M, short_text(load.m_sat))
     return "\n".join((
-        "", "-- %s; n = %d" % (load.about, load.n), "%s : T (same (%s ∷ []) (%s ∷ []))" % (load.name, call, short_text(value)),
+        "", "-- %s; n = %d" % (load.about, load.n),
+        "%s : T (same (%s ∷ []) (%s ∷ []))" % (load.name, call, short_text(value)),
         "unfolding definitions same", "%s = tt" % load.name))
 
 
@@ -324,7 +331,8 @@ def text() -> str:
     years = [(scene, sheet_of(scene)) for scene in YEARS + DRIVEN_YEARS]
     return "\n".join((
         HEAD.rstrip("\n"),
-        *(claim(scene, read, "factors", reckoning.seven_factors(read, 0, 0, scene.n, "exact")) for scene, read in scenes),
+        *(claim(scene, read, "factors", reckoning.seven_factors(read, 0, 0, scene.n, "exact"))
+          for scene, read in scenes),
         *(claim(scene, read, "masses", reckoning.masses(read, 0, scene.n, "exact")) for scene, read in years),
         *map(load_claim, LOADS))) + "\n"
 

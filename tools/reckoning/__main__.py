@@ -50,7 +50,8 @@ def check(given: argparse.Namespace):
 
 def factor(given: argparse.Namespace):
     sheet = sheet_of(given, (given.season, given.row, given.factor))
-    print(reckoning.shown(reckoning.factor(sheet, given.season, given.row, given.factor, given.n, given.mode), given.mode))
+    print(reckoning.shown(reckoning.factor(sheet, given.season, given.row, given.factor, given.n, given.mode),
+                          given.mode))
 
 
 def factors(given: argparse.Namespace):
@@ -126,7 +127,8 @@ def whole(word: str) -> int:
     return int(word)
 
 
-NUMBERS = ("--n", {"type": whole, "default": 40, "metavar": "N", "help": "terms of the series, 40 where none are given"})
+NUMBERS = ("--n", {"type": whole, "default": 40, "metavar": "N",
+                   "help": "terms of the series, 40 where none are given"})
 EXACT = ("--exact", {"dest": "mode", "action": "store_const", "const": "exact", "default": "decimal",
                      "help": "in fractions; the fraction is printed before the decimal"})
 SHEET = ("sheet", {"type": file_bytes, "metavar": "SHEET"})
@@ -139,17 +141,21 @@ COMMANDS: tuple[tuple[str, str, str, Callable, tuple], ...] = (
         SHEET, ("--words", {"type": whole, "metavar": "N", "help": "the length of the report buffer (22)"}))),
     ("factor", "one factor in grams", "factor samples/region.evp 0 2 1", factor, (
         SHEET, SEASON, ROW, ("factor", {"type": int, "metavar": "K", "help": "1 to 7"}), NUMBERS, EXACT)),
-    ("factors", "the seven factors in grams, of one season and row or of all", "factors samples/region.evp --of 0 2 --n 60", factors, (
-        SHEET, ("--of", {"type": int, "nargs": 2, "metavar": ("SEASON", "ROW"), "help": "one season and row"}), NUMBERS, EXACT)),
-    ("masses", "the grams of the year; rows are counted from 1, as in the report", "masses samples/table-3-5-day.evp", masses, (
+    ("factors", "the seven factors in grams, of one season and row or of all",
+     "factors samples/region.evp --of 0 2 --n 60", factors, (
+        SHEET, ("--of", {"type": int, "nargs": 2, "metavar": ("SEASON", "ROW"), "help": "one season and row"}), NUMBERS,
+        EXACT)),
+    ("masses", "the grams of the year; rows are counted from 1, as in the report", "masses samples/table-3-5-day.evp",
+     masses, (
         SHEET, NUMBERS, EXACT)),
-    ("loads", "the grams that a row's canister holds at parking start, where the escape starts from the temperature of each mark",
+    ("loads", "the grams that a row's canister holds at parking start, for the temperature of each mark",
      "loads samples/odometer.evp 0 1", loads, (SHEET, SEASON, ROW, NUMBERS, EXACT)),
     ("e", "E(Y)", "e -3/2 --n 40 --exact", exponential, (VALUE, NUMBERS, EXACT)),
     ("root", "Y^2.5", "root 35.5", root, (VALUE, NUMBERS, EXACT)),
     ("weights", "the 48 weights in billionths", "weights", weights, ()),
     ("table", "class, technology, tank in litres, canister", "table", table, ()),
-    ("species", "the species of a total in milligrams", "species 44140793", split, (("total", {"type": whole, "metavar": "TOTAL"}),)),
+    ("species", "the species of a total in milligrams", "species 44140793", split,
+     (("total", {"type": whole, "metavar": "TOTAL"}),)),
     ("pool", "the pooled sheet of two sheets of version 4, on standard output",
      "pool crates/pool/data/north.evp crates/pool/data/south.evp > pooled.evp", pool_sheets,
      (("first", {"type": file_bytes, "metavar": "FIRST"}), ("second", {"type": file_bytes, "metavar": "SECOND"}))),

@@ -3,38 +3,59 @@
 Doubles are read and written bit by bit, so that nothing here relies on the machine's.
 """
 
-from collections import namedtuple
 from fractions import Fraction
 from math import ceil, floor
+from typing import NamedTuple
 
 LIMIT = 2 ** 53
-
 TRAVEL_LIMIT = 1_000_000
-
 TRAVEL_WRONG, CELL_WRONG = 28, 27
 
 EMPTY, EXACT, BAND = range(3)
 
-Words = namedtuple("Words", "diurnal_low diurnal_high soak_low soak_high running_low running_high")
 
-Travel = namedtuple("Travel", "town urban_mileage rural_mileage highway_mileage rural_speed highway_speed")
+class Words(NamedTuple):
+    """The six words of a row in the report."""
+    diurnal_low: int
+    diurnal_high: int
+    soak_low: int
+    soak_high: int
+    running_low: int
+    running_high: int
 
-Cell = namedtuple("Cell", "kind low high")  # the kind, and the bits of two doubles
 
-Row = namedtuple("Row", "words travel")
+class Travel(NamedTuple):
+    """Whether a row's owners live in town, and where its vehicles drive."""
+    town: int
+    urban_mileage: int
+    rural_mileage: int
+    highway_mileage: int
+    rural_speed: int
+    highway_speed: int
+
+
+class Cell(NamedTuple):
+    """A cell: its kind, and the bits of two doubles."""
+    kind: int
+    low: int
+    high: int
+
+
+class Row(NamedTuple):
+    """What the call for a row's cells is handed."""
+    words: Words
+    travel: Travel
+
 
 FRACTION = 2 ** 52
-
 TOP_EXPONENT = 2047
-
 MINUS = 2 ** 63
-
 INFINITY = TOP_EXPONENT * FRACTION
 
 NANS = (INFINITY + FRACTION // 2, INFINITY + 1, MINUS + INFINITY + FRACTION // 2, MINUS + INFINITY + FRACTION - 1)
 
 
-def bits_of(n):
+def bits_of(n: int) -> int:
     """The bits of the double that is the whole number n."""
     if n == 0:
         return 0
@@ -44,22 +65,25 @@ def bits_of(n):
     return (exponent + 1023) * FRACTION + int(shifted) - FRACTION
 
 
-def value_of(bits):
+def value_of(bits: int) -> Fraction | None:
     """The value of a double as a fraction; None for a NaN and an infinity."""
     exponent, rest = divmod(bits % MINUS, FRACTION)
     if exponent == TOP_EXPONENT:
         return None
-    size = Fraction(rest, FRACTION) * Fraction(2) ** -1022 if exponent == 0 else (1 + Fraction(rest, FRACTION)) * Fraction(2) ** (exponent - 1023)
+    if exponent == 0:
+        size = Fraction(rest, FRACTION) * Fraction(2) ** -1022
+    else:
+        size = (1 + Fraction(rest, FRACTION)) * Fraction(2) ** (exponent - 1023)
     return -size if bits >= MINUS else size
 
 
-def mass_of(bits):
+def mass_of(bits: int) -> int | None:
     """The whole number from 0 to 2^53 that a double is, or None."""
     value = value_of(bits)
     return int(value) if value is not None and value.denominator == 1 and 0 <= value <= LIMIT else None
 
 
-def cell_of(low, high):
+def cell_of(low: int, high: int) -> Cell:
     """The cell of a low and a high mass."""
     kind = EMPTY if high == 0 else EXACT if low == high else BAND
     return Cell(kind, bits_of(low), bits_of(high))
@@ -68,7 +92,7 @@ def cell_of(low, high):
 NO_CELL = Cell(3, 0, 0)  # kind 3: what stands where a call refuses
 
 
-def masses_of(cell):
+def masses_of(cell: Cell) -> tuple[int, int] | None:
     """The low and the high of a cell handed in; None where it is none."""
     low, high = mass_of(cell.low), mass_of(cell.high)
     if cell.kind == EMPTY:
@@ -82,7 +106,7 @@ def masses_of(cell):
     return None
 
 
-def shares(travel):
+def shares(travel: Travel) -> tuple[tuple[Fraction, ...], ...]:
     """For each of the three mechanisms, what part of its mass falls on urban,
     rural and highway roads."""
     rural_time = Fraction(travel.rural_mileage, travel.rural_speed)
@@ -97,7 +121,7 @@ def shares(travel):
     )
 
 
-def refusal_of(row):
+def refusal_of(row: Row) -> str | None:
     """Why a row is refused, in words, or None; 28 comes first."""
     if any(not 1 <= x <= TRAVEL_LIMIT for x in row.travel[1:]):
         return "travel"
@@ -111,17 +135,18 @@ def refusal_of(row):
     return None
 
 
-def limits_of(row):
+def limits_of(row: Row) -> list[tuple[int, int]]:
     """The low and the high of each road kind: every share is rounded, down or
     up, and then summed."""
     lows, highs = row.words[::2], row.words[1::2]
     return [
-        (sum(floor(low * part) for low, part in zip(lows, parts)), sum(ceil(high * part) for high, part in zip(highs, parts)))
+        (sum(floor(low * part) for low, part in zip(lows, parts)),
+         sum(ceil(high * part) for high, part in zip(highs, parts)))
         for parts in zip(*shares(row.travel))
     ]
 
 
-def cells_of_row(row):
+def cells_of_row(row: Row) -> tuple[int, int, tuple[Cell, ...]]:
     """The number, the place and the three cells that the call answers."""
     reason = refusal_of(row)
     if reason:
@@ -129,7 +154,7 @@ def cells_of_row(row):
     return 0, 0, tuple(cell_of(low, high) for low, high in limits_of(row))
 
 
-def add_cells(first, second):
+def add_cells(first: Cell, second: Cell) -> tuple[int, int, Cell]:
     """The number, the place and the cell that the call answers."""
     masses = masses_of(first), masses_of(second)
     if None in masses or masses[0][1] + masses[1][1] > LIMIT:

@@ -6,8 +6,8 @@ from collections.abc import Iterator
 from fractions import Fraction
 
 from tools.reckoning.format import (
-    Row, Season, Sheet, canister_of, counts_at, grid_of, has_grid, has_many_rows, has_mileage, row_at, row_count, row_place,
-    season_at, seasons_start, version_of,
+    Row, Season, Sheet, canister_of, counts_at, grid_of, has_grid, has_many_rows, has_mileage, row_at, row_count,
+    row_place, season_at, seasons_start, version_of,
 )
 from tools.reckoning.quantities import canister_a_b
 from tools.reckoning.tables import BY_CLASS, CANISTER_S, LARGE, MEDIUM, NONE, SMALL, table_entry

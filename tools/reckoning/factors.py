@@ -4,7 +4,7 @@ import functools
 from collections.abc import Callable
 from fractions import Fraction
 
-from tools.reckoning.format import Row, Season, Sheet, canister_of, is_two_wheeler, tank_of
+from tools.reckoning.format import Grid, Row, Season, Sheet, canister_of, is_two_wheeler, tank_of
 from tools.reckoning.mileage import load_of
 from tools.reckoning.numbers import Mode, numbers_of, power_2_5
 from tools.reckoning.quantities import canister_a_b, start_mark, temperature
@@ -54,7 +54,7 @@ class Day:
 
 
 @functools.lru_cache(maxsize=64)
-def day_of(season, n, mode):
+def day_of(season: Season, n: int, mode: Mode) -> Day:
     """The kept day of a season."""
     return Day(season, n, mode)
 
@@ -86,7 +86,7 @@ class Escape:
         return self.lost(self.m1 + v) - self.lost_before
 
 
-def parkings(sheet):
+def parkings(sheet: Sheet) -> list[tuple[int, int, int]]:
     """The cells of the parking grid that weigh something: (d, t, count) with
     d half-hours and end hour t."""
     return [
@@ -96,11 +96,11 @@ def parkings(sheet):
     ]
 
 
-def _mean(sheet, numbers, total):
+def _mean(sheet: Sheet, numbers, total):
     return numbers.scaled(total, Fraction(1, sum(map(sum, sheet.grid))))
 
 
-def _mean_at_start(sheet, day, value):
+def _mean_at_start(sheet: Sheet, day: Day, value: Callable):
     """Mean over the cells of what depends on the start mark alone."""
     weights = [0] * 48
     for d, t, count in parkings(sheet):
@@ -108,7 +108,7 @@ def _mean_at_start(sheet, day, value):
     return _mean(sheet, day.numbers, sum(w * value(i) for i, w in enumerate(weights) if w))
 
 
-def _mean_at_end(sheet, day, value):
+def _mean_at_end(sheet: Sheet, day: Day, value: Callable):
     """Mean over the cells of what depends on the end mark alone."""
     weights = [0] * 48
     for d, t, count in parkings(sheet):
@@ -116,7 +116,7 @@ def _mean_at_end(sheet, day, value):
     return _mean(sheet, day.numbers, sum(w * value(i) for i, w in enumerate(weights) if w))
 
 
-def _diurnal(sheet, day, row):
+def _diurnal(sheet: Sheet, day: Day, row: Row):
     by_start = {}
     for d, t, count in parkings(sheet):
         by_start.setdefault(start_mark(t, d), {})[d] = count
@@ -136,7 +136,7 @@ def _diurnal(sheet, day, row):
     return _mean(sheet, day.numbers, total)
 
 
-def _raised(day, row, rise):
+def _raised(day: Day, row: Row, rise: Fraction) -> Callable:
     """Escape of the vapour from T(i) to T(i) + rise, as a function of i."""
     def value(i):
         v = day.vapour(row, day.heat(i, rise) - day.heat(i))
@@ -153,7 +153,7 @@ SOAK_RISE_TWO = {2: Fraction(3, 2), 3: Fraction(7, 2), 4: Fraction(7, 2)}
 RUNNING_RISE_TWO = {5: Fraction(1), 6: Fraction(5, 2), 7: Fraction(5, 2)}
 
 
-def _factor(sheet, day, row, k):
+def _factor(sheet: Sheet, day: Day, row: Row, k: int):
     if k == 1:
         return _diurnal(sheet, day, row)
     if is_two_wheeler(row):
@@ -173,7 +173,7 @@ def _factor(sheet, day, row, k):
     return result
 
 
-def factor(sheet, season, row, k, n=40, mode="decimal"):
+def factor(sheet: Sheet, season: int, row: int, k: int, n: int = 40, mode: Mode = "decimal") -> Fraction:
     """Factor k (1 to 7) in grams of a season and row counted from 0, as a
     Fraction: the exact value in mode exact, within 10^-80 of it in mode
     decimal."""
@@ -183,19 +183,19 @@ def factor(sheet, season, row, k, n=40, mode="decimal"):
     return day.numbers.fraction(_factor(sheet, day, sheet.rows[row], k))
 
 
-def seven_factors(sheet, season, row, n=40, mode="decimal"):
+def seven_factors(sheet: Sheet, season: int, row: int, n: int = 40, mode: Mode = "decimal") -> tuple[Fraction, ...]:
     """All seven factors of a season and row, as a tuple."""
     return tuple(factor(sheet, season, row, k, n, mode) for k in range(1, 8))
 
 
 @functools.lru_cache(maxsize=4096)
-def shared_factors(grid, season, row, n, mode):
+def shared_factors(grid: Grid, season: Season, row: Row, n: int, mode: Mode) -> tuple[Fraction, ...]:
     """The seven factors of all rows that differ from this one in vehicles,
     trips, c and p alone, which no factor depends on."""
     return seven_factors(Sheet(grid, (season,), (row,)), 0, 0, n, mode)
 
 
-def masses(sheet, row, n=40, mode="decimal"):
+def masses(sheet: Sheet, row: int, n: int = 40, mode: Mode = "decimal") -> tuple[Fraction, Fraction, Fraction]:
     """(diurnal, soak, running) of a row in grams, summed over the seasons."""
     record = sheet.rows[row]
     c = Fraction(record.carburettor, 100)

@@ -1,39 +1,62 @@
 """The bytes of a sheet, in all four versions: its head, its parking, its seasons and its rows."""
 
-from collections import namedtuple
 from collections.abc import Iterable
 from fractions import Fraction
+from typing import NamedTuple
 
 from tools.reckoning.tables import BY_CLASS, table_entry
 
-# Numbers as the sheet has them: temperatures, vp, tank, load and saturation
-# in tenths, trips in hundredths, shares and fill level in percent, mileage in
-# km.
-Season = namedtuple("Season", "days lowest highest vp")
 
-Row = namedtuple(
-    "Row",
-    "vehicle_class technology canister carburettor hot fill tank vehicles "
-    "trips minutes load saturation mileage",
-)
-
-# The grid has a tuple for each end hour, of the counts of its 24 durations.
-Sheet = namedtuple("Sheet", "grid seasons rows")
+# The counts of the grid: for each end hour those of its 24 durations.
+Grid = tuple[tuple[int, ...], ...]
 
 
-def _u16(data, at):
+class Season(NamedTuple):
+    """A season as the sheet has it: temperatures and vp in tenths."""
+    days: int
+    lowest: int
+    highest: int
+    vp: int
+
+
+class Row(NamedTuple):
+    """A row as the sheet has it: tank, load and saturation in tenths, trips in
+    hundredths, shares and fill level in percent, mileage in km."""
+    vehicle_class: int
+    technology: int
+    canister: int
+    carburettor: int
+    hot: int
+    fill: int
+    tank: int
+    vehicles: int
+    trips: int
+    minutes: int
+    load: int
+    saturation: int
+    mileage: int
+
+
+class Sheet(NamedTuple):
+    """A sheet that was read, of whatever version."""
+    grid: Grid
+    seasons: tuple[Season, ...]
+    rows: tuple[Row, ...]
+
+
+def _u16(data: bytes, at: int) -> int:
     return int.from_bytes(data[at:at + 2], "little")
 
 
-def _i16(data, at):
+def _i16(data: bytes, at: int) -> int:
     return int.from_bytes(data[at:at + 2], "little", signed=True)
 
 
-def _u32(data, at):
+def _u32(data: bytes, at: int) -> int:
     return int.from_bytes(data[at:at + 4], "little")
 
 
-def counts_at(data, at, many):
+def counts_at(data: bytes, at: int, many: int) -> tuple[int, ...]:
     return tuple(_u16(data, at + 2 * i) for i in range(many))
 
 
@@ -42,28 +65,28 @@ def version_of(data: bytes) -> int:
     return _u16(data, 3)
 
 
-def has_grid(data):
+def has_grid(data: bytes) -> bool:
     """Whether the parking is a grid (versions 2 to 4) or two lists (1)."""
     return version_of(data) in (2, 3, 4)
 
 
-def has_mileage(data):
+def has_mileage(data: bytes) -> bool:
     """Whether bytes 20 to 23 of a row are a mileage (versions 3 and 4) or zero."""
     return version_of(data) in (3, 4)
 
 
-def has_many_rows(data):
+def has_many_rows(data: bytes) -> bool:
     """Whether bytes 6 and 7 are the count of rows (version 4), or byte 6 is it
     and byte 7 is zero."""
     return version_of(data) == 4
 
 
-def row_count(data):
+def row_count(data: bytes) -> int:
     """The rows that the head tells of."""
     return _u16(data, 6) if has_many_rows(data) else data[6]
 
 
-def seasons_start(data):
+def seasons_start(data: bytes) -> int:
     """Where the first season starts: the parking is 96 bytes of lists, or 1152
     of a grid, behind a head of 8."""
     return 1160 if has_grid(data) else 104
@@ -74,12 +97,12 @@ def row_place(data: bytes, i: int) -> int:
     return seasons_start(data) + 8 * data[5] + 24 * i
 
 
-def season_at(data, at):
+def season_at(data: bytes, at: int) -> Season:
     """The season record that starts at this offset."""
     return Season(_u16(data, at), _i16(data, at + 2), _i16(data, at + 4), _u16(data, at + 6))
 
 
-def row_at(data, at):
+def row_at(data: bytes, at: int) -> Row:
     """The row record that starts at this offset."""
     return Row(
         *data[at:at + 6],
@@ -102,30 +125,30 @@ def with_counts(data: bytes, counts: Iterable[int]) -> bytes:
     return bytes(changed)
 
 
-def canister_of(row):
+def canister_of(row: Row) -> int:
     """The canister code of a row, 0 to 3, looked up where it is by class."""
     if row.canister == BY_CLASS:
         return table_entry(row.vehicle_class, row.technology)[1]
     return row.canister
 
 
-def tank_of(row):
+def tank_of(row: Row) -> Fraction:
     """The tank of a row in litres, looked up where it is by class."""
     if row.tank == 0:
         return Fraction(table_entry(row.vehicle_class, row.technology)[0])
     return Fraction(row.tank, 10)
 
 
-def is_two_wheeler(row):
+def is_two_wheeler(row: Row) -> bool:
     return 5 <= row.vehicle_class <= 9
 
 
-def grid_of(data):
+def grid_of(data: bytes) -> Grid:
     if has_grid(data):
         return tuple(counts_at(data, 8 + 48 * i, 24) for i in range(24))
     durations, hours = counts_at(data, 8, 24), counts_at(data, 56, 24)
     return tuple(tuple(j * q for j in durations) for q in hours)
 
 
-def counts_at(data, at, many):
+def counts_at(data: bytes, at: int, many: int) -> tuple[int, ...]:
     return tuple(_u16(data, at + 2 * i) for i in range(many))

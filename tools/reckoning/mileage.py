@@ -5,12 +5,12 @@ import math
 from fractions import Fraction
 
 from tools.reckoning.format import Row, Season, canister_of
-from tools.reckoning.numbers import ExactNumbers, Mode, ScaledNumbers
+from tools.reckoning.numbers import ExactNumbers, Mode, Numbers, ScaledNumbers
 from tools.reckoning.quantities import canister_a_b
 from tools.reckoning.tables import CANISTER_S
 
 
-def driven(numbers, a, b, s, m):
+def driven(numbers: Numbers, a: Fraction, b: Fraction, s: Fraction, m: Fraction):
     """E((s.g + 22.92)/8.13), the kilometres of a load of m grams (eq. 12), with
     g = m - E(a + b.s.m), what the canister keeps of it (eq. 9)."""
     m = numbers.number(m)
@@ -20,7 +20,8 @@ def driven(numbers, a, b, s, m):
 
 
 @functools.lru_cache(maxsize=None)
-def starting_load(a, b, s, M, m_sat, n, mode="decimal"):
+def starting_load(a: Fraction, b: Fraction, s: Fraction, M: int, m_sat: Fraction, n: int,
+                  mode: Mode = "decimal") -> Fraction:
     """The smallest multiple of 2^-n gram, from 0 to m_sat, that reaches M, that
     is whose driven() is at least M; m_sat where none does. In grams and km.
 
@@ -39,20 +40,21 @@ def starting_load(a, b, s, M, m_sat, n, mode="decimal"):
 MOST_TRIED = 6  # n up to which the multiples are few enough to try each
 
 
-def _first(a, b, s, M, last, n):
+def _first(a: Fraction, b: Fraction, s: Fraction, M: int, last: int, n: int) -> int | None:
     """The first k from 0 to `last` with k/2^n reaching M, or None."""
     numbers = ExactNumbers(n)
     return next((k for k in range(last + 1) if driven(numbers, a, b, s, Fraction(k, 2 ** n)) >= M), None)
 
 
 # Nearer to M than so many units of mode decimal, fractions decide. With
-# a + b.s.m at most 0 the inner E is off by less than 2^44 units (numbers.py) and the exponent of the outer one by less than 2^43. That exponent is
+# a + b.s.m at most 0 the inner E is off by less than 2^44 units (numbers.py)
+# and the exponent of the outer one by less than 2^43. That exponent is
 # below 22, since s.m <= -a/b <= 14.6/0.0955 < 153, and e^22 < 2^32; so the
 # outer E is off by less than 2^43.2^32, and 2^21.2^32 of its own.
 NEAR = 2 ** 80
 
 
-def _between(a, b, s, M, last, n):
+def _between(a: Fraction, b: Fraction, s: Fraction, M: int, last: int, n: int) -> int | None:
     """The same k for every n. Both ends of an interval are drawn together, the
     lower end not reaching M and the upper one reaching it, until they are
     neighbours: so the k that is given was seen to reach M, and k - 1 was seen
@@ -68,18 +70,7 @@ def _between(a, b, s, M, last, n):
     """
     if a + b * s * Fraction(last, 2 ** n) > 0:
         raise ValueError("a + b.s.m_sat above 0")
-
-    def beyond(k):
-        """log(driven/M), at least 0 where k/2^n reaches M. Where the decimals
-        cannot tell, fractions do."""
-        m = Fraction(k, 2 ** n)
-        numbers = ScaledNumbers(n)
-        aim = numbers.number(M)
-        apart = driven(numbers, a, b, s, m) - aim
-        if abs(apart) < NEAR:
-            return 0.0 if driven(ExactNumbers(n), a, b, s, m) >= M else -NEAR / aim
-        return math.log1p(apart / aim)
-
+    beyond = functools.partial(_beyond, a, b, s, M, n)
     low, high = 0, last
     below, above = beyond(low), beyond(high)
     if below >= 0:
@@ -100,7 +91,19 @@ def _between(a, b, s, M, last, n):
     return high
 
 
-def load_of(row, season, T, n, mode):
+def _beyond(a: Fraction, b: Fraction, s: Fraction, M: int, n: int, k: int) -> float:
+    """log(driven/M), at least 0 where k/2^n reaches M. Where the decimals
+    cannot tell, fractions do."""
+    m = Fraction(k, 2 ** n)
+    numbers = ScaledNumbers(n)
+    aim = numbers.number(M)
+    apart = driven(numbers, a, b, s, m) - aim
+    if abs(apart) < NEAR:
+        return 0.0 if driven(ExactNumbers(n), a, b, s, m) >= M else -NEAR / aim
+    return math.log1p(apart / aim)
+
+
+def load_of(row: Row, season: Season, T: Fraction, n: int, mode: Mode) -> Fraction:
     """The load at parking start of a row, in grams, where the escape starts
     from T: as written, or where there is a mileage, the load that reaches it."""
     if row.mileage == 0:

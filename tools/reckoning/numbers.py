@@ -36,7 +36,7 @@ BITS = 384
 Mode = Literal["exact", "decimal"]
 
 
-def series(y, n):
+def series(y: Fraction, n: int) -> Fraction:
     """S_n(y), the sum of y^i/i! for i from 0 to n, exact."""
     y = Fraction(y)
     # Inside out: 1 + y/1.(1 + y/2.(1 + ... y/n)), kept as one numerator and
@@ -49,7 +49,7 @@ def series(y, n):
     return Fraction(top, bottom)
 
 
-def power_2_5(T, n):
+def power_2_5(T: Fraction, n: int) -> Fraction:
     """T^2.5: the largest multiple of 2^-n whose square is at most T^5, exact;
     0 for T below 0."""
     T = Fraction(T)
@@ -114,14 +114,17 @@ class ScaledNumbers:
         return total if y >= 0 else (1 << 2 * BITS) // total
 
 
-def numbers_of(mode, n):
+Numbers = ExactNumbers | ScaledNumbers
+
+
+def numbers_of(mode: Mode, n: int) -> Numbers:
     """The numbers of a mode, "exact" or "decimal", for one n."""
     if mode not in ("exact", "decimal"):
         raise ValueError("mode is exact or decimal, not %r" % (mode,))
     return ExactNumbers(n) if mode == "exact" else ScaledNumbers(n)
 
 
-def E(y, n=40, mode="exact"):
+def E(y: Fraction, n: int = 40, mode: Mode = "exact") -> Fraction:
     """E(y): S_n(y) for y >= 0, 1/S_n(-y) below."""
     numbers = numbers_of(mode, n)
     return numbers.fraction(numbers.E(numbers.number(y)))

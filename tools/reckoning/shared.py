@@ -1,6 +1,7 @@
 """The rules of a shared ledger (document 02, request Eight): who may do what, and what a call is answered."""
 
-from collections import Counter, namedtuple
+from collections import Counter
+from typing import NamedTuple
 
 from tools.reckoning.checks import check
 from tools.reckoning.format import counts_of, row_place
@@ -13,7 +14,13 @@ ARRIVAL, DEPARTURE, READ_ROW, READ_TOTALS = range(4)
 
 KINDS = ("an arrival", "a departure", "a row", "the totals")
 
-Ask = namedtuple("Ask", "kind who row vehicles")
+
+class Ask(NamedTuple):
+    """A call, and who makes it."""
+    kind: int
+    who: int
+    row: int
+    vehicles: int
 
 
 def opening(data: bytes, owners: bytes, words: int) -> tuple[int, int]:
@@ -31,14 +38,14 @@ def opening(data: bytes, owners: bytes, words: int) -> tuple[int, int]:
     return 0, 0
 
 
-def row_kind(owners, rows, ask):
+def row_kind(owners: bytes, rows: int, ask: Ask) -> str:
     """Whose the named row is to the one who asks."""
     if ask.row >= rows:
         return "absent"
     return "own" if owners[ask.row] == ask.who else "another's"
 
 
-def answered(version, owners, counts, ask):
+def answered(version: int, owners: bytes, counts: list[int], ask: Ask) -> int:
     """The number of the answer, 0 where the call passes."""
     kind = row_kind(owners, len(counts), ask)
     if ask.kind == READ_TOTALS:
@@ -59,5 +66,5 @@ def answered(version, owners, counts, ask):
     return 31 if held + ask.vehicles > VEHICLES_EACH else 0
 
 
-def caller(who):
+def caller(who: int) -> str:
     return "marker" if who == MARKER else "participant" if who in PARTICIPANTS else "stranger"

@@ -18,7 +18,7 @@ GROUPS = {
 }
 
 
-def entries(printed):
+def entries(printed: str) -> Iterator[tuple[str, Fraction]]:
     """The names, with - for a space, and the shares of a group. A comma before
     a space parts two species; a name has commas of its own."""
     for entry in re.split(r",\s+", printed):
@@ -33,14 +33,14 @@ NAMES = [name for name, _ in TABLE]
 SHARES = [share for _, share in TABLE]
 
 
-def split(total):
+def split(total: int) -> list[int]:
     """The masses of the species: of each the whole part of what it and those
     before it have, less that of those before it."""
     reached = [floor(total * part / sum(SHARES)) for part in accumulate(SHARES, initial=0)]
     return [after - before for before, after in zip(reached, reached[1:])]
 
 
-def text(version, total):
+def text(version: int, total: int) -> str:
     """What the program `species` prints for an accepted sheet."""
     lines = ["EVP %d total %d" % (version, total)]
     lines += ["%s %d" % entry for entry in zip(NAMES, split(total))]

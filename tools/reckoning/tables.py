@@ -25,7 +25,7 @@ CLASS_TABLE = (
 )
 
 
-def table_entry(vehicle_class, technology):
+def table_entry(vehicle_class: int, technology: int) -> tuple[int, int] | None:
     """(tank in litres, canister code) of a pair, or None where it is absent."""
     for number, _, tank, canisters in CLASS_TABLE:
         if number == vehicle_class and 0 <= technology < len(canisters):
@@ -33,14 +33,14 @@ def table_entry(vehicle_class, technology):
     return None
 
 
-def weight_exponent(i):
+def weight_exponent(i: int) -> Fraction:
     """The exponent -0.0247.d^2 of mark i, as a fraction; d is the hours of the
     shorter way round the day to 14:00, at most 12."""
     one_way = abs(Fraction(i, 2) - 14)
     return -Fraction(247, 10000) * min(one_way, 24 - one_way) ** 2
 
 
-def _weights():
+def _weights() -> tuple[int, ...]:
     # Decimal's exp is correctly rounded, so 60 digits leave the nearest whole
     # number in no doubt unless the value lies within 10^-40 of a half; that
     # is looked at rather than trusted.

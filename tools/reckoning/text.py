@@ -13,7 +13,7 @@ PLACES = 30
 NUDGE = Fraction(1, 10 ** 60)
 
 
-def cut(value, places=PLACES, nudge=Fraction(0)):
+def cut(value: Fraction, places: int = PLACES, nudge: Fraction = Fraction(0)) -> str:
     """A value as a decimal, cut (towards zero) after so many places. `nudge`
     is added first."""
     value = Fraction(value)
@@ -24,7 +24,7 @@ def cut(value, places=PLACES, nudge=Fraction(0)):
     return "%s%s.%s" % (sign, digits[:-places], digits[-places:])
 
 
-def shown(value, mode):
+def shown(value: Fraction, mode: Mode) -> str:
     """A value as the commands print it: cut decimal, or fraction and decimal."""
     if mode == "exact":
         return "%d/%d %s" % (value.numerator, value.denominator, cut(value))

@@ -31,7 +31,8 @@ def parser() -> argparse.ArgumentParser:
         "Makes a sheet from a readable text, and back. docs/TOOLS.md has the lines of the text.",
         "python3 -m tools.sheet write samples/region.txt my.evp"))
     commands = top.add_subparsers(required=True, metavar="COMMAND")
-    write = add_command(commands, "write", "makes the sheet of a text", "python3 -m tools.sheet write samples/region.txt my.evp",
+    write = add_command(commands, "write", "makes the sheet of a text",
+                        "python3 -m tools.sheet write samples/region.txt my.evp",
                         ", and says what it wrote and whether it would be accepted; never writes over the text")
     write.add_argument("source", metavar="TEXT")
     write.add_argument("target", metavar="SHEET", nargs="?", help="TEXT's name with .evp where none is given")

@@ -25,9 +25,11 @@ class Field(NamedTuple):
         return (-(1 << bits - 1), (1 << bits - 1) - 1) if self.signed else (0, (1 << bits) - 1)
 
 
-SEASON_FIELDS = (Field("days", 2), Field("lowest", 2, True, 10), Field("highest", 2, True, 10), Field("vp", 2, False, 10))
+SEASON_FIELDS = (Field("days", 2), Field("lowest", 2, True, 10), Field("highest", 2, True, 10),
+                 Field("vp", 2, False, 10))
 ROW_FIELDS = (
-    Field("class", 1), Field("technology", 1), Field("canister", 1), Field("carburettor", 1), Field("hot", 1), Field("fill", 1),
+    Field("class", 1), Field("technology", 1), Field("canister", 1), Field("carburettor", 1), Field("hot", 1),
+    Field("fill", 1),
     Field("tank", 2, False, 10), Field("vehicles", 4), Field("trips", 2, False, 100), Field("minutes", 2),
     Field("load", 2, False, 10), Field("saturation", 2, False, 10),
 )

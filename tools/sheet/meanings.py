@@ -26,8 +26,8 @@ MEANINGS = {
     20: "a + b.s.m_sat above 3 at some season's highest temperature",
     21: "bytes 20 to 23 of the row are not zero",
     24: "grid counts sum to 0 or above 1,000,000",
-    25: "mileage above 1,000,000 km, or a mileage without canister, beside a load, or with a + b.s.m_sat above 0 at some "
-        "season's highest temperature",
+    25: "mileage above 1,000,000 km, or a mileage without canister, beside a load, or with a + b.s.m_sat above 0 at "
+        "some season's highest temperature",
     26: "more than 100,000,000 vehicles in this row and those before it together",
 }
 

@@ -37,7 +37,8 @@ def _head(data: bytes) -> Iterator[str]:
     if data[0:3] != b"EVP":
         yield "letters %s" % data[0:3].hex()
     # where the rest of the text makes another version, or none
-    if version != version_for(_has_grid(data), _has_mileage(data) and rows > 0, rows) or rows > MOST_ROWS and not _has_grid(data):
+    told = version_for(_has_grid(data), _has_mileage(data) and rows > 0, rows)
+    if version != told or rows > MOST_ROWS and not _has_grid(data):
         yield "version %d" % version
     if version != 4 and data[7]:
         yield "zero %d" % data[7]

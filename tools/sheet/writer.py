@@ -3,8 +3,8 @@
 from collections.abc import Callable, Iterable
 
 from tools.sheet.fields import (
-    CANISTERS, GRID, LISTS, MILEAGE, MOST_ROWS, ROW_FIELDS, SEASON_FIELDS, Field, TextError, encode, hexadecimal, version_for,
-    whole_number,
+    CANISTERS, GRID, LISTS, MILEAGE, MOST_ROWS, ROW_FIELDS, SEASON_FIELDS, Field, TextError, encode, hexadecimal,
+    version_for, whole_number,
 )
 
 # Lines that may stand once, and the value of each.
@@ -79,7 +79,8 @@ class _Writer:
     def _head(self) -> bytes:
         """The first 8 bytes."""
         version = self._version()
-        head = self.single.get("letters", b"EVP") + version.to_bytes(2, "little") + self._count("seasons", self.seasons, 1, version)
+        head = self.single.get("letters", b"EVP") + version.to_bytes(2, "little") + self._count(
+            "seasons", self.seasons, 1, version)
         if version == 4:
             return head + self._count("rows", self.rows, 2, version)
         return head + self._count("rows", self.rows, 1, version) + bytes([self.single.get("zero", 0)])
@@ -87,13 +88,15 @@ class _Writer:
     def _version(self) -> int:
         has_grid = self.parking.has_grid()
         if self.mileage_lines and not has_grid:
-            raise TextError("line %d: row: a mileage wants a grid in place of durations and hours" % self.mileage_lines[0])
+            raise TextError("line %d: row: a mileage wants a grid in place of durations and hours" % (
+                self.mileage_lines[0]))
         if len(self.rows) > MOST_ROWS and not has_grid and "version" not in self.single:
             raise TextError("line %d: row: more than %d rows want a grid in place of durations and hours" % (
                 self.row_lines[MOST_ROWS], MOST_ROWS))
         version = self.single.get("version", version_for(has_grid, bool(self.mileage_lines), len(self.rows)))
         if version == 4 and "zero" in self.single:
-            raise TextError("line %d: zero: byte 7 of version 4 is one of the count of rows" % self.single_lines["zero"])
+            raise TextError("line %d: zero: byte 7 of version 4 is one of the count of rows" % (
+                self.single_lines["zero"]))
         return version
 
     def _count(self, name: str, records: list[bytes], size: int, version: int) -> bytes:

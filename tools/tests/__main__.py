@@ -6,4 +6,6 @@ import unittest
 from tools.command import TOP
 
 if __name__ == "__main__":
-    unittest.main(module=None, argv=["python3 -m tools.tests", "discover", "-s", str(TOP / "tools" / "tests"), "-t", str(TOP), *sys.argv[1:]])
+    unittest.main(
+        module=None, argv=["python3 -m tools.tests", "discover", "-s", str(TOP / "tools" / "tests"), "-t", str(TOP),
+                           *sys.argv[1:]])

@@ -100,7 +100,8 @@ def drawn_row(draw: random.Random, season: reckoning.Season) -> str:
         load = draw.choice((0, saturation, draw.randint(0, saturation)))
     return ("row class=%d technology=%d canister=%d carburettor=50 hot=50 fill=%d tank=%s "
             "vehicles=1 trips=1 minutes=%d load=%s saturation=%s\n" % (
-                vehicle_class, technology, canister, draw.randint(0, 100), draw.choice(("class", draw.randint(1, 1500) / 10)),
+                vehicle_class, technology, canister, draw.randint(0, 100),
+                draw.choice(("class", draw.randint(1, 1500) / 10)),
                 draw.randint(0, 1440), load / 10, saturation / 10))
 
 
@@ -188,11 +189,13 @@ class PlainRow:
         T1, T2 = at(begin), at(end)
         diurnal = self.escape(v, T1) + sum(self.permeation(at(x)) for x in steps) / 2
         if self.row.vehicle_class > 4:
-            return [diurnal, *(self.risen(T1, rise) for rise in (1.5, 3.5, 3.5)), *(self.risen(T2, rise) for rise in (1, 2.5, 2.5))]
+            return [diurnal, *(self.risen(T1, rise) for rise in (1.5, 3.5, 3.5)),
+                    *(self.risen(T2, rise) for rise in (1, 2.5, 2.5))]
         soak = self.permeation(T1 + 11)
         running = self.row.minutes / 60 * self.permeation(T2 + 15)
         carburettor = [self.vapour(T2, T2 + rise) if self.s is None else 0 for rise in (1, 5)]
-        return [diurnal, soak, *(soak + self.risen(T1, rise) for rise in (4.5, 6)), running, *(running + v for v in carburettor)]
+        return [diurnal, soak, *(soak + self.risen(T1, rise) for rise in (4.5, 6)), running,
+                *(running + v for v in carburettor)]
 
 
 def plain_factors(read: reckoning.Sheet, season: int, row: int) -> list[float]:

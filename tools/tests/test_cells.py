@@ -69,7 +69,8 @@ class CellsTest(unittest.TestCase):
                 continue
             lows, highs = row.words[::2], row.words[1::2]
             for (low, high), road in zip(cells.limits_of(row), zip(*cells.shares(row.travel))):
-                exact_low, exact_high = (sum(mass * part for mass, part in zip(masses, road)) for masses in (lows, highs))
+                exact_low, exact_high = (sum(mass * part for mass, part in zip(masses, road))
+                                         for masses in (lows, highs))
                 self.assertTrue(low <= exact_low and exact_high <= high, row)
                 self.assertLess(high - low, exact_high - exact_low + 6, row)
 

@@ -73,12 +73,15 @@ def mileage_refusals(lists):
 
     cold = ((1160 + 4, 100, 2), (1160 + 6, 1100, 2))  # the first season as the second
     return [
-        (base, None), (p((3, 2, 2)), (21, row_1)), (p((3, 1, 2)), (7, 0)), (p((3, 5, 2)), (3, 3)), (p((3, 259, 2)), (3, 3)),
+        (base, None), (p((3, 2, 2)), (21, row_1)), (p((3, 1, 2)), (7, 0)), (p((3, 5, 2)), (3, 3)),
+        (p((3, 259, 2)), (3, 3)),
         (base[:-1], (7, 0)), (base + b"\0", (7, 0)), (base[:7], (1, 0)), (base[:len(lists)], (7, 0)),
         (p(*((8 + 2 * i, 0, 2) for i in range(576))), (24, 8)),
         # the mileage itself
-        (p((row_1 + 20, 1_000_000, 4)), None), (p((row_1 + 20, 1_000_001, 4)), (25, row_1)), (p((row_1 + 20, 1, 4)), None),
-        (p((row_1 + 23, 1, 1)), (25, row_1)), (p((row_1 + 20, 2 ** 32 - 1, 4)), (25, row_1)), (p((row_1 + 20, 0, 4)), None),
+        (p((row_1 + 20, 1_000_000, 4)), None), (p((row_1 + 20, 1_000_001, 4)), (25, row_1)),
+        (p((row_1 + 20, 1, 4)), None),
+        (p((row_1 + 23, 1, 1)), (25, row_1)), (p((row_1 + 20, 2 ** 32 - 1, 4)), (25, row_1)),
+        (p((row_1 + 20, 0, 4)), None),
         # without canister, by class and written
         (p((row_0 + 20, 1, 4)), (25, row_0)), (p((row_0 + 20, 1, 4), (row_0 + 2, 2, 1)), None),
         (p((row_1 + 2, 0, 1), (row_1 + 18, 0, 2)), (25, row_1)),
@@ -88,20 +91,37 @@ def mileage_refusals(lists):
         (p((row_1 + 16, 354, 2), (row_1 + 20, 0, 4)), None),
         # a + b.s.m_sat above 0, in the first season and in the second alone
         (p((row_1 + 18, 355, 2)), (25, row_1)), (p((row_1 + 18, 355, 2), (row_1 + 20, 0, 4)), None),
-        (p((row_1 + 18, 0, 2)), None), (p((row_1 + 18, 603, 2), *cold), None), (p((row_1 + 18, 604, 2), *cold), (25, row_1)),
+        (p((row_1 + 18, 0, 2)), None), (p((row_1 + 18, 603, 2), *cold), None),
+        (p((row_1 + 18, 604, 2), *cold), (25, row_1)),
         (p((row_1 + 18, 355, 2), *cold, (1168 + 4, 500, 2), (1168 + 6, 300, 2)), (25, row_1)),
         (p((row_1 + 18, 709, 2), (row_1 + 2, 2, 1)), None), (p((row_1 + 18, 710, 2), (row_1 + 2, 2, 1)), (25, row_1)),
         (p((row_1 + 18, 1419, 2), (row_1 + 2, 3, 1)), None), (p((row_1 + 18, 1420, 2), (row_1 + 2, 3, 1)), (25, row_1)),
-        # 25 stands behind 20 in its row and before 13 in the next
-        (p((row_1 + 18, 600, 2)), (20, row_1)), (p((row_1 + 16, 355, 2)), (19, row_1)), (p((row_1 + 2, 0, 1)), (19, row_1)),
-        (p((row_0 + 20, 1_000_001, 4), (row_1, 0, 1)), (25, row_0)), (p((row_0 + 20, 1, 4), (row_0 + 5, 101, 1)), (15, row_0)),
+    ]
+
+
+def mileage_order_refusals(lists):
+    """25 stands behind 20 in its row and before 13 in the next."""
+    grid = as_grid(lists)
+    row_0, row_1 = 1176, 1200
+    base = patched(grid, (3, 3, 2), (row_1 + 16, 0, 2), (row_1 + 18, 354, 2), (row_1 + 20, 84_000, 4))
+
+    def p(*changes):
+        return patched(base, *changes)
+
+    return [
+        (p((row_1 + 18, 600, 2)), (20, row_1)), (p((row_1 + 16, 355, 2)), (19, row_1)),
+        (p((row_1 + 2, 0, 1)), (19, row_1)),
+        (p((row_0 + 20, 1_000_001, 4), (row_1, 0, 1)), (25, row_0)),
+        (p((row_0 + 20, 1, 4), (row_0 + 5, 101, 1)), (15, row_0)),
         (p((row_0 + 20, 1, 4), (1168 + 6, 299, 2)), (12, 1168)), (p((row_1 + 20, 1_000_001, 4)), (25, row_1), 0),
-        (p((row_1 + 20, 1_000_001, 4)), (25, row_1), None, (9, 9, 9)), (base, (22, 0), 37), (base, (23, 0), None, (2, 0, 1)),
+        (p((row_1 + 20, 1_000_001, 4)), (25, row_1), None, (9, 9, 9)), (base, (22, 0), 37),
+        (base, (23, 0), None, (2, 0, 1)),
     ]
 
 
 class ManyRows:
-    """Sheets of version 4, made of one of version 1: 11 rows, of which the last has a canister; and rows of one vehicle each."""
+    """Sheets of version 4, made of one of version 1: 11 rows, of which the last has a canister; and rows of one
+    vehicle each."""
 
     def __init__(self, lists):
         self.grid = patched(as_grid(lists), (3, 4, 2), (6, 11, 2), (1184, 0, 4))
@@ -131,13 +151,16 @@ def full_rows_refusals(lists):
         (patched(full, (at(9, 8), 9_999_999, 4), (at(10, 8), 1, 4)), None),
         (patched(full, (at(9, 8), 9_999_999, 4), (at(10, 8), 2, 4)), (26, at(10))),
         # 26 stands behind 16 and before 17 in its row, and before 13 in the next
-        (patched(full, (at(9, 8), 10_000_001, 4)), (16, at(9))), (patched(full, (at(10, 8), 10_000_001, 4)), (16, at(10))),
+        (patched(full, (at(9, 8), 10_000_001, 4)), (16, at(9))),
+        (patched(full, (at(10, 8), 10_000_001, 4)), (16, at(10))),
         (patched(full, (at(10, 8), 1, 4), (at(10, 6), 1501, 2)), (26, at(10))),
         (patched(full, (at(10, 8), 1, 4), (at(10, 5), 101, 1)), (15, at(10))),
         (patched(full, (at(10, 8), 1, 4), (at(9, 6), 1501, 2)), (17, at(9))),
-        (patched(full, (at(10, 8), 1, 4)), (26, at(10)), 0), (patched(full, (at(10, 8), 1, 4)), (26, at(10)), None, (9, 9, 9)),
+        (patched(full, (at(10, 8), 1, 4)), (26, at(10)), 0),
+        (patched(full, (at(10, 8), 1, 4)), (26, at(10)), None, (9, 9, 9)),
         (most, None), (patched(most, (at(999, 8), 9_999_011, 4)), (26, at(999))),
-        (patched(most, (at(0, 8), 2, 4)), (26, at(999))), (patched(most, (at(0, 8), 2, 4), (at(999), 0, 1)), (13, at(999))),
+        (patched(most, (at(0, 8), 2, 4)), (26, at(999))),
+        (patched(most, (at(0, 8), 2, 4), (at(999), 0, 1)), (13, at(999))),
         (patched(most, (at(0, 8), 2, 4), (at(999, 8), 0, 4)), None),
         # no other version has the limit
         (patched(full, (3, 3, 2), (at(10, 8), 10_000_000, 4)), None),
@@ -153,16 +176,20 @@ def many_rows_refusals(lists):
         # the count of rows, and what its bytes are in the other versions
         (rows(1), None), (rows(32), None), (rows(33), None), (rows(255), None), (rows(256), None), (rows(1000), None),
         (rows(1001), (5, 6)), (p((6, 0, 2)), (5, 6)), (p((6, 65535, 2)), (5, 6)), (p((6, 1001, 2)), (5, 6)),
-        (p((6, 267, 2)), (7, 0)), (p((6, 256, 2)), (7, 0)), (p((6, 10, 2)), (7, 0)), (base[:8], (7, 0)), (base[:7], (1, 0)),
+        (p((6, 267, 2)), (7, 0)), (p((6, 256, 2)), (7, 0)), (p((6, 10, 2)), (7, 0)), (base[:8], (7, 0)),
+        (base[:7], (1, 0)),
         (rows(256, (3, 3, 2)), (5, 6)), (rows(257, (3, 3, 2)), (6, 7)), (rows(257, (3, 2, 2)), (6, 7)),
-        (rows(257, (3, 1, 2)), (6, 7)), (rows(33, (3, 3, 2)), (5, 6)), (rows(32, (3, 3, 2)), None), (rows(32, (3, 2, 2)), None),
+        (rows(257, (3, 1, 2)), (6, 7)), (rows(33, (3, 3, 2)), (5, 6)), (rows(32, (3, 3, 2)), None),
+        (rows(32, (3, 2, 2)), None),
         (p((3, 3, 2)), None),
-        (p((5, 0, 1), (6, 0, 2)), (4, 5)), (p((3, 5, 2), (6, 0, 2)), (3, 3)), (base[:-1], (7, 0)), (base + b"\0", (7, 0)),
+        (p((5, 0, 1), (6, 0, 2)), (4, 5)), (p((3, 5, 2), (6, 0, 2)), (3, 3)), (base[:-1], (7, 0)),
+        (base + b"\0", (7, 0)),
         # what version 3 has: a mileage, and no 21
         (p((at(10, 16), 0, 2), (at(10, 18), 354, 2), (at(10, 20), 84_000, 4)), None),
         (p((at(10, 20), 1, 4)), (25, at(10))), (p((at(3, 20), 1_000_001, 4)), (25, at(3))),
         (rows(1000), (22, 0), 6025), (rows(1000), None, 6026), (rows(1000), (23, 0), None, (0, 1000, 1)),
-        (rows(1000), None, None, (1, 999, 7)), (rows(256), (22, 0), 26), (rows(256), (22, 0), 1561), (rows(256), None, 1562),
+        (rows(1000), None, None, (1, 999, 7)), (rows(256), (22, 0), 26), (rows(256), (22, 0), 1561),
+        (rows(256), None, 1562),
     ]
 
 
@@ -270,7 +297,7 @@ class ChecksTest(unittest.TestCase):
         seen = set()
         for group in (
             head_refusals, row_refusals, order_refusals, exponent_refusals, grid_refusals, mileage_refusals,
-            full_rows_refusals, many_rows_refusals,
+            mileage_order_refusals,             full_rows_refusals, many_rows_refusals,
         ):
             for index, (data, expected, *rest) in enumerate(group(self.BASE)):
                 with self.subTest(group=group.__name__, case=index):

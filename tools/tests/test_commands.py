@@ -82,7 +82,8 @@ class ReckoningTest(unittest.TestCase):
                 self.assertEqual((status, text.count("\n")), (0, lines))
 
     def test_misuse(self):
-        for words in (("check",), ("check", self.sheet + ".no"), ("e", "x"), ("factors", self.sheet, "--of", "0"), ("species", "-1")):
+        for words in (("check",), ("check", self.sheet + ".no"), ("e", "x"), ("factors", self.sheet, "--of", "0"),
+                      ("species", "-1")):
             self.assertEqual(said(reckoning_main, *words)[0], 2, words)
 
 
@@ -108,6 +109,7 @@ class FilesTest(unittest.TestCase):
         """A set that lacks something, or is longer than what the program reads, has no files."""
         good = VectorSet("a_vectors", lambda: [1], bytes, lambda vectors: [])
         self.assertEqual([made.path for made in good.files()], ["crates/a_vectors/stdin"])
-        for faulty in (good._replace(missing=lambda vectors: ["no second vector"]), good._replace(encode=lambda _: bytes(ROOM + 1))):
+        for faulty in (good._replace(missing=lambda vectors: ["no second vector"]),
+                       good._replace(encode=lambda _: bytes(ROOM + 1))):
             with self.assertRaises(VectorError):
                 list(faulty.files())

@@ -15,7 +15,8 @@ from tools.tests.support import (
 # each size, reached empty, and never reached.
 DRIVEN_CASES = (
     "season days=2 lowest=5.0 highest=20.0 vp=60.0\n"
-    "row class=1 technology=1 carburettor=40 hot=30 fill=40 vehicles=7 trips=2.50 minutes=20 saturation=12.0 mileage=20",
+    "row class=1 technology=1 carburettor=40 hot=30 fill=40 vehicles=7 trips=2.50 minutes=20 saturation=12.0 "
+    "mileage=20",
     "season days=2 lowest=-10.0 highest=25.0 vp=70.0\nseason days=1 lowest=35.0 highest=48.0 vp=45.6\n"
     "row class=9 technology=0 carburettor=40 hot=30 vehicles=7 trips=2.50 minutes=20 saturation=31.0 mileage=28\n"
     "row class=6 technology=0 canister=large tank=150.0 vehicles=7 trips=2.50 minutes=20 saturation=41.0 mileage=14\n"
@@ -40,7 +41,8 @@ def all_values(read: reckoning.Sheet, n: int, mode: str) -> list[Fraction]:
 
 def one_cell(half_hours: int, hour: int) -> str:
     """The two lists of a single parking."""
-    return "durations%s\nhours%s\n" % tuple("".join(" %d" % (i == at) for i in range(1, 25)) for at in (half_hours, hour))
+    return "durations%s\nhours%s\n" % tuple("".join(" %d" % (i == at) for i in range(1, 25))
+                                            for at in (half_hours, hour))
 
 
 class GuidebookTest(unittest.TestCase):
@@ -60,7 +62,8 @@ class GuidebookTest(unittest.TestCase):
         day = reckoning.read(sample("table-3-5-day", ".evp"))
         factors = reckoning.seven_factors(reckoning.read(sample("table-3-5", ".evp")), 0, 0)
         for row, ks in enumerate(((1, 2, 5), (1, 3, 6), (1, 4, 7))):
-            self.assertEqual([1000 * mass for mass in reckoning.masses(day, row)], [factors[k - 1] / MICROGRAM for k in ks])
+            self.assertEqual([1000 * mass for mass in reckoning.masses(day, row)],
+                             [factors[k - 1] / MICROGRAM for k in ks])
 
 
 class ModesTest(unittest.TestCase):
@@ -123,7 +126,8 @@ class GridTest(unittest.TestCase):
             grid = as_grid(lists)
             self.assertIsNone(reckoning.check(grid))
             for n in (2, 3):
-                values, of_grid, of_turned = (all_values(reckoning.read(data), n, "exact") for data in (lists, grid, turned(grid)))
+                values, of_grid, of_turned = (all_values(reckoning.read(data), n, "exact")
+                                              for data in (lists, grid, turned(grid)))
                 self.assertTrue(of_grid == values, "n = %d" % n)
                 self.assertTrue(of_turned != values, "n = %d, turned" % n)
 
@@ -133,7 +137,8 @@ class GridTest(unittest.TestCase):
             data = sample(name, ".evp")
             lists, grid = reckoning.read(data), reckoning.read(as_grid(data))
             for row in rows:
-                self.assertEqual(reckoning.masses(grid, row), reckoning.masses(lists, row), "row %d of %s" % (row, name))
+                self.assertEqual(reckoning.masses(grid, row), reckoning.masses(lists, row),
+                                 "row %d of %s" % (row, name))
 
     def test_mean_of_cells(self):
         """A grid's factor is the mean of its cells' factors, weighed by count over
@@ -151,9 +156,11 @@ class GridTest(unittest.TestCase):
                 of_cells = {cell: factors(one_cell(*cell)) for cell in cells}
                 found = factors(grid_text(cells))
                 for k in range(7):
-                    self.assertEqual(found[k], sum(count * of_cells[cell][k] for cell, count in cells.items()) / Fraction(11))
+                    self.assertEqual(found[k],
+                                     sum(count * of_cells[cell][k] for cell, count in cells.items()) / Fraction(11))
                 self.assertNotEqual(factors(grid_text({**cells, (18, 7): 4}))[0], found[0], "a count more")
-                self.assertEqual(factors(grid_text({cell: 2 * count for cell, count in cells.items()})), found, "twice the counts")
+                self.assertEqual(factors(grid_text({cell: 2 * count for cell, count in cells.items()})), found,
+                                 "twice the counts")
 
     def test_survey(self):
         """No two lists hold the survey: it has cells a, b of one end hour and c, d
@@ -165,7 +172,8 @@ class GridTest(unittest.TestCase):
         lengths = [sum(hour[d] for hour in grid) for d in range(24)]
         self.assertEqual((lengths[17], sum(grid[11])), (1432, 1727))
         margins = read._replace(grid=tuple(tuple(j * sum(hour) for j in lengths) for hour in grid))
-        diurnal, _, running = (float(y / x) - 1 for x, y in zip(reckoning.masses(read, 0), reckoning.masses(margins, 0)))
+        diurnal, _, running = (float(y / x) - 1
+                               for x, y in zip(reckoning.masses(read, 0), reckoning.masses(margins, 0)))
         self.assertGreater(abs(diurnal), 0.01)
         self.assertLess(abs(running), 1e-12, "what depends on the end hour alone is in the margins")
 
@@ -177,7 +185,8 @@ class PlainTest(unittest.TestCase):
         # Weights rounded to billionths move a temperature by up to 4.10^-8 degrees, hence not nearer.
         pairs = zip(reckoning.seven_factors(read, season, row), plain_factors(read, season, row))
         for k, (value, plain) in enumerate(pairs, 1):
-            self.assertAlmostEqual(float(value), plain, delta=1e-6 * max(1.0, plain), msg="row %d, factor %d" % (row, k))
+            self.assertAlmostEqual(float(value), plain, delta=1e-6 * max(1.0, plain),
+                                   msg="row %d, factor %d" % (row, k))
 
     def test_factors(self):
         names = ("table-3-5-day", "region", "survey", "odometer")
@@ -221,15 +230,18 @@ class RowsTest(unittest.TestCase):
     # the first five share their factors
     CHANGES = (
         {}, {"vehicles": 7}, {"trips": "2.51"}, {"carburettor": 41}, {"hot": 31},
-        {"class": 9, "technology": 0, "load": "20.0", "saturation": "45.0"}, {"canister": "large"}, {"fill": 36}, {"tank": "55.1"},
-        {"minutes": 21}, {"load": "84.9"}, {"saturation": "86.0"}, {"load": 0, "mileage": 90000}, {"load": 0, "mileage": 200000},
+        {"class": 9, "technology": 0, "load": "20.0", "saturation": "45.0"}, {"canister": "large"}, {"fill": 36},
+        {"tank": "55.1"},
+        {"minutes": 21}, {"load": "84.9"}, {"saturation": "86.0"}, {"load": 0, "mileage": 90000},
+        {"load": 0, "mileage": 200000},
     )
 
     def test_shared_factors(self):
         """They have the masses of rows that stand alone, and any field but
         vehicles, trips, c and p makes them rows of their own."""
         start = grid_text({(1, 13): 5, (18, 7): 3, (24, 16): 2}) + "season days=9 lowest=5.0 highest=25.0 vp=70.0\n"
-        rows = ["row " + " ".join("%s=%s" % field for field in {**self.FIELDS, **change}.items()) + "\n" for change in self.CHANGES]
+        rows = ["row " + " ".join("%s=%s" % field for field in {**self.FIELDS, **change}.items()) + "\n"
+                for change in self.CHANGES]
         shared_factors.cache_clear()
         together = sheet_of(start + "".join(rows) + "version 4")
         found = [reckoning.masses(together, i) for i in range(len(rows))]

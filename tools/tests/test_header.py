@@ -70,7 +70,8 @@ class HeaderTest(unittest.TestCase):
         """Told apart by their names alone."""
         crate = 'pub extern "C" fn evp_c(season: u64, row: u64) -> u64'
         for text, faults in (
-            ("uint64_t evp_c(uint64_t season, uint64_t row);", 0), ("uint64_t evp_c(uint64_t row, uint64_t season);", 2),
+            ("uint64_t evp_c(uint64_t season, uint64_t row);", 0),
+            ("uint64_t evp_c(uint64_t row, uint64_t season);", 2),
         ):
             found = list(header.faults(header.crate_source(crate, crate), header.header_source(text)))
             self.assertEqual(len(found), faults, found)
@@ -87,7 +88,8 @@ class HeaderTest(unittest.TestCase):
 
     def test_other_types(self):
         for old, new in (
-            ("uint64_t row", "uint32_t row"), ("const uint8_t *sheet", "uint8_t *sheet"), ("double share", "uint64_t share"),
+            ("uint64_t row", "uint32_t row"), ("const uint8_t *sheet", "uint8_t *sheet"),
+            ("double share", "uint64_t share"),
             ("parts[3]", "parts[4]"), ("size_t evp_b", "uint64_t evp_b"), ("bool town; ", "uint64_t town; "),
             ("size_t evp_b(struct evp_words of)", "size_t evp_b(uint64_t of)"),
         ):
@@ -100,9 +102,12 @@ class HeaderTest(unittest.TestCase):
         self.assertTrue(self.changed("uint64_t row, ", ""))
 
     def test_two_structs_for_one(self):
-        two = HEADER[HEADER.index("struct evp_words {"):HEADER.index("struct evp_words evp_a")].replace("evp_words", "evp_other")
-        found = self.faults(HEADER.replace("size_t evp_b(struct evp_words of)", two + "size_t evp_b(struct evp_other of)"))
+        two = HEADER[HEADER.index("struct evp_words {"):HEADER.index("struct evp_words evp_a")].replace(
+            "evp_words", "evp_other")
+        found = self.faults(HEADER.replace("size_t evp_b(struct evp_words of)",
+                                           two + "size_t evp_b(struct evp_other of)"))
         self.assertEqual(found, ["Words is evp_other and evp_words"])
 
     def test_struct_that_is_not_used(self):
-        self.assertEqual(self.faults(HEADER + "struct evp_more { uint64_t x; };"), ["struct evp_more is used by no function"])
+        self.assertEqual(self.faults(HEADER + "struct evp_more { uint64_t x; };"),
+                         ["struct evp_more is used by no function"])

@@ -12,7 +12,8 @@ FULL = 10_000_000
 
 
 def row_left(data: bytes, row: int, change: int) -> bytes | None:
-    """The sheet with so many vehicles more in a row; None where there is no such row, or four bytes do not hold them."""
+    """The sheet with so many vehicles more in a row; None where there is no such row, or four bytes do not hold
+    them."""
     counts = reckoning.counts_of(data)
     if row >= len(counts) or not 0 <= counts[row] + change < 2 ** 32:
         return None
@@ -51,7 +52,8 @@ class LedgerTest(unittest.TestCase):
                 continue
             data = vector.case.data
             for told in vector.told:
-                left = row_left(data, told.call.row, told.call.vehicles if told.call.kind == ledger.ARRIVAL else -told.call.vehicles)
+                left = row_left(data, told.call.row,
+                                told.call.vehicles if told.call.kind == ledger.ARRIVAL else -told.call.vehicles)
                 passes = left is not None and reckoning.check(left) is None
                 self.assertEqual(told.fault is None, passes, "%s: %s" % (vector.case.words, told.call))
                 if passes:

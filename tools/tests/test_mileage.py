@@ -58,7 +58,8 @@ class MileageTest(unittest.TestCase):
                 if M <= 16:
                     self.assertEqual(m, 0, "%d km" % M)
                 elif m == m_sat:
-                    self.assertLess(float(s) * (float(m_sat) - math.exp(a + b * s * m_sat)), kept + 1e-6, "full after %d km" % M)
+                    self.assertLess(float(s) * (float(m_sat) - math.exp(a + b * s * m_sat)), kept + 1e-6,
+                                    "full after %d km" % M)
                 else:
                     self.assertTrue((m * 2 ** n).denominator == 1 and 0 < m < m_sat, "load after %d km" % M)
                     self.assertAlmostEqual(float(s) * (float(m) - math.exp(a + b * s * m)), kept, delta=near)
@@ -93,9 +94,11 @@ class MileageTest(unittest.TestCase):
         for k in (1, 1000, 123457):
             m = Fraction(k, 2 ** 12)
             met = driven(ExactNumbers(12), *COLDEST, m)
-            for more, expected in ((0, m), (Fraction(1, 10 ** 300), m + Fraction(1, 2 ** 12)), (-Fraction(1, 10 ** 300), m)):
+            for more, expected in ((0, m), (Fraction(1, 10 ** 300), m + Fraction(1, 2 ** 12)),
+                                   (-Fraction(1, 10 ** 300), m)):
                 with mock.patch("tools.reckoning.mileage.ExactNumbers", wraps=ExactNumbers) as asked:
-                    self.assertEqual(starting_load(*COLDEST, met + more, Fraction(100), 12), expected, "%d multiples" % k)
+                    self.assertEqual(starting_load(*COLDEST, met + more, Fraction(100), 12), expected,
+                                     "%d multiples" % k)
                     asked.assert_called()
         met = driven(ExactNumbers(5), *COLDEST, Fraction(77, 32))
         self.assertEqual(starting_load(*COLDEST, met, Fraction(10), 5, "exact"), Fraction(77, 32))
@@ -111,7 +114,8 @@ class MileageTest(unittest.TestCase):
         read = sheet_of(grid_text({(5, 13): 1}) + "season days=1 lowest=5.0 highest=45.0 vp=60.0\n"
                         "row class=9 technology=0 tank=150.0 saturation=36.1 mileage=47000\n")
         season, row = read.seasons[0], read.rows[0]
-        loads = [load_of(row, season, reckoning.temperature(season, i), 40, "decimal") for i in (reckoning.start_mark(13, 5), 26)]
+        loads = [load_of(row, season, reckoning.temperature(season, i), 40, "decimal")
+                 for i in (reckoning.start_mark(13, 5), 26)]
         self.assertTrue(0 < loads[0] < loads[1] < Fraction(361, 10), "loads at T1 and T2: %s" % loads)
         found = reckoning.seven_factors(read, 0, 0)
         for load, as_found in zip(loads, ([1, 2, 3, 4], [5, 6, 7])):

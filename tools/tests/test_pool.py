@@ -50,7 +50,8 @@ class PoolTest(unittest.TestCase):
             (patched(first, (3, 3, 2), (5, 0, 1)), second[:7], room, (1, 3, 3)),
             (first, patched(second, (3, 1, 2)), room, (2, 3, 3)), (first, patched(second, (5, 13, 1)), room, (2, 4, 5)),
             (first, patched(second[:-1], (season, 0, 2)), room, (2, 7, 0)),
-            (first, patched(second, (season, 0, 2)), 0, (3, 32, 0)), (first, patched(second, (8, 1, 1)), room, (3, 32, 0)),
+            (first, patched(second, (season, 0, 2)), 0, (3, 32, 0)),
+            (first, patched(second, (8, 1, 1)), room, (3, 32, 0)),
             (first, second, room - 1, (3, 22, 0)), (*full, room, (3, 26, ROWS_START + 24 * 20)),
             (*full, 0, (3, 26, ROWS_START + 24 * 20)), (*full[::-1], room, (3, 26, ROWS_START + 24 * 299)),
         ):

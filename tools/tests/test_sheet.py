@@ -145,9 +145,11 @@ class TextTest(SheetTestCase):
         data = sheet.write(
             "durations 65535" + " 0" * 23 + "\nhours 007" + " 0" * 23 + "\n"
             "season days=1 lowest=-3276.8 highest=+3276.7 vp=6553.5\n"
-            "row class=255 technology=0 canister=2 vehicles=4294967295 tank=6553.5 trips=655.35 load=0.1 saturation=7\n")
+            "row class=255 technology=0 canister=2 vehicles=4294967295 tank=6553.5 trips=655.35 load=0.1 "
+            "saturation=7\n")
         for at, size, signed, expected in (
-            (8, 2, False, 65535), (56, 2, False, 7), (106, 2, True, -32768), (108, 2, True, 32767), (110, 2, False, 65535),
+            (8, 2, False, 65535), (56, 2, False, 7), (106, 2, True, -32768), (108, 2, True, 32767),
+            (110, 2, False, 65535),
             (112, 1, False, 255), (114, 1, False, 2), (118, 2, False, 65535), (120, 4, False, 2 ** 32 - 1),
             (124, 2, False, 65535), (128, 2, False, 1), (130, 2, False, 70),
         ):
@@ -207,12 +209,14 @@ class MileageTest(SheetTestCase):
 
     def made(self, *ends: str, more: str = "") -> bytes:
         """A sheet of rows that end so."""
-        return sheet.write(ONE_CELL + SEASON + "".join("row class=1 technology=1 saturation=45.0%s\n" % end for end in ends) + more)
+        return sheet.write(ONE_CELL + SEASON
+                           + "".join("row class=1 technology=1 saturation=45.0%s\n" % end for end in ends) + more)
 
     def test_bytes(self):
         for words, data, version, last in (
             ("none", self.made(""), 2, "00000000"), ("one", self.made(" mileage=84000"), 3, "20480100"),
-            ("0", self.made(" mileage=0"), 3, "00000000"), ("the largest", self.made(" mileage=4294967295"), 3, "ffffffff"),
+            ("0", self.made(" mileage=0"), 3, "00000000"),
+            ("the largest", self.made(" mileage=4294967295"), 3, "ffffffff"),
             ("spare", self.made(" spare=20480100"), 2, "20480100"),
             ("spare in version 3", self.made(" spare=20480100", more="version 3"), 3, "20480100"),
             ("one in version 2", self.made(" mileage=84000", more="version 2"), 2, "20480100"),
@@ -248,10 +252,13 @@ class ManyRowsTest(SheetTestCase):
 
     def test_heads(self):
         for words, text, head in (
-            ("32", self.START + ROW * 32, "0200012000"), ("32, one with a mileage", self.START + DRIVEN + ROW * 31, "0300012000"),
-            ("33", self.START + ROW * 33, "0400012100"), ("33, the last with a mileage", self.START + ROW * 32 + DRIVEN, "0400012100"),
+            ("32", self.START + ROW * 32, "0200012000"),
+            ("32, one with a mileage", self.START + DRIVEN + ROW * 31, "0300012000"),
+            ("33", self.START + ROW * 33, "0400012100"),
+            ("33, the last with a mileage", self.START + ROW * 32 + DRIVEN, "0400012100"),
             ("255", self.START + ROW * 255, "040001ff00"), ("256", self.START + ROW * 256, "0400010001"),
-            ("1000", self.START + ROW * 1000, "040001e803"), ("one, version 4", "version 4\n" + self.START + ROW, "0400010100"),
+            ("1000", self.START + ROW * 1000, "040001e803"),
+            ("one, version 4", "version 4\n" + self.START + ROW, "0400010100"),
             ("one with a mileage, version 4", self.START + DRIVEN + "version 4", "0400010100"),
             ("none, version 4", self.START + "version 4", "0400010000"),
             ("33, version 3", self.START + ROW * 33 + "version 3", "0300012100"),
@@ -312,7 +319,8 @@ class CommandTest(unittest.TestCase):
 
     def test_write(self):
         target = self.folder / "a.evp"
-        self.assertEqual(self.run_command("write", self.put("a.txt", self.TEXT)), (0, "%s: 136 bytes, accepted\n" % target))
+        self.assertEqual(self.run_command("write", self.put("a.txt", self.TEXT)),
+                         (0, "%s: 136 bytes, accepted\n" % target))
         self.assertEqual(target.read_bytes(), sample("example", ".evp"))
 
     def test_read(self):
@@ -325,7 +333,8 @@ class CommandTest(unittest.TestCase):
             (b"cut 7", "7 bytes, refused 1 at 0 (under 8 bytes)"),
             (b"season days=0 lowest=1 highest=2 vp=60",
              "144 bytes, refused 10 at 112 (season 2: days 0, above 366, or above 366 with the seasons before)"),
-            (b"row class=9 technology=3", "160 bytes, refused 13 at 136 (row 2: class and technology not in the table)"),
+            (b"row class=9 technology=3",
+             "160 bytes, refused 13 at 136 (row 2: class and technology not in the table)"),
         ):
             found = self.run_command("write", self.put("b.txt", self.TEXT + line + b"\n"), target)
             self.assertEqual(found, (0, "%s: %s\n" % (target, said)))
@@ -346,7 +355,8 @@ class CommandTest(unittest.TestCase):
 
     def test_text_that_cannot_be_read(self):
         """It leaves no sheet."""
-        status, said = self.run_command("write", self.put("d.txt", self.TEXT + b"row class=1 technology=0 vehicles=12.000\n"))
+        status, said = self.run_command("write",
+                                        self.put("d.txt", self.TEXT + b"row class=1 technology=0 vehicles=12.000\n"))
         self.assertEqual(status, 2)
         self.assertIn("line 7: vehicles: 12.000", said)
         self.assertFalse((self.folder / "d.evp").exists())

@@ -28,7 +28,8 @@ class SpeciesTest(unittest.TestCase):
         chance = random.Random("species")
         for total in [0, 10000, 2 ** 64 - 1] + [chance.getrandbits(chance.randint(1, 64)) for _ in range(200)]:
             reached = [total * sum(HUNDREDTHS[:i]) // 10001 for i in range(30)]
-            self.assertEqual(species.split(total), [b - a for a, b in zip(reached, reached[1:])], "species of %d" % total)
+            self.assertEqual(species.split(total), [b - a for a, b in zip(reached, reached[1:])],
+                             "species of %d" % total)
 
     def test_text(self):
         self.assertEqual(species.text(4, 0), "EVP 4 total 0\n" + "".join("%s 0\n" % name for name in species.NAMES))
@@ -57,4 +58,5 @@ class FilesTest(unittest.TestCase):
         worked = self.found("crates/speciation/proofs/Values.antt", r"speciesMasses (\d+)\s+≡((?: \d+ ∷|\s)+)\[\]")
         self.assertEqual([int(total) for total, _ in worked], [10001, 1000])
         for total, masses in worked:
-            self.assertEqual([int(mass) for mass in re.findall(r"\d+", masses)], species.split(int(total)), "species of " + total)
+            self.assertEqual([int(mass) for mass in re.findall(r"\d+", masses)], species.split(int(total)),
+                             "species of " + total)

@@ -40,7 +40,8 @@ def add_options(command: argparse.ArgumentParser):
     """--check and --list, of which one at most is given."""
     either = command.add_mutually_exclusive_group()
     either.add_argument("--check", action="store_true", help="write nothing; exit status 1 where a file is another")
-    either.add_argument("--list", action="store_true", help="write nothing; print a line for each vector, counted as the program counts")
+    either.add_argument("--list", action="store_true",
+                        help="write nothing; print a line for each vector, counted as the program counts")
 
 
 def parser() -> argparse.ArgumentParser:

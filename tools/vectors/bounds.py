@@ -16,47 +16,42 @@ from itertools import chain
 from tools import reckoning
 from tools.vectors.frame import VectorSet, packed
 
+Vectors = tuple[list[tuple[int, ...]], list[tuple[int, ...]]]  # of exponents and of temperatures
+
 TERMS = (40, 60)
 
 EXPONENT_UNIT = 10 ** 14
-
 EXPONENT_SHIFT = 16
-
 EXPONENT_LIMIT = 201 * 10 ** 13  # the first that is not served
-
 COARSE_STEP = EXPONENT_UNIT // 16
-
 FINE_STEP = EXPONENT_UNIT // 4096
-
 DEGREE = 10 ** 10
-
 DEGREES_SHIFT = 30
-
 DEGREES_LIMIT = 95 * DEGREE  # the last that is served
 
 
-def held_exponent(z):
+def held_exponent(z: Fraction) -> int:
     """z as the crate holds it, cut to 10^-14."""
     return math.floor((z + EXPONENT_SHIFT) * EXPONENT_UNIT)
 
 
-def held_degrees(T):
+def held_degrees(T: Fraction) -> int:
     """T in degrees C as the crate holds it."""
     return math.floor((T + DEGREES_SHIFT) * DEGREE)
 
 
-def scattered(name, count, first, beyond):
+def scattered(name: str, count: int, first: int, beyond: int) -> list[int]:
     """Numbers from first to beyond - 1 with no order in them, the same in
     every run and on every machine."""
     digests = (hashlib.sha256(f"{name} {i}".encode()).digest() for i in range(count))
     return [first + int.from_bytes(digest, "little") % (beyond - first) for digest in digests]
 
 
-def around(x):
+def around(x: int) -> list[int]:
     return [x - 1, x, x + 1]
 
 
-def sheet_exponents():
+def sheet_exponents() -> list[int]:
     """What an accepted sheet can bring, from one end to the other."""
     heat = [Fraction(716, 10 ** 4) * T for T in range(-30, 57)]
     vapour = [Fraction(205, 10 ** 4) * vp for vp in range(30, 111, 5)]
@@ -65,7 +60,7 @@ def sheet_exponents():
     return [held_exponent(z) for z in heat + vapour + permeation + canister]
 
 
-def canister_exponents():
+def canister_exponents() -> list[int]:
     """a + b.s.m at the ends of temperature and vapour pressure: the canister
     empty, and loaded in tenths of a gram as far as check 20 allows."""
     found = []
@@ -80,7 +75,7 @@ def canister_exponents():
     return found
 
 
-def boundary_exponents():
+def boundary_exponents() -> list[int]:
     """The first and the last of all, both sides of entries of the two tables
     and of the ends of the ranges that the program tells apart."""
     found = [0, 1, EXPONENT_LIMIT - 2, EXPONENT_LIMIT - 1]
@@ -94,7 +89,7 @@ def boundary_exponents():
     return found
 
 
-def scattered_exponents():
+def scattered_exponents() -> list[int]:
     """All over; more of them where both table entries are 1 and where the
     first is; and just below the end of each range, where the error is
     largest."""
@@ -108,11 +103,11 @@ def scattered_exponents():
     return found
 
 
-def exponents():
+def exponents() -> list[int]:
     return sorted({*sheet_exponents(), *canister_exponents(), *boundary_exponents(), *scattered_exponents()})
 
 
-def temperatures():
+def temperatures() -> list[int]:
     """Every whole degree, both sides of 0 and of whole squares, whose root is
     exact, and others."""
     found = {held_degrees(T) for T in range(-30, 66)}
@@ -122,16 +117,16 @@ def temperatures():
     return sorted(found)
 
 
-def exponential(x, n):
+def exponential(x: int, n: int) -> int:
     z = Fraction(x, EXPONENT_UNIT) - EXPONENT_SHIFT
     return math.floor(2 ** 40 * reckoning.E(z, n))
 
 
-def power(held, n):
+def power(held: int, n: int) -> int:
     return math.floor(2 ** 24 * reckoning.power_2_5(Fraction(held, DEGREE) - DEGREES_SHIFT, n))
 
 
-def found():
+def found() -> Vectors:
     """Each exponent and each temperature with its exact values, cut."""
     return (
         [(x, *(exponential(x, n) for n in TERMS)) for x in exponents()],
@@ -139,7 +134,7 @@ def found():
     )
 
 
-def encoded(vectors):
+def encoded(vectors: Vectors) -> bytes:
     return packed(8, chain(map(len, vectors), chain.from_iterable(chain.from_iterable(vectors))))
 
 
@@ -147,7 +142,8 @@ def lines(vectors) -> Iterator[str]:
     for name, unit, shift, values in zip(
             ("exponent", "temperature"), (EXPONENT_UNIT, DEGREE), (EXPONENT_SHIFT, DEGREES_SHIFT), vectors):
         for position, (held, *exact) in enumerate(values, 1):
-            yield "%s %d: %s  %s" % (name, position, reckoning.cut(Fraction(held, unit) - shift, 14), " ".join(map(str, exact)))
+            yield "%s %d: %s  %s" % (name, position, reckoning.cut(Fraction(held, unit) - shift, 14),
+                                     " ".join(map(str, exact)))
 
 
 VECTORS = VectorSet("bounds_vectors", found, encoded, lines)

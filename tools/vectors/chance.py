@@ -32,13 +32,13 @@ class Chance:
         return things[self.below(len(things))]
 
 
-def chance_season(chance, seasons):
+def chance_season(chance: Chance, seasons: int) -> Record:
     lowest, highest = sorted(chance.between(-300, 500) for _ in range(2))
     days = chance.between(1, 366 // seasons)
     return {"days": days, "lowest": lowest, "highest": highest, "vp": chance.between(300, 1100)}
 
 
-def chance_row(chance, seasons):
+def chance_row(chance: Chance, seasons: Sequence[Record]) -> Record:
     vehicle_class, technology = chance.one_of(PAIRS)
     code = chance.one_of((0, 1, 2, 3, BY_CLASS, BY_CLASS, BY_CLASS, BY_CLASS))
     canister = fitted({"class": vehicle_class, "technology": technology, "canister": code})
@@ -52,11 +52,11 @@ def chance_row(chance, seasons):
     }
 
 
-def chance_counts(chance):
+def chance_counts(chance: Chance) -> tuple[int, ...]:
     return tuple(chance.between(0, 40) for _ in range(23)) + (1,)
 
 
-def chance_plan(seasons, rows):
+def chance_plan(seasons: int, rows: int) -> Plan:
     """An accepted sheet of this size with values all over their ranges."""
     chance = Chance("sheet of %d seasons and %d rows" % (seasons, rows))
     all_seasons = tuple(chance_season(chance, seasons) for _ in range(seasons))
@@ -64,7 +64,7 @@ def chance_plan(seasons, rows):
     return Plan(all_seasons, all_rows, chance_counts(chance), chance_counts(chance))
 
 
-def chance_grid(chance, total):
+def chance_grid(chance: Chance, total: int) -> tuple[int, ...]:
     """Counts by chance that sum to this: three cells in four have some, and
     what division leaves over stands in one of them."""
     parts = [chance.one_of((0, 1, 1, 1)) * chance.between(1, 1000) for _ in range(576)]
@@ -73,12 +73,12 @@ def chance_grid(chance, total):
     return tuple(counts)
 
 
-def chance_grid_plan(seasons, rows, total):
+def chance_grid_plan(seasons: int, rows: int, total: int) -> Plan:
     chance = Chance("grid of %d for %d seasons and %d rows" % (total, seasons, rows))
     return replace(chance_plan(seasons, rows), grid=chance_grid(chance, total))
 
 
-def chance_metered_plan(seasons, rows):
+def chance_metered_plan(seasons: int, rows: int) -> Plan:
     """A plan by chance, whose rows with a canister have a mileage in place of
     their load; every fourth keeps it."""
     plan = chance_grid_plan(seasons, rows, 1_000)
@@ -93,7 +93,7 @@ def chance_metered_plan(seasons, rows):
     return replace(plan, metered=True)
 
 
-def chance_many_plan(seasons, rows):
+def chance_many_plan(seasons: int, rows: int) -> Plan:
     """A plan by chance with mileages, whose vehicles together are at most what
     they can be."""
     plan = chance_metered_plan(seasons, rows)

@@ -10,11 +10,12 @@ lowest byte first.
 """
 
 import math
-from collections import Counter, namedtuple
+from collections import Counter
 from collections.abc import Iterator
 from dataclasses import replace
 from fractions import Fraction
 from itertools import chain, product
+from typing import NamedTuple
 
 from tools import reckoning
 from tools.command import SAMPLES
@@ -22,8 +23,8 @@ from tools.vectors import plans, sheets
 from tools.vectors.chance import Chance, chance_grid_plan, chance_metered_plan, chance_plan
 from tools.vectors.frame import VectorError, VectorSet, packed
 from tools.vectors.plans import (
-    BY_CLASS, DRIVEN, EMPTY, FEW, FIVE, PAIRS, ROW, SEASON, Plan, Record, cells_grid, in_turn, many, metered, most, one_cell, said,
-    version_of,
+    BY_CLASS, DRIVEN, EMPTY, FEW, FIVE, PAIRS, ROW, SEASON, Plan, Record, cells_grid, in_turn, many, metered, most,
+    one_cell, said, version_of,
 )
 
 TERMS = (40, 60)
@@ -35,25 +36,26 @@ NANOGRAMS = 10 ** 9
 CLEAR = Fraction(1, 10 ** 40)
 
 LEAST_FACTORS = 260
-
 LEAST_OF_A_FACTOR = 30
-
 LEAST_OF_GRIDS = 100  # of version 2
-
 LEAST_OF_MILEAGES = 150  # of rows with a mileage
-
 LEAST_BEYOND = 30  # of rows behind the first 32
 
 ALL = range(1, 8)
 
-# A sheet and the calls on it, each (season, row, factor).
-Group = namedtuple("Group", "words data calls")
+
+class Group(NamedTuple):
+    """A sheet and the calls on it: (season, row, factor), or with their answers."""
+    words: str
+    data: bytes
+    calls: list
+
 
 # A car without canister.
 PLAIN = {**ROW, "class": 1, "technology": 0, **EMPTY}
 
 
-def single_groups():
+def single_groups() -> Iterator[Group]:
     """Single parkings, round midnight most of them: each factor of a car
     without canister and of one with, on a day that crosses 0 C."""
     season = {**SEASON, "lowest": -42, "highest": 63, "vp": 905}
@@ -78,14 +80,14 @@ ROW_LIMITS = (
 )
 
 
-def limit_group():
+def limit_group() -> Group:
     """Every limit of a season with every limit of a row, factor by factor in
     turn."""
     calls = [(i, j, 1 + (i + j) % 7) for i in range(len(WEATHER)) for j in range(len(ROW_LIMITS))]
     return Group("limits of every field", Plan(WEATHER, ROW_LIMITS, *FEW).data(), calls)
 
 
-def loads(canister, season):
+def loads(canister: int, season: Record) -> Iterator[Record]:
     """A canister empty, loaded and full, one that holds nothing, and the
     largest that check 20 lets pass."""
     top = most(canister, season)
@@ -93,7 +95,7 @@ def loads(canister, season):
         yield {**ROW, "canister": canister, "tank": 1500, "fill": 0, "load": load, "saturation": saturation}
 
 
-def load_groups():
+def load_groups() -> Iterator[Group]:
     """Each canister at each of its loads, in cold and heat; a season for each
     sheet, since the largest load depends on it."""
     for season in WEATHER[4:6] + WEATHER[10:] + (WEATHER[1], WEATHER[2]):
@@ -102,7 +104,7 @@ def load_groups():
         yield Group("loads, %s" % said(season), Plan((season,), rows, *FEW).data(), calls)
 
 
-def pair_groups():
+def pair_groups() -> Iterator[Group]:
     """Every class and technology, canister and tank by class, and each
     canister written for each class."""
     season = {**SEASON, "lowest": 118, "highest": 274, "vp": 640}
@@ -116,7 +118,7 @@ def pair_groups():
         yield Group("classes and canisters", Plan((season,), part, *FEW).data(), calls)
 
 
-def sample_groups():
+def sample_groups() -> Iterator[Group]:
     """Tables 3-12 and 3-13 as parkings: Table 3-5, and the region."""
     data = (SAMPLES / "table-3-5.evp").read_bytes()
     yield Group("Table 3-5", data, [*product(range(4), (0,), ALL)])
@@ -130,7 +132,7 @@ def sample_groups():
     yield Group("districts", data, [(j % 4, j, 1 + j % 7) for j in range(0, plans.rows_of(data), 13)])
 
 
-def chance_groups():
+def chance_groups() -> Iterator[Group]:
     """Values and parkings all over their ranges."""
     chance = Chance("factor calls")
     for seasons, rows in ((4, 4), (12, 32)):
@@ -167,19 +169,19 @@ LISTED = (
 )
 
 
-def grid_cell_groups():
+def grid_cell_groups() -> Iterator[Group]:
     """Single parkings; the count does not matter."""
     for cell, count in {(3, 20): 1, (20, 3): 1000, (1, 24): 7, (24, 1): 65535, (24, 24): 1, (1, 1): 65535}.items():
         plan = replace(TWO_ROWS, grid=cells_grid({cell: count}))
         yield Group("grid: %d half-hours to hour %d, count %d" % (*cell, count), plan.data(), TWO_ROWS_CALLS)
 
 
-def unlisted_groups():
+def unlisted_groups() -> Iterator[Group]:
     for words, cells in UNLISTED.items():
         yield Group("grid: " + words, replace(TWO_ROWS, grid=cells_grid(cells)).data(), TWO_ROWS_CALLS)
 
 
-def listed_groups():
+def listed_groups() -> Iterator[Group]:
     """Lists, and the grid of their products."""
     for i, plan in enumerate(LISTED, 1):
         calls = [
@@ -189,7 +191,7 @@ def listed_groups():
         yield Group("pair %d, grid" % i, plan.gridded().data(), calls)
 
 
-def chance_grid_groups():
+def chance_grid_groups() -> Iterator[Group]:
     """Cells all over the grid; the largest sum is among them."""
     for seasons, rows, total in ((2, 3, 577), (3, 4, 123_456), (2, 5, 1_000_000)):
         calls = [(j % seasons, j % rows, 1 + j % 7) for j in range(14)]
@@ -208,13 +210,13 @@ METERED_WEATHER = (
 )
 
 
-def kept(canister, km):
+def kept(canister: int, km: int) -> int:
     """What a canister keeps of its load at a mileage (eq. 12), in tenths of a
     gram; only to choose saturating loads by."""
     return max(0, round(10 * (8.13 * math.log(km) - 22.92) / {1: 2, 2: 1, 3: 0.5}[canister]))
 
 
-def driven_rows(season):
+def driven_rows(season: Record) -> Iterator[Record]:
     """Each mileage in each canister: the largest that check 25 lets pass; one
     that is full a little beyond the load that the mileage makes, so that the
     vapour of a large tank overflows it; and one that holds nothing, or too
@@ -229,7 +231,7 @@ def driven_rows(season):
     yield {**DRIVEN, "class": 3, "technology": 4, "saturation": 123}
 
 
-def mileage_groups():
+def mileage_groups() -> Iterator[Group]:
     """A season for each sheet, since the largest load depends on it."""
     for season in METERED_WEATHER:
         rows = tuple(driven_rows(season))
@@ -238,20 +240,21 @@ def mileage_groups():
         yield Group("mileages, %s" % said(season), plan.data(), calls)
 
 
-def chance_mileage_groups():
+def chance_mileage_groups() -> Iterator[Group]:
     for seasons, rows in ((2, 5), (3, 8)):
         plan = replace(chance_metered_plan(seasons, rows), grid=FIVE)
         calls = [(j % seasons, j % rows, 1 + j % 7) for j in range(21)]
         yield Group("mileages by chance", plan.data(), sorted(set(calls)))
 
 
-def many_group():
+def many_group() -> Group:
     """Both sides of what one byte counts and of the most rows of the other
     versions, and the last of a thousand; no row has the fill level of one that
     a count cut to a byte would take in its place. Rows that are not there are
     refused as 23."""
     rows = tuple({**row, "fill": i % 97} for i, row in enumerate(in_turn(1000)))
-    calls = [(0, j, 1 + (j + k) % 7) for j in (0, 31, 32, 33, 254, 255, 256, 257, 511, 512, 768, 998, 999) for k in (0, 3)]
+    calls = [(0, j, 1 + (j + k) % 7) for j in (0, 31, 32, 33, 254, 255, 256, 257, 511, 512, 768, 998, 999)
+             for k in (0, 3)]
     absent = [(0, 1000, 1), (0, 1001, 7), (0, 1024, 1), (0, 65_536, 1), (0, 2 ** 32 + 999, 1), (1, 999, 1), (0, 999, 8)]
     plan = replace(many((SEASON,), rows), grid=FIVE)
     return Group("a thousand rows", plan.data(), calls + absent)
@@ -260,13 +263,13 @@ def many_group():
 LARGEST = 2 ** 64 - 1
 
 
-def absent_groups():
+def absent_groups() -> Iterator[Group]:
     """A season, a row or a factor that is not there, number 23."""
     for plan in (plans.BASE, plans.BASE_GRID, plans.BASE_METERED, plans.BASE_MANY):
         yield Group("absent", plan.data(), absent_calls(plan))
 
 
-def absent_calls(plan):
+def absent_calls(plan: Plan) -> list[tuple[int, int, int]]:
     seasons, rows = len(plan.seasons), len(plan.rows)
     return [
         (seasons, 0, 1), (0, rows, 1), (0, 0, 0), (0, 0, 8), (seasons, rows, 8), (seasons - 1, rows, 7),
@@ -275,17 +278,26 @@ def absent_calls(plan):
     ]
 
 
-def refused_groups():
+def refused_groups() -> Iterator[Group]:
     """A sheet for each number, which is returned whether the call's season,
     row and factor are there or not."""
     for case in sheets.refused_cases():
         yield Group(case.words, case.data, [(0, 0, 1), (LARGEST, LARGEST, 0)])
 
 
-Call = namedtuple("Call", "season row factor number place below above")
+class Call(NamedTuple):
+    """A call with its answer: a refusal, or the whole nanograms below and above
+    the exact factor."""
+    season: int
+    row: int
+    factor: int
+    number: int
+    place: int
+    below: int
+    above: int
 
 
-def whole(value):
+def whole(value: Fraction) -> tuple[int, int]:
     """The whole numbers below and above a value, one where it is whole."""
     below, above = math.floor(value), math.ceil(value)
     if below != above and not below + CLEAR < value < above - CLEAR:
@@ -293,7 +305,7 @@ def whole(value):
     return below, above
 
 
-def answered(data, call):
+def answered(data: bytes, call: tuple[int, int, int]) -> Call:
     refusal = reckoning.check(data, call=call)
     if refusal is not None:
         return Call(*call, *refusal, 0, 0)
@@ -302,7 +314,7 @@ def answered(data, call):
     return Call(*call, 0, 0, min(below for below, _ in ends), max(above for _, above in ends))
 
 
-def groups():
+def groups() -> Iterator[Group]:
     yield from sample_groups()
     yield from single_groups()
     yield limit_group()
@@ -320,11 +332,11 @@ def groups():
     yield from refused_groups()
 
 
-def all_groups():
+def all_groups() -> list[Group]:
     return [group._replace(calls=[answered(group.data, call) for call in group.calls]) for group in groups()]
 
 
-def missing(found):
+def missing(found: list[Group]) -> Iterator[str]:
     """What the calls as a whole should show and do not."""
     calls = [(group, call) for group in found for call in group.calls]
     accepted = [(reckoning.read(group.data), call) for group, call in calls if not call.number]
@@ -356,7 +368,7 @@ def missing(found):
             yield "lists and the grid of their products have other factors"
 
 
-def missing_mileages(accepted):
+def missing_mileages(accepted: list[tuple[reckoning.Sheet, Call]]) -> Iterator[str]:
     """What the factors of rows with a mileage should show and do not."""
     if len(accepted) < LEAST_OF_MILEAGES:
         yield "%d factors of rows with a mileage" % len(accepted)
@@ -374,7 +386,7 @@ def missing_mileages(accepted):
             yield "rows with a mileage: not all %s" % words
 
 
-def kinds_of_load(sheet, call):
+def kinds_of_load(sheet: reckoning.Sheet, call: Call) -> Iterator[str]:
     """What the loads of a row are over the marks of a day."""
     row, season = sheet.rows[call.row], sheet.seasons[call.season]
     full = Fraction(row.saturation, 10)
@@ -389,14 +401,15 @@ def kinds_of_load(sheet, call):
         yield "between"
 
 
-def encoded(found):
+def encoded(found: list[Group]) -> bytes:
     parts = [packed(4, [sum(len(group.calls) for group in found)])]
     for group in found:
-        parts += [packed(2, [len(group.data), len(group.calls)]), group.data, packed(8, chain.from_iterable(group.calls))]
+        parts += [packed(2, [len(group.data), len(group.calls)]), group.data,
+                  packed(8, chain.from_iterable(group.calls))]
     return b"".join(parts)
 
 
-def lines(found):
+def lines(found: list[Group]) -> Iterator[str]:
     for sheet, group in enumerate(found, 1):
         for position, call in enumerate(group.calls, 1):
             answer = reckoning.answer_text(call.number, call.place) if call.number else "%d ng" % call.below

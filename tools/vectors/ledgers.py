@@ -1,4 +1,5 @@
-"""The input of ledger_vectors: ledgers and lists of calls on them, with what the plain machine answers each and leaves of the counts.
+"""The input of ledger_vectors: ledgers and lists of calls on them, with what the plain machine answers each and
+leaves of the counts.
 
 The file says in four bytes how many calls there are in all. Each ledger starts
 with five numbers of two bytes: the length of its sheet, how many calls follow
@@ -10,8 +11,9 @@ changed, in two, 0 where none is, with the new count in four. Every number has
 its lowest byte first.
 """
 
-from collections import Counter, namedtuple
-from collections.abc import Iterator
+from collections import Counter
+from collections.abc import Iterable, Iterator
+from typing import NamedTuple
 
 from tools import reckoning
 from tools.reckoning.format import counts_of, row_place, version_of
@@ -19,26 +21,41 @@ from tools.reckoning.ledger import ARRIVAL, DEPARTURE, NUMBER, Call, arrival, de
 from tools.vectors.chance import Chance, chance_grid_plan, chance_many_plan, chance_metered_plan, chance_plan
 from tools.vectors.frame import VectorError, VectorSet, packed
 from tools.vectors.plans import (
-    EMPTY, FULL_MANY, MOST_OF_ALL, MOST_OF_ROW, ROW, SEASON, Plan, cells_grid, in_turn, metered, report_words, sized, with_vehicles,
+    EMPTY, FULL_MANY, MOST_OF_ALL, MOST_OF_ROW, ROW, SEASON, Plan, Record, cells_grid, in_turn, metered, report_words,
+    sized, with_vehicles,
 )
 
 WORDS = 6144  # the words of the program's buffer
-
 LEAST_CALLS = 2_000
-
 LEAST_OF_A_KIND = 20
 
-# `room` is how many words are lent.
-Case = namedtuple("Case", "words data room calls")
 
-# A call with its answer, where the sheet changes and the count there, and which
-# condition of 29 applied.
-Told = namedtuple("Told", "call answer place count fault")
+class Case(NamedTuple):
+    """A ledger and the calls on it; `room` is how many words are lent."""
+    words: str
+    data: bytes
+    room: int
+    calls: list[Call]
 
-Vector = namedtuple("Vector", "case opening told")
+
+class Told(NamedTuple):
+    """A call with its answer, where the sheet changes and the count there, and
+    which condition of 29 applied."""
+    call: Call
+    answer: tuple[int, int]
+    place: int
+    count: int
+    fault: str | None
 
 
-def told(case):
+class Vector(NamedTuple):
+    """A ledger with what opening it answers, and its calls with theirs."""
+    case: Case
+    opening: tuple[int, int]
+    told: list[Told]
+
+
+def told(case: Case) -> Vector:
     opening = reckoning.check(case.data, words=case.room)
     if opening is not None:
         return Vector(case, opening, [Told(call, opening, 0, 0, "opening") for call in case.calls])
@@ -54,13 +71,13 @@ def told(case):
     return Vector(case, (0, 0), all_told)
 
 
-def exactly(words, plan, calls):
+def exactly(words: str, plan: Plan, calls: list[Call]) -> Case:
     """Not one word more is lent than the report has."""
     data = plan.data()
     return Case(words, data, report_words(data), calls)
 
 
-def roomy(words, plan, calls):
+def roomy(words: str, plan: Plan, calls: list[Call]) -> Case:
     return Case(words, plan.data(), WORDS, calls)
 
 
@@ -74,7 +91,7 @@ FOUR_ROWS = (WITHOUT, ROW, {**ROW, "class": 4, "technology": 3, "vehicles": 0}, 
 GRID = cells_grid({(7, 3): 5, (24, 24): 2})
 
 
-def small(version, rows=FOUR_ROWS):
+def small(version: int, rows: Iterable[Record] = FOUR_ROWS) -> Plan:
     """A sheet of a version with one season and few cells; from version 3 on the
     second row of each four has a mileage in place of its load."""
     if version == 1:
@@ -87,7 +104,7 @@ def small(version, rows=FOUR_ROWS):
 HUGE = 2 ** 64 - 1
 
 
-def edge_calls(rows, counts):
+def edge_calls(rows: int, counts: list[int]) -> Iterator[Call]:
     """All limits from both sides, in the first and in the last row; rows that
     are not there; numbers that would wrap if they were added."""
     for row in (0, rows - 1):
@@ -117,7 +134,7 @@ def edge_calls(rows, counts):
             yield departure(row, HUGE)
 
 
-def edge_cases():
+def edge_cases() -> Iterator[Case]:
     for version in (1, 2, 3, 4):
         plan = small(version)
         counts = [row["vehicles"] for row in plan.rows]
@@ -126,7 +143,7 @@ def edge_cases():
         yield roomy("version %d: one row, all limits" % version, one, list(edge_calls(1, [one.rows[0]["vehicles"]])))
 
 
-def chance_calls(chance, rows, calls):
+def chance_calls(chance: Chance, rows: int, calls: int) -> Iterator[Call]:
     """Calls all over: small and large counts, often as many as there are or may
     be, sometimes rows that are not there."""
     for _ in range(calls):
@@ -138,26 +155,31 @@ def chance_calls(chance, rows, calls):
         yield Call(chance.below(2), row, vehicles)
 
 
-def chance_cases():
+def chance_cases() -> Iterator[Case]:
     for version in (1, 2, 3, 4):
         for rows in (2, 4, 7):
             chance = Chance("calls on version %d with %d rows" % (version, rows))
             all_rows = tuple({**FOUR_ROWS[i % 4], "vehicles": chance.below(MOST_OF_ROW + 1)} for i in range(rows))
             plan = small(version, all_rows)
-            yield roomy("version %d, %d rows: calls by chance" % (version, rows), plan, list(chance_calls(chance, rows, 110)))
-    for i, plan in enumerate((chance_plan(3, 5), chance_grid_plan(2, 4, 5_000), chance_metered_plan(3, 4), chance_many_plan(2, 6))):
+            yield roomy("version %d, %d rows: calls by chance" % (version, rows), plan,
+                        list(chance_calls(chance, rows, 110)))
+    for i, plan in enumerate((chance_plan(3, 5), chance_grid_plan(2, 4, 5_000), chance_metered_plan(3, 4),
+                              chance_many_plan(2, 6))):
         chance = Chance("calls on values by chance %d" % i)
         calls = list(chance_calls(chance, len(plan.rows), 30))
         yield exactly("version %d, %s: values and calls by chance" % (plan.version(), sized(plan)), plan, calls)
 
 
-def fleet_cases():
+def fleet_cases() -> Iterator[Case]:
     """The limit of all rows together: up to it, past it and back in version 4;
     in the others there is none."""
     around = [
-        arrival(10, 1), arrival(11, 1), departure(0, 1), arrival(10, 2), arrival(10, 1), arrival(10, 1), departure(9, MOST_OF_ROW),
-        arrival(11, MOST_OF_ROW), arrival(10, 1), departure(10, 1), arrival(10, 1), arrival(10, MOST_OF_ROW), arrival(12, 1),
-        arrival(0, 1), arrival(0, 1), departure(11, 5), arrival(10, 6), arrival(10, 5), arrival(1, 1), arrival(1, 2 ** 40),
+        arrival(10, 1), arrival(11, 1), departure(0, 1), arrival(10, 2), arrival(10, 1), arrival(10, 1),
+        departure(9, MOST_OF_ROW),
+        arrival(11, MOST_OF_ROW), arrival(10, 1), departure(10, 1), arrival(10, 1), arrival(10, MOST_OF_ROW),
+        arrival(12, 1),
+        arrival(0, 1), arrival(0, 1), departure(11, 5), arrival(10, 6), arrival(10, 5), arrival(1, 1),
+        arrival(1, 2 ** 40),
     ]
     yield exactly("version 4: as many as there may be together", FULL_MANY, around)
     calls = list(chance_calls(Chance("calls where all are limited"), 25, 80))
@@ -171,18 +193,19 @@ def fleet_cases():
     yield exactly("version 3: no limit together", plain, around)
 
 
-def large_cases():
+def large_cases() -> Iterator[Case]:
     """The first and the last row of many."""
     for version, rows in ((1, 32), (2, 32), (3, 32), (4, 33), (4, 257), (4, 1000)):
         some = tuple({**FOUR_ROWS[i % 4], "vehicles": 50 + i} for i in range(rows))
         plan = small(version, some)
         last = rows - 1
-        calls = [arrival(0, 7), arrival(last, 9), departure(last, 3), departure(0, 57), arrival(rows, 1), departure(last, 2_000_000)]
+        calls = [arrival(0, 7), arrival(last, 9), departure(last, 3), departure(0, 57), arrival(rows, 1),
+                 departure(last, 2_000_000)]
         calls += [arrival(31, 100), departure(32, 82), arrival(255, 1), departure(256, 306), arrival(999, 1)]
         yield roomy("version %d: %d rows" % (version, rows), plan, calls)
 
 
-def closed_cases():
+def closed_cases() -> Iterator[Case]:
     """What is no ledger: a sheet that is refused, at one of many places, or words
     too few. Calls that a ledger would refuse or serve are answered alike."""
     calls = [arrival(0, 1), departure(0, 1), arrival(0, HUGE), arrival(1000, 1), departure(3, 0)]
@@ -191,7 +214,8 @@ def closed_cases():
         place = row_place(data, 3)
         yield Case("version %d: one word too few" % version, data, report_words(data) - 1, calls)
         yield Case("version %d: no word" % version, data, 0, calls)
-        for at, byte in ((0, 0), (3, 9), (5, 0), (6, 0), (8 + 1, 255), (len(data) - 24, 77), (place + 2, 9), (place + 11, 255), (place + 23, 255)):
+        for at, byte in ((0, 0), (3, 9), (5, 0), (6, 0), (8 + 1, 255), (len(data) - 24, 77), (place + 2, 9),
+                         (place + 11, 255), (place + 23, 255)):
             changed = data[:at] + bytes([byte]) + data[at + 1:]
             if reckoning.check(changed, words=WORDS) is not None:
                 yield Case("version %d: byte %d is %d" % (version, at, byte), changed, WORDS, calls)
@@ -201,7 +225,7 @@ def closed_cases():
     yield Case("version 4: too many together", over.data(), WORDS, calls)
 
 
-def all_vectors():
+def all_vectors() -> list[Vector]:
     opened = [told(case) for group in (edge_cases(), chance_cases(), fleet_cases(), large_cases()) for case in group]
     closed = [told(case) for case in closed_cases()]
     for v in opened + closed:
@@ -210,7 +234,7 @@ def all_vectors():
     return opened + closed
 
 
-def missing(vectors):
+def missing(vectors: list[Vector]) -> Iterator[str]:
     """What the lists should show and do not."""
     calls = sum(len(v.told) for v in vectors)
     if calls < LEAST_CALLS:
@@ -218,7 +242,8 @@ def missing(vectors):
     for version in (1, 2, 3, 4):
         here = [(v, t) for v in vectors if v.opening == (0, 0) and version_of(v.case.data) == version for t in v.told]
         kinds = Counter((t.fault, t.call.kind) for _, t in here)
-        wanted = [(None, ARRIVAL), (None, DEPARTURE), ("row", ARRIVAL), ("row", DEPARTURE), ("departure", DEPARTURE), ("16", ARRIVAL)]
+        wanted = [(None, ARRIVAL), (None, DEPARTURE), ("row", ARRIVAL), ("row", DEPARTURE), ("departure", DEPARTURE),
+                  ("16", ARRIVAL)]
         for kind in wanted:
             if kinds[kind] < LEAST_OF_A_KIND:
                 yield "version %d: %d of %s" % (version, kinds[kind], kind)
@@ -237,20 +262,22 @@ def missing(vectors):
             yield "no opening that is answered %d" % number
 
 
-def encoded(vectors):
+def encoded(vectors: list[Vector]) -> bytes:
     parts = [packed(4, [sum(len(v.told) for v in vectors)])]
     for v in vectors:
         parts += [packed(2, (len(v.case.data), len(v.told), v.case.room, *v.opening)), v.case.data]
         for t in v.told:
             number, place = t.answer
-            parts += [packed(1, [t.call.kind]), packed(8, t.call[1:]), packed(1, [number]), packed(2, [place, t.place]), packed(4, [t.count])]
+            parts += [packed(1, [t.call.kind]), packed(8, t.call[1:]), packed(1, [number]), packed(2, [place, t.place]),
+                      packed(4, [t.count])]
     return b"".join(parts)
 
 
-def lines(vectors):
+def lines(vectors: list[Vector]) -> Iterator[str]:
     for position, v in enumerate(vectors, 1):
         refused = sum(t.fault is not None for t in v.told)
-        yield "%3d  %-17s  %4d calls, %4d refused  %s" % (position, reckoning.answer_text(*v.opening), len(v.told), refused, v.case.words)
+        yield "%3d  %-17s  %4d calls, %4d refused  %s" % (position, reckoning.answer_text(*v.opening), len(v.told),
+                                                          refused, v.case.words)
 
 
 VECTORS = VectorSet("ledger_vectors", all_vectors, encoded, lines, missing)

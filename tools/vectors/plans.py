@@ -9,11 +9,14 @@ from collections.abc import Iterable
 from dataclasses import dataclass, replace
 
 from tools.sheet import fields
+from tools.sheet.fields import Field
 
 VERSIONS = (1, 2, 3, 4)
 SEASON_FIELDS = fields.SEASON_FIELDS
 ROW_FIELDS = fields.ROW_FIELDS + (fields.MILEAGE,)
 
+Counts = tuple[int, ...]  # of parkings
+Cells = dict[tuple[int, int], int]  # the count of each (half-hours, end hour)
 Record = dict[str, int]  # the values of a season or a row, by the names of their fields
 
 BY_CLASS = 255
@@ -46,11 +49,11 @@ ROW = {
 EMPTY = {"load": 0, "saturation": 0}  # all that a row without canister may have
 
 
-def record(fields, values):
+def record(fields: Iterable[Field], values: Record) -> bytes:
     return b"".join(values[name].to_bytes(size, "little", signed=signed) for name, size, signed, _ in fields)
 
 
-def counted(counts):
+def counted(counts: Iterable[int]) -> bytes:
     return b"".join(count.to_bytes(2, "little") for count in counts)
 
 
@@ -95,7 +98,7 @@ class Plan:
         return head + parking + b"".join(seasons + rows)
 
 
-def plain(seasons, rows):
+def plain(seasons: int, rows: int) -> Plan:
     """A plan of so many records that differ only where their neighbours are
     to show: the first and the last row have a canister, one between has none."""
     middle = {**ROW, "class": 5, "technology": 2, **EMPTY}
@@ -113,30 +116,30 @@ EXAMPLE = Plan(
 )
 
 
-def said(change):
+def said(change: Record) -> str:
     return ", ".join("%s %d" % item for item in change.items())
 
 
-def sized(plan):
+def sized(plan: Plan) -> str:
     return said({"seasons": len(plan.seasons), "rows": len(plan.rows)})
 
 
-def version_of(data):
+def version_of(data: bytes) -> int:
     """The version in the head; one that is not read counts as 1."""
     version = int.from_bytes(data[3:5], "little")
     return version if version in VERSIONS else 1
 
 
-def rows_of(data):
+def rows_of(data: bytes) -> int:
     """The rows that the head tells of: two bytes of version 4, or one."""
     return int.from_bytes(data[6:8], "little") if version_of(data) == 4 else data[6]
 
 
-def records_start(data):
+def records_start(data: bytes) -> int:
     return 104 if version_of(data) == 1 else 1160
 
 
-def patched(data, at, values):
+def patched(data: bytes, at: int, values: bytes) -> bytes:
     return data[:at] + values + data[at + len(values):]
 
 
@@ -145,7 +148,7 @@ def report_words(data: bytes) -> int:
     return 6 * rows_of(data) + 26
 
 
-def most(canister, season, limit=3):
+def most(canister: int, season: Record, limit: int = 3) -> int:
     """The largest saturating load of a canister that check 20 lets pass in a
     season, or check 25 with limit 0. In whole numbers, times 4,000,000,
     a + b.s.m <= limit says
@@ -155,7 +158,7 @@ def most(canister, season, limit=3):
     return (4_000_000 * limit + 44_000_000 + 6_000 * vp - 26_000 * T) // ((23_000 - 3 * vp + 2 * T) * twice_s)
 
 
-def fitted(row):
+def fitted(row: Record) -> int:
     """The canister of a row, as written or by class."""
     return CLASSES[row["class"]][1][row["technology"]] if row["canister"] == BY_CLASS else row["canister"]
 
@@ -163,7 +166,7 @@ def fitted(row):
 SMALL_GRID, BASE_GRID, LARGE_GRID = (plan.gridded() for plan in (SMALLEST, BASE, LARGEST))
 
 
-def grid_of(counts, start=0):
+def grid_of(counts: Iterable[int], start: int = 0) -> Counts:
     """Counts in a row from this cell on, and nothing in the others."""
     return (0,) * start + tuple(counts) + (0,) * (576 - start - len(counts))
 
@@ -171,13 +174,13 @@ def grid_of(counts, start=0):
 MILLION = (65535,) * 15 + (16975,)
 
 
-def cells_grid(cells):
+def cells_grid(cells: Cells) -> Counts:
     """The counts of a grid, of which these cells have some: {(half-hours, end
     hour): count}."""
     return tuple(cells.get((d, t), 0) for t in range(1, 25) for d in range(1, 25))
 
 
-def one_cell(half_hours, hour):
+def one_cell(half_hours: int, hour: int) -> tuple[Counts, Counts]:
     """The two lists of counts of a single parking."""
     return (
         tuple(int(d == half_hours) for d in range(1, 25)),
@@ -185,7 +188,7 @@ def one_cell(half_hours, hour):
     )
 
 
-def few_cells(*cells):
+def few_cells(*cells: tuple[int, int]) -> tuple[Counts, Counts]:
     """Parkings of few lengths and end hours, weighed unlike."""
     durations, hours = [0] * 24, [0] * 24
     for i, (half_hours, hour) in enumerate(cells):
@@ -205,7 +208,7 @@ DRIVEN = {**ROW, "load": 0, "mileage": 84_000}
 WITHOUT = {**ROW, "class": 5, "technology": 2, **EMPTY}
 
 
-def metered(seasons, rows):
+def metered(seasons: Iterable[Record], rows: Iterable[Record]) -> Plan:
     """A plan of version 3."""
     return replace(Plan(tuple(seasons), tuple(rows)).gridded(), metered=True)
 
@@ -217,12 +220,12 @@ BASE_METERED = metered((SEASON,) * 2, (DRIVEN, ROW, WITHOUT, DRIVEN))
 MOST_OF_ROW, MOST_OF_ALL = 10_000_000, 100_000_000
 
 
-def in_turn(count, vehicles=1):
+def in_turn(count: int, vehicles: int = 1) -> tuple[Record, ...]:
     """So many rows: with a mileage, with a load and without canister."""
     return tuple({**(DRIVEN, ROW, WITHOUT)[i % 3], "vehicles": vehicles} for i in range(count))
 
 
-def many(seasons, rows):
+def many(seasons: Iterable[Record], rows: Iterable[Record]) -> Plan:
     """A plan of version 4."""
     return replace(metered(seasons, rows), many=True)
 
@@ -236,7 +239,7 @@ BASE_MANY = replace(BASE_METERED, many=True)
 FULL_MANY = many((SEASON,), in_turn(10, MOST_OF_ROW) + in_turn(2, 0))
 
 
-def with_vehicles(plan, vehicles):
+def with_vehicles(plan: Plan, vehicles: dict[int, int]) -> Plan:
     """The same with the vehicles of some rows changed: {row: vehicles}."""
     for i, n in vehicles.items():
         plan = plan.changed("rows", i, {"vehicles": n})

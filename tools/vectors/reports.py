@@ -10,10 +10,10 @@ the whole milligrams below and above the exact mass, at n = 40 and for most
 sheets at n = 60 too. Every number has its lowest byte first.
 """
 
-from collections import namedtuple
-from collections.abc import Iterable, Iterator
+from collections.abc import Iterable, Iterator, Sequence
 from dataclasses import replace
 from itertools import chain
+from typing import NamedTuple
 
 from tools import reckoning
 from tools.command import SAMPLES
@@ -22,57 +22,55 @@ from tools.vectors.chance import Chance, chance_grid_plan, chance_many_plan, cha
 from tools.vectors.factors import LISTED, METERED_WEATHER, MILEAGES, TWO_ROWS, UNLISTED, driven_rows, whole
 from tools.vectors.frame import VectorSet, packed
 from tools.vectors.plans import (
-    DRIVEN, EMPTY, FIVE, MOST_OF_ALL, MOST_OF_ROW, PAIRS, ROW, SEASON, Plan, Record, cells_grid, few_cells, grid_of, in_turn, many,
-    metered, one_cell, report_words, rows_of, said, sized, version_of, with_vehicles,
+    DRIVEN, EMPTY, FIVE, MOST_OF_ALL, MOST_OF_ROW, PAIRS, ROW, SEASON, Plan, Record, cells_grid, few_cells, grid_of,
+    in_turn, many, metered, one_cell, report_words, rows_of, said, sized, version_of, with_vehicles,
 )
 
 WORDS = 6144  # the words of its buffer
-
 MILLIGRAMS = 1000
-
 LEAST_ACCEPTED = 60
-
 LEAST_GRIDS = 20  # of version 2
-
 LEAST_MILEAGES = 100  # rows with a mileage and vehicles
-
 LEAST_MANY = 8  # with more than 32 rows
-
 MOST_AT_60 = 40  # seasons times rows of unlike factors up to which n = 60 is calculated too
 
-# A sheet and the words of the buffer.
-Case = namedtuple("Case", "words data room")
+
+class Case(NamedTuple):
+    """A sheet and the words of the buffer."""
+    words: str
+    data: bytes
+    room: int
 
 
-def exactly(words, plan):
+def exactly(words: str, plan: Plan) -> Case:
     """A buffer without a word more than the report."""
     data = plan.data()
     return Case(words, data, report_words(data))
 
 
-def roomy(words, plan):
+def roomy(words: str, plan: Plan) -> Case:
     return Case(words, plan.data(), WORDS)
 
 
-def sample_cases():
+def sample_cases() -> Iterator[Case]:
     for name in ("example", "table-3-5", "table-3-5-day", "region", "survey", "odometer", "districts"):
         data = (SAMPLES / (name + ".evp")).read_bytes()
         yield Case(name, data, report_words(data))
 
 
-def thinned(chance, plan):
+def thinned(chance: Chance, plan: Plan) -> Plan:
     """The same with few parkings."""
     cells = [(chance.between(1, 24), chance.between(1, 24)) for _ in range(3)]
     return replace(plan, **dict(zip(("durations", "hours"), few_cells(*cells))))
 
 
-def whole_year(plan):
+def whole_year(plan: Plan) -> Plan:
     """The last season takes the days that are left of 366."""
     days = sum(season["days"] for season in plan.seasons[:-1])
     return plan.changed("seasons", len(plan.seasons) - 1, {"days": 366 - days})
 
 
-def chance_cases():
+def chance_cases() -> Iterator[Case]:
     """Values all over their ranges, of many sizes: every second with 366 days
     in all, and in turn a row without vehicles, one without trips, and one with
     all the vehicles and trips that there can be."""
@@ -84,13 +82,13 @@ def chance_cases():
         yield (exactly, roomy)[i % 2]("values by chance, %s" % sized(plan), whole_year(plan) if i % 2 else plan)
 
 
-def full_cases():
+def full_cases() -> Iterator[Case]:
     """No parking is without weight."""
     for size in ((1, 1), (2, 3), (4, 4)):
         yield exactly("all parkings, %d seasons and %d rows" % size, whole_year(chance_plan(*size)))
 
 
-def category_cases():
+def category_cases() -> Iterator[Case]:
     """Rows of one category alone, and each class once."""
     season = {**SEASON, "days": 366, "lowest": -31, "highest": 187}
     for classes in ((1, 2, 3), (4,), (5, 6, 7, 8, 9), range(1, 10), (9, 4, 1), (3, 4), (4, 5)):
@@ -99,7 +97,7 @@ def category_cases():
         yield exactly("classes %s" % " ".join(map(str, classes)), Plan((season,), rows, *one_cell(24, 3)))
 
 
-def limit_cases():
+def limit_cases() -> Iterator[Case]:
     """The largest masses, and rows of which none has vehicles."""
     hot = {"days": 366, "lowest": -300, "highest": 500, "vp": 1100}
     largest = {
@@ -114,7 +112,7 @@ def limit_cases():
     yield roomy("trips of no minutes", Plan((hot,), ({**largest, "minutes": 0, "carburettor": 0},), *one_cell(1, 24)))
 
 
-def listed_plans():
+def listed_plans() -> Iterator[Plan]:
     """Sheets whose lists are held against the grid of their products."""
     yield plans.EXAMPLE
     yield from LISTED
@@ -123,25 +121,25 @@ def listed_plans():
     yield from (thinned(chance, chance_plan(*size)) for size in ((1, 7), (5, 3), (2, 32)))
 
 
-def listed_cases():
+def listed_cases() -> Iterator[Case]:
     for i, plan in enumerate(listed_plans(), 1):
         yield exactly("pair %d, lists" % i, plan)
         yield exactly("pair %d, grid" % i, plan.gridded())
 
 
-def cell_cases():
+def cell_cases() -> Iterator[Case]:
     """Single parkings, which a grid read the other way round puts elsewhere."""
     for i, (cell, count) in enumerate({(3, 20): 1, (20, 3): 65535, (1, 24): 9, (24, 1): 1, (24, 14): 65535}.items()):
         plan = replace(TWO_ROWS, grid=cells_grid({cell: count}))
         yield (exactly, roomy)[i % 2]("grid: %d half-hours to hour %d, count %d" % (*cell, count), plan)
 
 
-def unlisted_cases():
+def unlisted_cases() -> Iterator[Case]:
     for words, cells in UNLISTED.items():
         yield exactly("grid: " + words, replace(TWO_ROWS, grid=cells_grid(cells)))
 
 
-def chance_grid_cases():
+def chance_grid_cases() -> Iterator[Case]:
     """Cells all over the grid, and the largest sum: over all cells, and in as
     few as can hold it."""
     for i, (seasons, rows, total) in enumerate(((1, 1, 576), (2, 3, 65_537), (4, 4, 1_000_000), (1, 32, 1_000_000))):
@@ -152,14 +150,14 @@ def chance_grid_cases():
         yield exactly("grid: sum 1000000 from cell %d on" % start, plan)
 
 
-def mileage_cases():
+def mileage_cases() -> Iterator[Case]:
     """Each mileage in each canister, in a season of each kind."""
     for i, season in enumerate(METERED_WEATHER):
         plan = replace(metered((season,), driven_rows(season)), grid=FIVE)
         yield (exactly, roomy)[i % 2]("mileages, %s" % said(season), whole_year(plan))
 
 
-def chance_mileage_cases():
+def chance_mileage_cases() -> Iterator[Case]:
     """Mileages all over their range in several seasons, in whose warmest the
     canister is full at most just. No parking of the last is without weight."""
     for i, size in enumerate(((1, 4), (2, 6), (3, 5), (5, 7), (12, 3))):
@@ -170,7 +168,8 @@ def chance_mileage_cases():
 
 # Kinds of rows; rows of one kind have the same factors, so that a thousand rows
 # are calculated as quickly as these. In HOT_AND_COLD all of them are accepted.
-HOT_AND_COLD = ({**SEASON, "days": 214, "lowest": 41, "highest": 297}, {**SEASON, "lowest": -73, "highest": 52, "vp": 880})
+HOT_AND_COLD = ({**SEASON, "days": 214, "lowest": 41, "highest": 297},
+                {**SEASON, "lowest": -73, "highest": 52, "vp": 880})
 
 KINDS = (
     {**ROW, "technology": 0, **EMPTY}, {**ROW, "class": 2, "technology": 2}, {**DRIVEN, "class": 3, "technology": 4},
@@ -179,7 +178,7 @@ KINDS = (
 )
 
 
-def varied(name, count, kinds=KINDS, most=MOST_OF_ALL):
+def varied(name: str, count: int, kinds: Sequence[Record] = KINDS, most: int = MOST_OF_ALL) -> tuple[Record, ...]:
     """So many rows of these kinds by turns that differ in what no factor
     depends on. Their vehicles sum to `most`, what division leaves over being in
     the last."""
@@ -193,23 +192,24 @@ def varied(name, count, kinds=KINDS, most=MOST_OF_ALL):
     } for i in range(count))
 
 
-def wide(seasons, rows):
+def wide(seasons: Iterable[Record], rows: Iterable[Record]) -> Plan:
     """A plan of version 4 with few parkings."""
     return replace(many(seasons, rows), grid=FIVE)
 
 
-def many_cases():
+def many_cases() -> Iterator[Case]:
     """More rows than other versions have, and fewer; with all the vehicles that
     there can be together, but for the last."""
     for i, (seasons, rows) in enumerate(((1, 33), (2, 256), (1, 1000), (2, 1))):
-        plan = wide(HOT_AND_COLD[:seasons], varied("rows of report %d" % i, rows, most=min(rows * MOST_OF_ROW, MOST_OF_ALL)))
+        plan = wide(HOT_AND_COLD[:seasons],
+                    varied("rows of report %d" % i, rows, most=min(rows * MOST_OF_ROW, MOST_OF_ALL)))
         yield (exactly, roomy)[i % 2]("version 4, %s" % sized(plan), whole_year(plan))
     plan = wide(({**SEASON, "days": 30},) * 12, varied("twelve seasons", 40, KINDS[:5:2]))
     yield exactly("version 4, %s" % sized(plan), plan)
     yield roomy("version 4, values by chance", replace(chance_many_plan(1, 36), grid=FIVE))
 
 
-def far_cases():
+def far_cases() -> Iterator[Case]:
     """Vehicles in rows beyond the first 32 alone; rows of one category beyond
     them; and the largest masses in as few rows as can have all vehicles, which
     stand last."""
@@ -229,7 +229,7 @@ def far_cases():
     yield exactly("version 4, the largest masses", replace(many((hot,), rows), grid=cells_grid({(24, 14): 1})))
 
 
-def short_cases():
+def short_cases() -> Iterator[Case]:
     """Buffers of no word, one word and a word too few, number 22."""
     for plan in (
         plans.SMALLEST, plans.BASE, plans.LARGEST, plans.SMALL_GRID, plans.LARGE_GRID, plans.BASE_METERED,
@@ -244,21 +244,25 @@ def short_cases():
         yield Case("room for %d words, %s" % (room, sized(plan)), plan.data(), room)
 
 
-def refused_cases():
+def refused_cases() -> Iterator[Case]:
     """A sheet for each number, with room for any report and with none."""
     for case in sheets.refused_cases():
         for room in (WORDS, 0):
             yield Case(case.words, case.data, room)
 
 
-Vector = namedtuple("Vector", "case answer rows")
+class Vector(NamedTuple):
+    """A sheet with its answer and the numbers of its rows."""
+    case: Case
+    answer: tuple[int, int]
+    rows: list[list[int]]
 
 
-def category_of(vehicle_class):
+def category_of(vehicle_class: int) -> int:
     return 1 if vehicle_class <= 3 else 2 if vehicle_class == 4 else 3
 
 
-def row_numbers(sheet, i, terms):
+def row_numbers(sheet: reckoning.Sheet, i: int, terms: tuple[int, ...]) -> list[int]:
     row = sheet.rows[i]
     counted = row.vehicles * sum(season.days for season in sheet.seasons)
     numbers = [category_of(row.vehicle_class), counted, counted * row.trips // 100]
@@ -268,7 +272,7 @@ def row_numbers(sheet, i, terms):
     return numbers
 
 
-def vector(case):
+def vector(case: Case) -> Vector:
     refusal = reckoning.check(case.data, words=case.room)
     if refusal is not None:
         return Vector(case, refusal, [])
@@ -278,7 +282,7 @@ def vector(case):
     return Vector(case, (0, 0), [row_numbers(sheet, i, terms) for i in range(len(sheet.rows))])
 
 
-def all_vectors():
+def all_vectors() -> list[Vector]:
     groups = (
         sample_cases, chance_cases, full_cases, category_cases, limit_cases, listed_cases, cell_cases, unlisted_cases,
         chance_grid_cases, mileage_cases, chance_mileage_cases, many_cases, far_cases, short_cases, refused_cases,
@@ -286,7 +290,7 @@ def all_vectors():
     return [vector(case) for group in groups for case in group()]
 
 
-def missing(vectors):
+def missing(vectors: list[Vector]) -> Iterator[str]:
     """What the sheets as a whole should show and do not."""
     accepted = [reckoning.read(v.case.data) for v in vectors if v.rows]
     if len(accepted) < LEAST_ACCEPTED:
@@ -320,7 +324,7 @@ def missing(vectors):
             yield "not all %s" % words
 
 
-def encoded(vectors):
+def encoded(vectors: list[Vector]) -> bytes:
     parts = [packed(4, [len(vectors)])]
     for v in vectors:
         head = (len(v.case.data), len(v.rows), v.case.room, *v.answer)
@@ -328,7 +332,7 @@ def encoded(vectors):
     return b"".join(parts)
 
 
-def lines(vectors):
+def lines(vectors: list[Vector]) -> Iterator[str]:
     for position, v in enumerate(vectors, 1):
         yield "%4d  %-17s  %s" % (position, reckoning.answer_text(*v.answer), v.case.words)
 

@@ -1,5 +1,7 @@
-"""The input of rights_vectors: shared ledgers and lists of calls on them, with what each call is answered; and pairs of ledgers
-and lists that agree for one participant, who must be told the same by both.
+"""The input of rights_vectors: shared ledgers and lists of calls on them, with what each call is answered.
+
+Pairs of ledgers and lists agree for one participant, who must be told the same
+by both.
 
 The file says in four bytes how many calls there are in all. Each ledger starts
 with six numbers of two bytes: the length of its sheet and owners together, how
@@ -13,8 +15,9 @@ the buffer in two; and the place of the answer among those that are kept, from 1
 on, in two, 0 where it is not. Every number has its lowest byte first.
 """
 
-from collections import Counter, namedtuple
-from collections.abc import Iterator
+from collections import Counter
+from collections.abc import Iterable, Iterator, Sequence
+from typing import NamedTuple
 
 from tools import reckoning
 from tools.reckoning.format import counts_of, version_of
@@ -23,24 +26,43 @@ from tools.reckoning.shared import (
 )
 from tools.vectors.chance import Chance
 from tools.vectors.frame import VectorError, VectorSet, packed
-from tools.vectors.plans import EMPTY, MOST_OF_ROW, ROW, SEASON, Plan, cells_grid
+from tools.vectors.plans import EMPTY, MOST_OF_ROW, ROW, SEASON, Plan, Record, cells_grid
 
 WORDS = 6144  # the words of the program's buffer
-
 SLOTS = 25  # the answers that it keeps of a ledger
-
 HUGE = 2 ** 64 - 1
 
-# A ledger to open and the calls to make on it. `whose` is the participant whose
-# answers are kept, or None; `like` says that they are those of the ledger before.
-Case = namedtuple("Case", "words data owners asks whose like")
 
-Told = namedtuple("Told", "ask answer count place slot cell")
+class Case(NamedTuple):
+    """A ledger to open and the calls to make on it. `whose` is the participant whose
+    answers are kept, or None; `like` says that they are those of the ledger before."""
+    words: str
+    data: bytes
+    owners: bytes
+    asks: list[Ask]
+    whose: int | None
+    like: bool
 
-Vector = namedtuple("Vector", "case opening told")
+
+class Told(NamedTuple):
+    """A call with its answer, what it is told and where the answer is kept; and
+    the cell of the table of who may do what."""
+    ask: Ask
+    answer: tuple[int, int]
+    count: int
+    place: int
+    slot: int
+    cell: tuple | None
 
 
-def told(case):
+class Vector(NamedTuple):
+    """A ledger with what opening it answers, and its calls with theirs."""
+    case: Case
+    opening: tuple[int, int]
+    told: list[Told]
+
+
+def told(case: Case) -> Vector:
     first = opening(case.data, case.owners, WORDS)
     version = version_of(case.data)
     counts, all_told, slot = counts_of(case.data) if first == (0, 0) else [], [], 0
@@ -58,7 +80,8 @@ def told(case):
         count = counts[ask.row] if number == 0 and ask.kind == READ_ROW else 0
         place = 6 * (ask.row if ask.kind == READ_ROW else len(counts)) if number == 0 and ask.kind >= READ_ROW else 0
         row = "" if ask.kind == READ_TOTALS else row_kind(case.owners, len(counts), ask)
-        all_told.append(Told(ask, (number, 0), count, place, slot if keep else 0, (ask.kind, caller(ask.who), row, number)))
+        all_told.append(Told(ask, (number, 0), count, place, slot if keep else 0,
+                             (ask.kind, caller(ask.who), row, number)))
     return Vector(case, first, all_told)
 
 
@@ -71,7 +94,7 @@ WITHOUT = {**ROW, "class": 6, "technology": 0, **EMPTY}
 KIND_ROWS = (WITHOUT, ROW, {**ROW, "class": 4, "technology": 3}, {**ROW, "class": 2, "technology": 2, "load": 100})
 
 
-def rows_with(counts, version, kinds=KIND_ROWS):
+def rows_with(counts: Iterable[int], version: int, kinds: Sequence[Record] = KIND_ROWS) -> Iterator[Record]:
     """Rows of several kinds with these vehicles; from version 3 on the second of
     each four has a mileage in place of its load."""
     for i, vehicles in enumerate(counts):
@@ -79,7 +102,7 @@ def rows_with(counts, version, kinds=KIND_ROWS):
         yield {**row, "load": 0, "mileage": 52_000} if version > 2 and i % 4 == 1 and row["saturation"] else row
 
 
-def plan_of(version, rows, grid=GRID):
+def plan_of(version: int, rows: Iterable[Record], grid: tuple[int, ...] = GRID) -> Plan:
     if version == 1:
         return Plan((SEASON,), tuple(rows), *LISTS)
     return Plan((SEASON,), tuple(rows), grid=grid, metered=version > 2, many=version == 4)
@@ -89,7 +112,7 @@ def ledger(words, version, counts, owners, asks, whose=None, like=False):
     return Case(words, plan_of(version, rows_with(counts, version)).data(), bytes(owners), list(asks), whose, like)
 
 
-def table_cases():
+def table_cases() -> Iterator[Case]:
     """Who may do what, cell by cell: everyone asks for everything of every row,
     and of rows that are not there."""
     owners, counts = (1, 2, 1, 8, 5), (700, 1000, 0, 3, 40)
@@ -105,24 +128,27 @@ def table_cases():
                      [Ask(kind, who, row, 0) for kind in (ARRIVAL, READ_ROW) for who in (0, 1, 2) for row in (5, 6, 7)])
 
 
-def limit_cases():
+def limit_cases() -> Iterator[Case]:
     """The limits of a row and of a participant's vehicles, from both sides, with
     all other participants at theirs."""
     full = (9_999_000, 1_000) + (MOST_OF_ROW,) * 7 + (0,)
     owners = (1, 1, 2, 3, 4, 5, 6, 7, 8, 1)
     asks = [
-        Ask(ARRIVAL, 1, 9, 1), Ask(ARRIVAL, 1, 9, MOST_OF_ROW), Ask(ARRIVAL, 1, 9, MOST_OF_ROW + 1), Ask(ARRIVAL, 1, 0, 1_000),
-        Ask(ARRIVAL, 1, 0, 1_001), Ask(ARRIVAL, 1, 9, 0), Ask(ARRIVAL, 2, 2, 1), Ask(ARRIVAL, 2, 2, 0), Ask(ARRIVAL, 2, 2, HUGE),
+        Ask(ARRIVAL, 1, 9, 1), Ask(ARRIVAL, 1, 9, MOST_OF_ROW), Ask(ARRIVAL, 1, 9, MOST_OF_ROW + 1),
+        Ask(ARRIVAL, 1, 0, 1_000),
+        Ask(ARRIVAL, 1, 0, 1_001), Ask(ARRIVAL, 1, 9, 0), Ask(ARRIVAL, 2, 2, 1), Ask(ARRIVAL, 2, 2, 0),
+        Ask(ARRIVAL, 2, 2, HUGE),
         Ask(DEPARTURE, 1, 1, 1_001), Ask(DEPARTURE, 1, 1, 1_000), Ask(ARRIVAL, 1, 9, 1_001), Ask(ARRIVAL, 1, 9, 1_000),
         Ask(ARRIVAL, 1, 9, 1), Ask(DEPARTURE, 1, 0, 9_999_000), Ask(ARRIVAL, 1, 9, 9_999_000), Ask(ARRIVAL, 1, 1, 1),
         Ask(ARRIVAL, 1, 1, MOST_OF_ROW), Ask(DEPARTURE, 1, 9, HUGE), Ask(READ_ROW, 0, 9, 0), Ask(READ_TOTALS, 0, 0, 0),
-        Ask(READ_ROW, 1, 9, 0), Ask(READ_ROW, 8, 8, 0), Ask(ARRIVAL, 8, 8, 2 ** 32), Ask(ARRIVAL, 1, 9, HUGE - 9_999_999),
+        Ask(READ_ROW, 1, 9, 0), Ask(READ_ROW, 8, 8, 0), Ask(ARRIVAL, 8, 8, 2 ** 32),
+        Ask(ARRIVAL, 1, 9, HUGE - 9_999_999),
     ]
     for version in (1, 2, 3, 4):
         yield ledger("version %d: all at their limits" % version, version, full, owners, asks)
 
 
-def opening_cases():
+def opening_cases() -> Iterator[Case]:
     """Owners that are missing or none of the eight, one row or vehicle too many,
     and sheets that are refused before any owner is asked for."""
     asks = [Ask(ARRIVAL, 1, 0, 1), Ask(READ_ROW, 0, 0, 0), Ask(READ_TOTALS, 1, 0, 0), Ask(DEPARTURE, 9, 7, 1)]
@@ -139,15 +165,18 @@ def opening_cases():
         rows = mine + others
         owners = [1] * mine + [2 + i // 100 if i < 700 else 1 for i in range(others)]
         place = rows - 1
-        some = [Ask(READ_ROW, owners[-1], place, 0), Ask(ARRIVAL, owners[0], 0, 3), Ask(READ_ROW, 0, place, 0), Ask(READ_TOTALS, 0, 0, 0)]
-        yield ledger("version 4: %d rows of one and %d more" % (mine, others), 4, [i % 7 for i in range(rows)], owners, some)
+        some = [Ask(READ_ROW, owners[-1], place, 0), Ask(ARRIVAL, owners[0], 0, 3), Ask(READ_ROW, 0, place, 0),
+                Ask(READ_TOTALS, 0, 0, 0)]
+        yield ledger("version 4: %d rows of one and %d more" % (mine, others), 4, [i % 7 for i in range(rows)], owners,
+                     some)
 
 
-def chance_ask(chance, whos, rows):
+def chance_ask(chance: Chance, whos: Sequence[int], rows: Sequence[int]) -> Ask:
     """A call of one of these on one of these rows."""
     kind = chance.one_of((ARRIVAL, ARRIVAL, DEPARTURE, READ_ROW, READ_ROW, READ_TOTALS))
     vehicles = chance.one_of((
-        chance.below(10), chance.below(2_000), chance.below(1_000_000), chance.between(1, MOST_OF_ROW), MOST_OF_ROW + chance.below(2),
+        chance.below(10), chance.below(2_000), chance.below(1_000_000), chance.between(1, MOST_OF_ROW),
+        MOST_OF_ROW + chance.below(2),
         chance.below(2 ** 64),
     ))
     return Ask(kind, chance.one_of(whos), chance.one_of(rows), 0 if kind >= READ_ROW else vehicles)
@@ -163,7 +192,8 @@ def pair(position, versions, whose):
     theirs = sorted({chance.below(8) for _ in range(3)})
     own = {i: {**KIND_ROWS[chance.below(4)], "vehicles": chance.below(3_000_000)} for i in theirs}
     if min(versions) > 2:
-        own = {i: {**row, "load": 0, "mileage": 52_000} if row["saturation"] and i % 2 else row for i, row in own.items()}
+        own = {i: {**row, "load": 0, "mileage": 52_000} if row["saturation"] and i % 2 else row
+               for i, row in own.items()}
     asks = [chance_ask(chance, (whose,), theirs * 4 + [0, 3, 7, 9, HUGE]) for _ in range(24)]
     grid = PRODUCTS if 1 in versions else GRID
     for like, version in enumerate(versions):
@@ -179,7 +209,8 @@ def pair(position, versions, whose):
             rows.append(own.get(i, row))
         calls = []
         for ask in asks:
-            calls += [chance_ask(chance, others + [MARKER, 9], range(count + 2)) for _ in range(chance.below(4))] + [ask]
+            calls += [chance_ask(chance, others + [MARKER, 9], range(count + 2))
+                      for _ in range(chance.below(4))] + [ask]
         words = "version %d: pair %d, participant %d" % (version, position, whose)
         yield Case(words, plan_of(version, rows, grid).data(), bytes(owners), calls, whose, bool(like))
 
@@ -188,12 +219,12 @@ def pair(position, versions, whose):
 VERSIONS = ((1, 1), (2, 2), (3, 3), (4, 4), (1, 2), (1, 3), (1, 4), (4, 1), (2, 3), (2, 4), (4, 2), (3, 4))
 
 
-def pair_cases():
+def pair_cases() -> Iterator[Case]:
     for position in range(4 * len(VERSIONS)):
         yield from pair(position, VERSIONS[position // 4], 1 + position % 8)
 
 
-def all_vectors():
+def all_vectors() -> list[Vector]:
     return [told(case) for group in (table_cases(), limit_cases(), opening_cases(), pair_cases()) for case in group]
 
 
@@ -203,18 +234,21 @@ TABLE = {
     (kind, who, row): numbers
     for kind in (ARRIVAL, DEPARTURE)
     for who, row, numbers in (
-        ("marker", "another's", {30}), ("marker", "absent", {30}), ("participant", "own", {0, 29, 31} if kind == ARRIVAL else {0, 29}),
-        ("participant", "another's", {30}), ("participant", "absent", {30}), ("stranger", "another's", {30}), ("stranger", "absent", {30}),
+        ("marker", "another's", {30}), ("marker", "absent", {30}),
+        ("participant", "own", {0, 29, 31} if kind == ARRIVAL else {0, 29}),
+        ("participant", "another's", {30}), ("participant", "absent", {30}), ("stranger", "another's", {30}),
+        ("stranger", "absent", {30}),
     )
 } | {
     (READ_ROW, "marker", "another's"): {0}, (READ_ROW, "marker", "absent"): {29}, (READ_ROW, "participant", "own"): {0},
-    (READ_ROW, "participant", "another's"): {30}, (READ_ROW, "participant", "absent"): {30}, (READ_ROW, "stranger", "another's"): {30},
+    (READ_ROW, "participant", "another's"): {30}, (READ_ROW, "participant", "absent"): {30},
+    (READ_ROW, "stranger", "another's"): {30},
     (READ_ROW, "stranger", "absent"): {30}, (READ_TOTALS, "marker", ""): {0}, (READ_TOTALS, "participant", ""): {30},
     (READ_TOTALS, "stranger", ""): {30},
 }
 
 
-def missing(vectors):
+def missing(vectors: list[Vector]) -> Iterator[str]:
     """What the lists should show and do not: every cell of the table with each of
     its numbers in every version, and no other; pairs in which much is told."""
     for version in (1, 2, 3, 4):
@@ -235,14 +269,14 @@ def missing(vectors):
     yield from missing_pairs(pairs)
 
 
-def known_to(case):
+def known_to(case: Case) -> tuple:
     """What may show in what a participant is told, but for their calls: seasons
     and parking, which rows are theirs, and those rows."""
     sheet = reckoning.read(case.data)
     return sheet.seasons, sheet.grid, {i: row for i, row in enumerate(sheet.rows) if case.owners[i] == case.whose}
 
 
-def missing_pairs(pairs):
+def missing_pairs(pairs: list[tuple[Vector, Vector]]) -> Iterator[str]:
     """Pairs that agree for no one, that do not differ for the others, or whose
     answers differ; pairs of two versions in which little is told."""
     passed = Counter()
@@ -258,22 +292,24 @@ def missing_pairs(pairs):
             yield "pairs of versions %d and %d tell too little" % versions
 
 
-def encoded(vectors):
+def encoded(vectors: list[Vector]) -> bytes:
     parts = [packed(4, [sum(len(v.told) for v in vectors)])]
     for v in vectors:
         both = v.case.data + v.case.owners
         parts += [packed(2, (len(both), len(v.told), len(v.case.data), *v.opening, int(v.case.like))), both]
         for t in v.told:
             number, place = t.answer
-            parts += [packed(1, [t.ask.kind]), packed(8, t.ask[1:]), packed(1, [number]), packed(2, [place]), packed(4, [t.count]),
+            parts += [packed(1, [t.ask.kind]), packed(8, t.ask[1:]), packed(1, [number]), packed(2, [place]),
+                      packed(4, [t.count]),
                       packed(2, [t.place, t.slot])]
     return b"".join(parts)
 
 
-def lines(vectors):
+def lines(vectors: list[Vector]) -> Iterator[str]:
     for position, v in enumerate(vectors, 1):
         refused = sum(t.answer[0] != 0 for t in v.told)
-        yield "%3d  %-20s  %4d calls, %4d refused  %s" % (position, reckoning.answer_text(*v.opening), len(v.told), refused, v.case.words)
+        yield "%3d  %-20s  %4d calls, %4d refused  %s" % (position, reckoning.answer_text(*v.opening), len(v.told),
+                                                          refused, v.case.words)
 
 
 VECTORS = VectorSet("rights_vectors", all_vectors, encoded, lines, missing)

@@ -14,29 +14,31 @@ from tools.command import SAMPLES
 from tools.reckoning.species import SHARES, TABLE, split
 from tools.vectors.frame import VectorSet, packed
 
+Vector = tuple[int, list[int]]  # a total and its masses
+
 MOST = 2 ** 64 - 1
 
 DEMANDED = (0, 1, 10_000, 10_001, MOST)  # by request Eleven
 
 
-def reported(name):
+def reported(name: str) -> tuple[int, int]:
     """The version and the high total of a sample, by its stored report."""
     words = (SAMPLES / (name + ".report")).read_text().split()
     return int(words[1]), int(words[-1])
 
 
-def sample_totals():
+def sample_totals() -> list[int]:
     return [reported(path.stem)[1] for path in sorted((SAMPLES).glob("*.evp"))]
 
 
-def scattered(count):
+def scattered(count: int) -> Iterator[int]:
     """Totals of all sizes, the same in every run and on every machine."""
     for i in range(count):
         digest = hashlib.sha256(b"species %d" % i).digest()
         yield int.from_bytes(digest[:8], "little") >> digest[8] % 64
 
 
-def totals():
+def totals() -> list[int]:
     """Those of the request and of the samples; around multiples of 10,001 and
     powers of 2 and 10; the least of which a species gets anything; and others."""
     bases = [10_001 * k for k in (1, 2, 10_000, 10_001, MOST // 10_001)]
@@ -46,11 +48,11 @@ def totals():
     return list(dict.fromkeys(total for total in chain(found, scattered(100)) if total <= MOST))
 
 
-def vectors():
+def vectors() -> list[Vector]:
     return [(total, split(total)) for total in totals()]
 
 
-def missing(found):
+def missing(found: list[Vector]) -> Iterator[str]:
     """What the masses as a whole should show and do not."""
     if sum(SHARES) != Fraction("100.01") or len(TABLE) != 29:
         yield "the shares of %d species sum to %s percent" % (len(TABLE), sum(SHARES))
@@ -68,11 +70,11 @@ def missing(found):
         yield "no total that shares cut one by one fall short of"
 
 
-def encoded(found):
+def encoded(found: list[Vector]) -> bytes:
     return packed(8, [len(found)]) + b"".join(packed(8, [total, *masses]) for total, masses in found)
 
 
-def lines(found):
+def lines(found: list[Vector]) -> Iterator[str]:
     for position, (total, masses) in enumerate(found, 1):
         yield "%4d  %20d  %s" % (position, total, " ".join(map(str, masses)))
 

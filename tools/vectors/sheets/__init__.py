@@ -30,19 +30,19 @@ from tools.vectors.sheets.case import ACCEPTED, Case
 
 NUMBERS = (*range(1, 22), 24, 25, 26)  # those of a sheet; 22 and 23 are those of a call
 
-ABSENT = {1: {24, 25, 26}, 2: {3, 8, 9, 25, 26}, 3: {3, 8, 9, 21, 26}, 4: {3, 6, 8, 9, 21}}  # what a version cannot have
+ABSENT = {1: {24, 25, 26}, 2: {3, 8, 9, 25, 26}, 3: {3, 8, 9, 21, 26},
+          4: {3, 6, 8, 9, 21}}  # what a version cannot have
 
 LEAST_SHEETS = {1: 420, 2: 150, 3: 150, 4: 150}
 
 LEAST_OF_A_NUMBER = 5
-
 LONGEST = 25_257  # one byte more than the longest sheet: ROOM of the program
 
 
 GROUPS = version1.GROUPS + version2.GROUPS + version3.GROUPS + version4.GROUPS
 
 
-def answered(case):
+def answered(case: Case) -> Case:
     """The case with the answer that the reckoning gives."""
     answer = reckoning.check(case.data) or ACCEPTED
     if case.answer not in (None, answer):
@@ -51,7 +51,7 @@ def answered(case):
 
 
 @functools.lru_cache(maxsize=None)
-def all_cases():
+def all_cases() -> list[Case]:
     """No sheet twice."""
     found = {}
     for case in chain.from_iterable(group() for group in GROUPS):
@@ -59,7 +59,7 @@ def all_cases():
     return [answered(case) for case in found.values()]
 
 
-def refused_cases():
+def refused_cases() -> list[Case]:
     """The first sheet for each number, of each version that can have it."""
     found = {}
     for case in all_cases():
@@ -67,7 +67,7 @@ def refused_cases():
     return [found[key] for key in sorted(found) if key[0]]
 
 
-def end_of(case):
+def end_of(case: Case) -> tuple[int, str | None] | None:
     """The number with "first" or "last" where the place is that of the first
     or last of several records."""
     number, place = case.answer
@@ -79,7 +79,7 @@ def end_of(case):
     return (number, {0: "first", count - 1: "last"}.get(index)) if count > 1 else None
 
 
-def missing(cases):
+def missing(cases: list[Case]) -> Iterator[str]:
     """What the sheets as a whole should show and do not."""
     numbers = Counter(case.answer[0] for case in cases)
     for number in NUMBERS:
@@ -100,7 +100,7 @@ def missing(cases):
         yield "no sheet of %d bytes, or a longer one" % LONGEST
 
 
-def other_part(before, data):
+def other_part(before: bytes, data: bytes) -> tuple[int, int]:
     """The ends of the part outside which two byte strings are alike; beyond the
     end of the one there are zeros."""
     x, y = (int.from_bytes(part, "little") for part in (before, data))
@@ -108,19 +108,20 @@ def other_part(before, data):
     return ((other & -other).bit_length() - 1) // 8 if other else 0, (other.bit_length() + 7) // 8
 
 
-def encoded(cases):
+def encoded(cases: list[Case]) -> bytes:
     parts = [packed(4, [len(cases)])]
     left = bytes(LONGEST)  # what the sheets so far have left at each place
     for case in cases:
         number, place = case.answer
         here = case.data + left[len(case.data):]
         start, end = other_part(left, here)
-        parts += [packed(2, [end - start, start]), packed(1, [number]), packed(2, [place, len(case.data)]), here[start:end]]
+        parts += [packed(2, [end - start, start]), packed(1, [number]), packed(2, [place, len(case.data)]),
+                  here[start:end]]
         left = here
     return b"".join(parts)
 
 
-def lines(cases):
+def lines(cases: list[Case]) -> Iterator[str]:
     for position, case in enumerate(cases, 1):
         yield "%4d  %-17s  %s" % (position, reckoning.answer_text(*case.answer), case.words)
 

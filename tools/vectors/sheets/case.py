@@ -15,7 +15,7 @@ class Case(NamedTuple):
     answer: Answer | None
 
 
-def of_record(plan, kind, i, change, number):
+def of_record(plan: Plan, kind: str, i: int, change: Record, number: int) -> Case:
     """The sheet with one record changed, and its answer: number 0 passes."""
     words = "%s %d of %d: %s" % (kind[:-1], i + 1, len(getattr(plan, kind)), said(change))
     answer = (number, plan.place(kind, i)) if number else ACCEPTED

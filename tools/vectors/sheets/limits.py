@@ -16,7 +16,7 @@ HEAD_FAULTS = (
 )
 
 
-def head_faults(*sheets):
+def head_faults(*sheets: bytes) -> Iterator[Case]:
     """Each fault in each of these sheets."""
     faults = [(number, place, at, b) for number, place, at, all_b in HEAD_FAULTS for b in all_b]
     for (number, place, at, b), data in product(faults, sheets):
@@ -157,7 +157,8 @@ METERED_LIMITS = [limit for limit in LIMITS if limit[1] != 21] + [("rows", *MILE
 # With check 20 beside the others. The canister is written, as not every row has
 # one by its class.
 MANY_LIMITS = [*METERED_LIMITS, (
-    "rows", 20, ({"canister": 1, "saturation": most(1, SEASON)},), ({"canister": 1, "saturation": most(1, SEASON) + 1},),
+    "rows", 20, ({"canister": 1, "saturation": most(1, SEASON)},),
+    ({"canister": 1, "saturation": most(1, SEASON) + 1},),
 )]
 
 # A change for each number of a record; any two of them apply together.

@@ -6,8 +6,8 @@ from itertools import combinations, product
 
 from tools.vectors.chance import Chance, chance_grid_plan
 from tools.vectors.plans import (
-    BASE, BASE_GRID, EXAMPLE, LARGE_GRID, LARGEST, ROW, ROW_FIELDS, SEASON, SEASON_FIELDS, SMALL_GRID, SMALLEST, counted, grid_of, most,
-    patched, record, sized,
+    BASE, BASE_GRID, EXAMPLE, LARGE_GRID, LARGEST, ROW, ROW_FIELDS, SEASON, SEASON_FIELDS, SMALL_GRID, SMALLEST,
+    counted, grid_of, most, patched, record, sized,
 )
 from tools.vectors.sheets.case import ACCEPTED, Case, of_record
 from tools.vectors.sheets.damage import DAMAGE
@@ -15,7 +15,7 @@ from tools.vectors.sheets.limits import GRID_PARTS, GRIDS, LIMITS, head_faults
 from tools.vectors.sheets.version1 import days_cases
 
 
-def odds_cases():
+def odds_cases() -> Iterator[Case]:
     """A version and the length of the other, and versions that are neither."""
     for plan in (EXAMPLE, SMALLEST, BASE, LARGEST):
         yield Case("version 2 of version 1's length, %s" % sized(plan), patched(plan.data(), 3, b"\2"), (7, 0))
@@ -27,11 +27,11 @@ def odds_cases():
         yield Case("version %s of version 2's length" % version.hex(), data, (3, 3))
 
 
-def grid_head_cases():
+def grid_head_cases() -> Iterator[Case]:
     return head_faults(SMALL_GRID.data()[:8])
 
 
-def grid_length_cases():
+def grid_length_cases() -> Iterator[Case]:
     """Short, long and miscounted."""
     data = SMALL_GRID.data()
     for length in (7, 8, 9, 103, 104, 1159, 1160, 1161, 1167, 1168, 1169, len(data) - 8, len(data) - 1):
@@ -47,7 +47,7 @@ def grid_length_cases():
     yield Case("version 2, the largest and a byte", data + b"\0", (7, 0))
 
 
-def grid_cases():
+def grid_cases() -> Iterator[Case]:
     for words, counts, passes in GRIDS:
         yield Case("grid: %s" % words, replace(SMALL_GRID, grid=counts).data(), ACCEPTED if passes else (24, 8))
         if words in ("sum 0", "sum 1000000 in the last", "sum 1000001 in the last"):
@@ -55,7 +55,7 @@ def grid_cases():
             yield Case("grid: %s, %s" % (words, sized(plan)), plan.data(), ACCEPTED if passes else (24, 8))
 
 
-def grid_record_cases():
+def grid_record_cases() -> Iterator[Case]:
     """Each limit of a record at its place in version 2: outside it in the first
     and in the last record, inside it in the last; and in the last record of the
     largest sheet."""
@@ -68,7 +68,7 @@ def grid_record_cases():
         yield of_record(LARGE_GRID, kind, len(getattr(LARGE_GRID, kind)) - 1, outside[0], number)
 
 
-def grid_days_cases():
+def grid_days_cases() -> Iterator[Case]:
     """The same with one cell in place of the lists; the seasons then start
     1160 - 104 bytes later."""
     for case in days_cases():
@@ -77,7 +77,7 @@ def grid_days_cases():
         yield Case("%s, version 2" % case.words, data, (number, place + 1056) if number else ACCEPTED)
 
 
-def grid_saturation_cases():
+def grid_saturation_cases() -> Iterator[Case]:
     """Check 20 on both sides, for each size; and where the last season and the
     last row alone decide."""
     for (highest, vp), canister, more in product(((0, 1000), (500, 300)), (1, 2, 3), (0, 1)):
@@ -90,14 +90,14 @@ def grid_saturation_cases():
         yield of_record(BASE_GRID.changed("seasons", 2, hot), "rows", j, row, 20 * more)
 
 
-def grid_part_cases():
+def grid_part_cases() -> Iterator[Case]:
     """A sum of 0 with each fault of the head, and any two parts behind it."""
     data, head, later = BASE_GRID.data(), GRID_PARTS[:5], GRID_PARTS[5:]
     for (a, place, first), (b, _, second) in (*product(head, later[1:2]), *combinations(later, 2)):
         yield Case("version 2: %d and %d" % (a, b), second(first(data)), (a, place))
 
 
-def grid_accepted_cases():
+def grid_accepted_cases() -> Iterator[Case]:
     for seasons, rows, total in ((1, 1, 1_000_000), (2, 3, 577), (5, 9, 123_456), (12, 1, 65_537), (12, 32, 1_000_000)):
         plan = chance_grid_plan(seasons, rows, total)
         yield Case("%s: grid by chance, sum %d" % (sized(plan), total), plan.data(), ACCEPTED)
@@ -105,7 +105,7 @@ def grid_accepted_cases():
         yield Case("%s: grid of products" % sized(plan), plan.data(), ACCEPTED)
 
 
-def grid_damaged_cases():
+def grid_damaged_cases() -> Iterator[Case]:
     """The sum stands at its limit, so that half of what befalls the grid takes
     it past."""
     chance = Chance("damage of grids")
@@ -116,6 +116,6 @@ def grid_damaged_cases():
 
 
 GROUPS = (
-    odds_cases, grid_head_cases, grid_length_cases, grid_cases, grid_record_cases, grid_days_cases, grid_saturation_cases,
-    grid_part_cases, grid_accepted_cases, grid_damaged_cases,
+    odds_cases, grid_head_cases, grid_length_cases, grid_cases, grid_record_cases, grid_days_cases,
+    grid_saturation_cases, grid_part_cases, grid_accepted_cases, grid_damaged_cases,
 )

@@ -6,8 +6,8 @@ from itertools import product
 
 from tools.vectors.chance import Chance, chance_metered_plan
 from tools.vectors.plans import (
-    BASE_GRID, BASE_METERED, CLASSES, DRIVEN, ROW_FIELDS, SEASON, SEASON_FIELDS, SMALL_METERED, SMALLEST, metered, most, patched, record,
-    said, sized,
+    BASE_GRID, BASE_METERED, CLASSES, DRIVEN, ROW_FIELDS, SEASON, SEASON_FIELDS, SMALL_METERED, SMALLEST, metered, most,
+    patched, record, said, sized,
 )
 from tools.vectors.sheets.case import ACCEPTED, Case, of_record
 from tools.vectors.sheets.damage import part_overwritten, record_byte_changed
@@ -21,7 +21,7 @@ MILEAGES = (1, 16, 17, 255, 256, 65_535, 65_536, 2 ** 19, 999_999, 1_000_000)
 MILEAGES_BEYOND = (1_000_001, 2 ** 20, 2 ** 24, 2 ** 31, 2 ** 32 - 1)
 
 
-def mileage_cases():
+def mileage_cases() -> Iterator[Case]:
     """What passes or not in version 3 does not pass in version 2."""
     for km in MILEAGES + MILEAGES_BEYOND:
         yield of_record(SMALL_METERED, "rows", 0, {"mileage": km}, 25 if km in MILEAGES_BEYOND else 0)
@@ -29,7 +29,7 @@ def mileage_cases():
         yield case._replace(words=case.words + ", version 2")
 
 
-def metered_record_cases():
+def metered_record_cases() -> Iterator[Case]:
     """Number 25 on both sides of all its limits, outside in the first and in the
     last row; and each other limit of a record outside, likewise."""
     number, inside, outside = MILEAGE_LIMITS
@@ -41,7 +41,7 @@ def metered_record_cases():
         yield of_record(BASE_METERED, kind, last, outside[-1], number)
 
 
-def fitted_cases():
+def fitted_cases() -> Iterator[Case]:
     """A mileage with the canister of each class and without one, by class; and
     with one written where the class has none, and the other way round."""
     for vehicle_class, (_, canisters) in CLASSES.items():
@@ -52,7 +52,7 @@ def fitted_cases():
         yield of_record(SMALL_METERED, "rows", 0, {"class": vehicle_class, "technology": 0, "canister": 3}, 0)
 
 
-def metered_saturation_cases():
+def metered_saturation_cases() -> Iterator[Case]:
     """a + b.s.m_sat on both sides of 0, for each size in cold and heat. At
     0.0 C and 100.0 kPa a medium canister of 125.0 g stands at 0 exactly, and
     passes. Without a mileage all of these pass."""
@@ -67,7 +67,7 @@ def metered_saturation_cases():
             yield of_record(plan, "rows", 0, {**row, "mileage": 0}, 0)
 
 
-def metered_season_cases():
+def metered_season_cases() -> Iterator[Case]:
     """The same where one of several seasons alone decides, in the first and in
     the last row."""
     hot = {"highest": 500, "vp": 300}
@@ -80,7 +80,7 @@ def metered_season_cases():
         yield case._replace(words="%s, hot in season %d" % (case.words, i + 1))
 
 
-def metered_order_cases():
+def metered_order_cases() -> Iterator[Case]:
     """25 with each other number of a row: behind it in one row, and before it
     where the other is in the next. And behind what stands before the rows."""
     for number in range(13, 21):
@@ -105,7 +105,7 @@ def metered_order_cases():
         yield Case("version 3: %d and 25" % number, edit(data), (number, place))
 
 
-def metered_form_cases():
+def metered_form_cases() -> Iterator[Case]:
     """Head, length and grid of version 3, and the same bytes as another."""
     data = SMALL_METERED.data()
     yield from head_faults(data[:8])
@@ -130,14 +130,14 @@ def metered_form_cases():
             yield Case("version 3, grid: %s" % words, plan.data(), ACCEPTED if passes else (24, 8))
 
 
-def metered_accepted_cases():
+def metered_accepted_cases() -> Iterator[Case]:
     for size in ((1, 1), (2, 3), (5, 9), (1, 32), (12, 2)):
         plan = chance_metered_plan(*size)
         yield Case("%s: mileages by chance" % sized(plan), plan.data(), ACCEPTED)
     yield Case("%s: version 3" % sized(BASE_METERED), BASE_METERED.data(), ACCEPTED)
 
 
-def metered_damaged_cases():
+def metered_damaged_cases() -> Iterator[Case]:
     chance = Chance("damage of mileages")
     for damage, _ in product((record_byte_changed, part_overwritten), range(8)):
         plan = chance_metered_plan(2, 3)
@@ -146,6 +146,6 @@ def metered_damaged_cases():
 
 
 GROUPS = (
-    metered_accepted_cases, metered_form_cases, mileage_cases, metered_record_cases, fitted_cases, metered_saturation_cases,
-    metered_season_cases, metered_order_cases, metered_damaged_cases,
+    metered_accepted_cases, metered_form_cases, mileage_cases, metered_record_cases, fitted_cases,
+    metered_saturation_cases, metered_season_cases, metered_order_cases, metered_damaged_cases,
 )

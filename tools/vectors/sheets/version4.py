@@ -6,8 +6,8 @@ from itertools import chain, product
 
 from tools.vectors.chance import Chance, chance_many_plan
 from tools.vectors.plans import (
-    BASE_MANY, DRIVEN, FULL_MANY, MOST_OF_ALL, MOST_OF_ROW, ROW_FIELDS, SEASON, SEASON_FIELDS, SMALL_MANY, SMALLEST, VERSIONS, Plan,
-    counted, in_turn, many, patched, plain, record, sized, with_vehicles,
+    BASE_MANY, DRIVEN, FULL_MANY, MOST_OF_ALL, MOST_OF_ROW, ROW_FIELDS, SEASON, SEASON_FIELDS, SMALL_MANY, SMALLEST,
+    VERSIONS, Plan, counted, in_turn, many, patched, plain, record, sized, with_vehicles,
 )
 from tools.vectors.sheets.case import ACCEPTED, Case, of_record
 from tools.vectors.sheets.damage import DAMAGE
@@ -21,13 +21,14 @@ COUNTS_OF_ROWS = (1, 2, 31, 32, 33, 255, 256, 257, 512, 999, 1000)
 COUNTS_BEYOND = (0, 1001, 1023, 1024, 1256, 1280, 2048, 8192, 32_768, 65_280, 65_535)
 
 
-def many_head_cases():
+def many_head_cases() -> Iterator[Case]:
     """Heads that nothing follows; the count of rows is looked at before the
     length. In the other versions byte 7 is no part of it."""
     head = SMALL_MANY.data()[:8]
     for number, place, at, all_b in HEAD_FAULTS:
         if number < 5:
-            yield from (Case("version 4, head: %s at byte %d" % (b.hex(), at), patched(head, at, b), (number, place)) for b in all_b)
+            yield from (Case("version 4, head: %s at byte %d" % (b.hex(), at), patched(head, at, b), (number, place))
+                        for b in all_b)
     for rows in COUNTS_BEYOND + COUNTS_OF_ROWS:
         answer = (5, 6) if rows in COUNTS_BEYOND else (7, 0)
         yield Case("version 4, head: %d rows" % rows, patched(head, 6, counted([rows])), answer)
@@ -40,7 +41,7 @@ def many_head_cases():
     yield Case("version 4, head: 7 bytes", head[:7], (1, 0))
 
 
-def many_form_cases():
+def many_form_cases() -> Iterator[Case]:
     """Length and grid of version 4, and the same bytes as another version."""
     data = SMALL_MANY.data()
     for length in (9, 104, 136, 1160, 1168, len(data) - 24, len(data) - 1):
@@ -65,7 +66,7 @@ def many_form_cases():
         yield Case("version 4, %s" % sized(plan), plan.data(), ACCEPTED if 1 <= seasons <= 12 else (4, 5))
 
 
-def many_count_cases():
+def many_count_cases() -> Iterator[Case]:
     """All the rows that the head tells of, more than that, a byte less and a
     byte more; and the same as version 3."""
     before = 31
@@ -83,7 +84,7 @@ def many_count_cases():
         before = rows
 
 
-def many_record_cases():
+def many_record_cases() -> Iterator[Case]:
     """Each limit of a record outside in the first and in the last one, and 25
     for all its reasons; what passes there."""
     number, inside, outside = MILEAGE_LIMITS
@@ -97,7 +98,7 @@ def many_record_cases():
         yield from (of_record(BASE_MANY, kind, 1, change, 0) for change in inside[:1] if number != 25)
 
 
-def of_vehicles(plan, vehicles, stop=None, number=26):
+def of_vehicles(plan: Plan, vehicles: dict[int, int], stop: int | None = None, number: int = 26) -> Case:
     """The sheet with these vehicles; `stop` is the row where it stops."""
     plan = with_vehicles(plan, vehicles)
     words = ", ".join("%d in row %d" % (n, i + 1) for i, n in vehicles.items())
@@ -105,7 +106,7 @@ def of_vehicles(plan, vehicles, stop=None, number=26):
     return Case("version %d, %s, vehicles: %s" % (plan.version(), sized(plan), words), plan.data(), answer)
 
 
-def many_vehicles_cases():
+def many_vehicles_cases() -> Iterator[Case]:
     """The sum of vehicles on both sides of its limit, at the first row that can
     pass it and at the next; no other version has the limit."""
     yield of_vehicles(FULL_MANY, {10: 1}, 10)
@@ -139,7 +140,7 @@ def many_vehicles_cases():
 PAST = {"vehicles": 1}
 
 
-def many_order_cases():
+def many_order_cases() -> Iterator[Case]:
     """26 with each other number of a row: behind 13 to 16 and before the later
     ones in one row; before all of them where they are in the next row, and
     behind them where they are in one before. And behind what stands before the
@@ -157,7 +158,7 @@ def many_order_cases():
             yield case._replace(words="26 in row 11 and %d in row %d" % (number, i + 1))
 
 
-def vehicles_before_cases():
+def vehicles_before_cases() -> Iterator[Case]:
     """26 behind what stands before the rows."""
     past = FULL_MANY.changed("rows", 10, PAST)
     for number, change in SEASON_FAULTS.items():
@@ -170,18 +171,18 @@ def vehicles_before_cases():
     yield Case("version 4: 5 and 26", patched(data, 6, counted([1001])), (5, 6))
 
 
-def row_faults(plan, i):
+def row_faults(plan: Plan, i: int) -> Iterator[Case]:
     """Each number of a row in this one."""
     return (of_record(plan, kind, i, outside[0], number) for kind, number, _, outside in MANY_LIMITS if kind == "rows")
 
 
-def many_far_cases():
+def many_far_cases() -> Iterator[Case]:
     """Where a count of rows in one byte, or one up to 32, would not reach."""
     plan = many((SEASON,) * 2, in_turn(300))
     return chain.from_iterable(row_faults(plan, i) for i in (32, 255, 256, 299))
 
 
-def many_far_vehicles_cases():
+def many_far_vehicles_cases() -> Iterator[Case]:
     """Ten full rows, and the vehicle that is too many in one far behind; then
     as many in each row as a thousand rows can have on average."""
     plan = with_vehicles(many((SEASON,), in_turn(300, 0)), dict.fromkeys(range(10), MOST_OF_ROW))
@@ -200,7 +201,7 @@ def many_far_vehicles_cases():
     yield of_vehicles(plan, {0: average + 1, 998: 2 * average - 1, 999: MOST_OF_ROW + 1}, 999, 16)
 
 
-def many_largest_cases():
+def many_largest_cases() -> Iterator[Case]:
     """The longest sheet that there is, and each number of a row in the last of
     its rows."""
     plan = many((SEASON,) * 12, in_turn(1000, MOST_OF_ALL // 1000))
@@ -214,13 +215,13 @@ def many_largest_cases():
     yield of_vehicles(plan, {999: MOST_OF_ALL // 1000 + 1}, 999)
 
 
-def many_accepted_cases():
+def many_accepted_cases() -> Iterator[Case]:
     for size in ((1, 1), (2, 3), (12, 33), (3, 100), (1, 260)):
         plan = chance_many_plan(*size)
         yield Case("version 4, %s: values by chance" % sized(plan), plan.data(), ACCEPTED)
 
 
-def many_damaged_cases():
+def many_damaged_cases() -> Iterator[Case]:
     chance = Chance("damage of many rows")
     data = chance_many_plan(2, 40).data()
     for damage, _ in product(DAMAGE[:-1], range(3)):
