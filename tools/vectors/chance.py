@@ -16,19 +16,19 @@ class Chance:
     """Numbers with no order in them, the same in every run and on every
     machine."""
 
-    def __init__(self, name):
+    def __init__(self, name: str):
         self.name = name
         self.drawn = 0
 
-    def below(self, n):
+    def below(self, n: int) -> int:
         self.drawn += 1
         digest = hashlib.sha256(f"{self.name} {self.drawn}".encode()).digest()
         return int.from_bytes(digest, "little") % n
 
-    def between(self, first, last):
+    def between(self, first: int, last: int) -> int:
         return first + self.below(last - first + 1)
 
-    def one_of(self, things):
+    def one_of(self, things: Sequence[Thing]) -> Thing:
         return things[self.below(len(things))]
 
 

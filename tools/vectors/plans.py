@@ -63,34 +63,36 @@ class Plan:
     lists, version 2 with a grid, of 576 counts in the order of the sheet,
     version 3 where `metered` says that its rows may have a mileage, and version
     4 where `many` says that it may have a thousand."""
-    seasons: tuple
-    rows: tuple
-    durations: tuple = tuple(range(24, 0, -1))
-    hours: tuple = tuple(range(1, 25))
-    grid: tuple = None
+    seasons: tuple[Record, ...]
+    rows: tuple[Record, ...]
+    durations: Counts = tuple(range(24, 0, -1))
+    hours: Counts = tuple(range(1, 25))
+    grid: Counts | None = None
     metered: bool = False
     many: bool = False
 
-    def version(self):
+    def version(self) -> int:
         return 1 if self.grid is None else 4 if self.many else 3 if self.metered else 2
 
-    def gridded(self):
+    def gridded(self) -> "Plan":
         """The same in version 2: the grid holds the products of the lists, end
         hour 1 first, its 24 durations in a row."""
         return replace(self, grid=tuple(j * q for q in self.hours for j in self.durations))
 
-    def changed(self, kind, i, change):
+    def changed(self, kind: str, i: int, change: Record) -> "Plan":
         """The same with some values of one record changed, `kind` being
         "seasons" or "rows"."""
         records = list(getattr(self, kind))
         records[i] = {**records[i], **change}
         return replace(self, **{kind: tuple(records)})
 
-    def place(self, kind, i):
+    def place(self, kind: str, i: int) -> int:
+        """Where a record starts."""
         start = 104 if self.grid is None else 1160
         return start + 8 * i if kind == "seasons" else start + 8 * len(self.seasons) + 24 * i
 
-    def data(self):
+    def data(self) -> bytes:
+        """The bytes of the sheet."""
         head = b"EVP" + bytes([self.version(), 0, len(self.seasons)]) + counted([len(self.rows)])
         parking = counted(self.durations + self.hours if self.grid is None else self.grid)
         seasons = [record(SEASON_FIELDS, season) for season in self.seasons]

@@ -108,8 +108,9 @@ def plan_of(version: int, rows: Iterable[Record], grid: tuple[int, ...] = GRID) 
     return Plan((SEASON,), tuple(rows), grid=grid, metered=version > 2, many=version == 4)
 
 
-def ledger(words, version, counts, owners, asks, whose=None, like=False):
-    return Case(words, plan_of(version, rows_with(counts, version)).data(), bytes(owners), list(asks), whose, like)
+def ledger(words: str, version: int, counts: Iterable[int], owners: Iterable[int], asks: Iterable[Ask]) -> Case:
+    """A ledger of rows of several kinds with these counts; no answer of it is kept."""
+    return Case(words, plan_of(version, rows_with(counts, version)).data(), bytes(owners), list(asks), None, False)
 
 
 def table_cases() -> Iterator[Case]:
@@ -182,7 +183,7 @@ def chance_ask(chance: Chance, whos: Sequence[int], rows: Sequence[int]) -> Ask:
     return Ask(kind, chance.one_of(whos), chance.one_of(rows), 0 if kind >= READ_ROW else vehicles)
 
 
-def pair(position, versions, whose):
+def pair(position: int, versions: tuple[int, int], whose: int) -> Iterator[Case]:
     """Two ledgers in which the same rows are a participant's, alike, and all else
     by chance: the other rows, their owners, how many there are behind, and the
     calls of the others between those of the participant. Beside a version 1 sheet
