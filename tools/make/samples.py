@@ -17,7 +17,7 @@ Fitted = tuple[str, str | int, str] | None
 
 HEAD = """\
 # A made-up region split by district: twelve districts of 25 rows each. More than
-# 32 rows and a grid make a sheet of version 4. tools/districts.py wrote this text.
+# 32 rows and a grid make a sheet of version 4. tools/make/samples.py wrote this.
 #
 # Parkings counted by end hour and duration together: nights at home, days at
 # work, and errands.
