@@ -5,6 +5,7 @@ use ledger_runs::opens;
 use ledger_runs::report_into;
 use ledger_runs::room_of;
 use libc::STDIN_FILENO;
+use vectors::bytes::LONGEST;
 use vectors::bytes::copy;
 use vectors::input::COUNT;
 use vectors::input::record_at;
@@ -27,9 +28,6 @@ const HEAD: usize = 10;
 // The bytes of a call: one that tells an arrival, 0, from a departure, 1; the row and the vehicles in eight each; the number that is expected in
 // one and the place in two; then the place in the sheet of the count that is changed in two, 0 where none is, and that count in four
 const CALL: usize = 26;
-
-// The bytes of the longest sheet
-const LONGEST: usize = 25256;
 
 // What is looked at in one pass: the openings, the calls that are to pass, or those that are to be refused
 const OPENINGS: u64 = 0;
@@ -108,7 +106,7 @@ fn with_copy(sheet: &mut [u8], room: usize, calls: &[u8], look: Look, tally: Tal
     requires { ⌜ (length (now sheet) ≤ 25256) × (room ≤ 6144) ⌝ }
 {
     let n = sheet.len();
-    let mut expected = [0u8; 25256];
+    let mut expected = vectors::bytes::room();
     copy(&mut expected, sheet);
     with_words(sheet, &mut expected[0..n], room, calls, look, tally)
 }
@@ -122,7 +120,7 @@ fn with_ledger(s: &[u8], calls: &[u8], head: &[u8], look: Look, tally: Tally) ->
     }
     let room = room_of(head);
     let n = s.len();
-    let mut sheet = [0u8; 25256];
+    let mut sheet = vectors::bytes::room();
     copy(&mut sheet, s);
     with_copy(&mut sheet[0..n], room, calls, look, tally)
 }

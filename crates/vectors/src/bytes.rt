@@ -1,6 +1,17 @@
 // The bytes of a sheet: a copy that calls may change, and whether two are the same.
+ghost use mathlib.Core.Path.{_≡_};
 ghost use Prim.Native.Nat.{_≤_};
 ghost use lib.ListN.{length};
+
+// The bytes of the longest sheet
+pub const LONGEST: usize = 25256;
+
+// Zeros for the longest sheet. The `ensures` gives only the length, which lending the array as a slice needs.
+pub fn room() -> [u8; 25256]
+    ensures { λ r. ⌜ 25256 ≡ length r ⌝ }
+{
+    [0; 25256]
+}
 
 // The first bytes of a buffer become these.
 pub fn copy(buffer: &mut [u8], s: &[u8])

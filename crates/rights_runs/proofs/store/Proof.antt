@@ -1,11 +1,11 @@
--- `rights_vectors::store` is safe and ends. The loop's invariant: the words keep their number. The measure is what is left to store.
+-- `rights_runs::store` is safe and ends. The loop's invariant: the words keep their number. The measure is what is left to store.
 use mathlib.Core.Path.{_≡_, refl}
 use Prim.Native.Nat.{_-_, _≤_}
 use borrow.Author.Needs.{needs}
 use native.Mathlib.Omega.{arith}
 use lib.ListN.{length, length-set}
-use Rattle.rights_vectors.proofs.store.Statement.{statement}
-use Rattle.rights_vectors.proofs.store.Tie as tie
+use Rattle.rights_runs.proofs.store.Statement.{statement}
+use Rattle.rights_runs.proofs.store.Tie as tie
 
 abbrev Inv-loop : tie.InvT-loop
 Inv-loop words₀ place told i₀ words i = (i ≤ length told) × (length words ≡ length words₀)
