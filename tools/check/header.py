@@ -19,7 +19,6 @@ from tools.command import TOP
 HEADER = "include/evaporation.h"
 CRATE = "crates/evaporation/src/*.rt"
 ALL_CRATES = "crates/*/src/**/*.rt"
-
 SCALARS = {"u8": "uint8_t", "u32": "uint32_t", "u64": "uint64_t", "usize": "size_t", "f64": "double", "bool": "bool"}
 SIZES = {"uint8_t": 1, "bool": 1, "uint32_t": 4, "uint64_t": 8, "size_t": 8, "double": 8}
 LENGTHS = ("bytes", "count")

@@ -43,7 +43,6 @@ PLANS = {
 }
 
 NS = (40, 60)
-
 MECHANISMS = ("diurnal", "soak", "running")
 
 # The sheet of docs/READING.md: its summer, counted from 0, at another pressure.
@@ -57,6 +56,9 @@ class Pair(NamedTuple):
     place: int
     lower: bytes
     higher: bytes
+
+
+# ------------------------------------------------------------------- the pairs
 
 
 def settled(plan: Plan) -> Plan:
@@ -103,6 +105,9 @@ def missing(every: list[Pair]) -> Iterator[str]:
             yield "no pair of version %d %s" % (version, ends)
 
 
+# --------------------------------------------------------------- what is asked
+
+
 def open_rows(data: bytes) -> list[int]:
     """The rows without canister, counted from 0."""
     rows = reckoning.read(data).rows
@@ -142,6 +147,9 @@ def faults(pair: Pair, lower: list[list[int]], higher: list[list[int]]) -> Itera
                     yield "%s: the exact mass falls, n = %d" % (where, n)
                 if not (low <= less[m] <= high and other_low <= more[m] <= other_high):
                     yield "%s: an exact mass is not in its band, n = %d" % (where, n)
+
+
+# ------------------------------------------------------------- docs/READING.md
 
 
 def shown() -> Iterator[str]:

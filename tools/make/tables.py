@@ -49,11 +49,8 @@ def entry(c: Fraction, n: int) -> int:
 
 # below 0 the series stands in a denominator, and 40 terms are needed for one unit
 COARSE = [entry(Fraction(h - 256, 16), 40 if h < 256 else 30) for h in range(322)]
-
 MIDDLE = [entry(Fraction(m, 4096), 8) for m in range(256)]
-
 FAR = [int(FAR_UNIT * bounds(Fraction(c), 40)[0] // 1) for c in range(15)]
-
 FAR_ABOVE = [int(-(-FAR_UNIT * bounds(Fraction(c), 40)[1] // 1)) for c in range(15)]
 
 

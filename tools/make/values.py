@@ -17,7 +17,6 @@ from tools.command import MadeFile
 from tools.make.error import MakeError
 
 PATH = "crates/exact/proofs/Values.antt"
-
 CANISTERS = ("None", "Small", "Medium", "Large")
 
 

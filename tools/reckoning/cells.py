@@ -10,7 +10,6 @@ from typing import NamedTuple
 LIMIT = 2 ** 53
 TRAVEL_LIMIT = 1_000_000
 TRAVEL_WRONG, CELL_WRONG = 28, 27
-
 EMPTY, EXACT, BAND = range(3)
 
 
@@ -47,11 +46,12 @@ class Row(NamedTuple):
     travel: Travel
 
 
+# ------------------------------------------------------------------- doubles
+
 FRACTION = 2 ** 52
 TOP_EXPONENT = 2047
 MINUS = 2 ** 63
 INFINITY = TOP_EXPONENT * FRACTION
-
 NANS = (INFINITY + FRACTION // 2, INFINITY + 1, MINUS + INFINITY + FRACTION // 2, MINUS + INFINITY + FRACTION - 1)
 
 
@@ -81,6 +81,9 @@ def mass_of(bits: int) -> int | None:
     """The whole number from 0 to 2^53 that a double is, or None."""
     value = value_of(bits)
     return int(value) if value is not None and value.denominator == 1 and 0 <= value <= LIMIT else None
+
+
+# --------------------------------------------------------------------- cells
 
 
 def cell_of(low: int, high: int) -> Cell:

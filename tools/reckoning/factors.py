@@ -145,11 +145,8 @@ def _raised(day: Day, row: Row, rise: Fraction) -> Callable:
 
 
 SOAK_RISE_CAR = {3: Fraction(9, 2), 4: Fraction(6)}
-
 RUNNING_RISE_CAR = {6: Fraction(1), 7: Fraction(5)}
-
 SOAK_RISE_TWO = {2: Fraction(3, 2), 3: Fraction(7, 2), 4: Fraction(7, 2)}
-
 RUNNING_RISE_TWO = {5: Fraction(1), 6: Fraction(5, 2), 7: Fraction(5, 2)}
 
 

@@ -9,7 +9,6 @@ from tools.reckoning.format import row_count, row_place, version_of
 
 VERSION = 4
 FIRST, SECOND, POOLED = 1, 2, 3  # which sheet a refusal is of, as evp_pool says it
-
 NAMES = {FIRST: "first", SECOND: "second", POOLED: "pooled"}
 
 

@@ -9,9 +9,7 @@ from tools.reckoning.ledger import MOST_OF_ALL, MOST_OF_ROW
 
 PARTICIPANTS, ROWS_EACH, VEHICLES_EACH = range(1, 9), 100, 10_000_000
 MARKER = 0
-
 ARRIVAL, DEPARTURE, READ_ROW, READ_TOTALS = range(4)
-
 KINDS = ("an arrival", "a departure", "a row", "the totals")
 
 

@@ -27,9 +27,7 @@ def entries(printed: str) -> Iterator[tuple[str, Fraction]]:
 
 
 TABLE = [entry for printed in GROUPS.values() for entry in entries(printed)]
-
 NAMES = [name for name, _ in TABLE]
-
 SHARES = [share for _, share in TABLE]
 
 

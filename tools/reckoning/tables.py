@@ -4,7 +4,6 @@ import decimal
 from fractions import Fraction
 
 NONE, SMALL, MEDIUM, LARGE, BY_CLASS = 0, 1, 2, 3, 255
-
 CANISTER_NAMES = {NONE: "none", SMALL: "small", MEDIUM: "medium", LARGE: "large"}
 
 # s of eq. 9: a small canister fills sooner, so its s is the larger one.

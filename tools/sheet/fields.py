@@ -3,6 +3,7 @@
 import re
 from typing import NamedTuple
 
+PLACES = {1: 0, 10: 1, 100: 2}  # the decimal places of a unit of so many parts
 CANISTERS = {"none": 0, "small": 1, "medium": 2, "large": 3, "class": 255}
 
 
@@ -17,7 +18,7 @@ class Field(NamedTuple):
     @property
     def places(self) -> int:
         """The decimal places that a value can have."""
-        return len(str(self.parts)) - 1
+        return PLACES[self.parts]
 
     def limits(self) -> tuple[int, int]:
         """The smallest and the largest value, in parts."""
@@ -34,12 +35,11 @@ ROW_FIELDS = (
     Field("load", 2, False, 10), Field("saturation", 2, False, 10),
 )
 MILEAGE = Field("mileage", 4)  # behind them in versions 3 and 4
-
 MOST_ROWS = 32  # up to version 3
 LISTS = ("durations", "hours")
 GRID = tuple("grid %d" % t for t in range(1, 25))  # a list for each end hour
-
 MOST_DIGITS = 12  # no field holds a number of more
+NUMBER = re.compile(r"([+-]?)0*([0-9]+)(?:\.([0-9]+))?", re.ASCII)
 
 
 class TextError(Exception):
@@ -48,7 +48,7 @@ class TextError(Exception):
 
 def encode(word: str, field: Field) -> bytes:
     """A decimal word as the bytes of its field."""
-    form = re.fullmatch(r"([+-]?)0*([0-9]+)(?:\.([0-9]+))?", word, re.ASCII)
+    form = NUMBER.fullmatch(word)
     if form is None:
         raise TextError("%s: %r is no number" % (field.name, word))
     sign, whole, fraction = form[1], form[2], form[3] or ""
@@ -88,7 +88,7 @@ def decimal(value: int, parts: int) -> str:
     """So many parts as a decimal word."""
     if parts == 1:
         return str(value)
-    places = len(str(parts)) - 1
+    places = PLACES[parts]
     sign, value = ("-", -value) if value < 0 else ("", value)
     return "%s%d.%0*d" % (sign, value // parts, places, value % parts)
 

@@ -7,6 +7,9 @@ from tools.sheet.fields import (
     version_for, whole_number,
 )
 
+SEASON_NAMES = tuple(field.name for field in SEASON_FIELDS)
+ROW_NAMES = (*(field.name for field in ROW_FIELDS), "mileage", "spare")
+
 # Lines that may stand once, and the value of each.
 SINGLE: dict[str, Callable[[str], int | bytes]] = {
     "letters": lambda word: hexadecimal(word, "letters", 3),
@@ -150,7 +153,7 @@ def _end_hour(words: tuple[str, ...]) -> str:
     return name
 
 
-def _fields(words: Iterable[str], wanted: list[str]) -> dict[str, str]:
+def _fields(words: Iterable[str], wanted: tuple[str, ...]) -> dict[str, str]:
     """The name=value words of a line, each name known and given once."""
     found: dict[str, str] = {}
     for word in words:
@@ -166,7 +169,7 @@ def _fields(words: Iterable[str], wanted: list[str]) -> dict[str, str]:
 
 
 def _season(words: Iterable[str]) -> bytes:
-    given = _fields(words, [field.name for field in SEASON_FIELDS])
+    given = _fields(words, SEASON_NAMES)
     record = b""
     for field in SEASON_FIELDS:
         if field.name not in given:
@@ -176,7 +179,7 @@ def _season(words: Iterable[str]) -> bytes:
 
 
 def _row(words: Iterable[str]) -> bytes:
-    given = _fields(words, [field.name for field in ROW_FIELDS] + ["mileage", "spare"])
+    given = _fields(words, ROW_NAMES)
     for name in ("class", "technology"):
         if name not in given:
             raise TextError("row: %s is missing" % name)

@@ -19,7 +19,6 @@ from tools.vectors.frame import VectorSet, packed
 Vectors = tuple[list[tuple[int, ...]], list[tuple[int, ...]]]  # of exponents and of temperatures
 
 TERMS = (40, 60)
-
 EXPONENT_UNIT = 10 ** 14
 EXPONENT_SHIFT = 16
 EXPONENT_LIMIT = 201 * 10 ** 13  # the first that is not served

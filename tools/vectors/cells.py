@@ -27,10 +27,11 @@ class Sum(NamedTuple):
 
 Vectors = tuple[list[Row], list[Sum]]
 
+
+# ---------------------------------------------------------------------- rows
+
 WORKED = Row(Words(3875007, 3875009, 8463293, 8463295, 1843000, 1843002), Travel(1, 6000, 4500, 3000, 60, 100))
-
 LEVEL = Travel(1, 1, 1, 1, 1, 1)
-
 BEYOND = (0, TRAVEL_LIMIT + 1, 2 ** 32, 2 ** 64 - 1)
 
 
@@ -86,6 +87,8 @@ def chance_rows(count: int) -> Iterator[Row]:
         travel = [chance.between(1, chance.one_of((1, 10, 130, 20000, TRAVEL_LIMIT))) for _ in range(5)]
         yield Row(Words(*words), Travel(chance.below(2), *travel))
 
+
+# ---------------------------------------------------------------------- sums
 
 # what a caller may hand in where a mass should be
 SPECIAL = {
@@ -153,6 +156,9 @@ def chance_sums(count: int) -> Iterator[Sum]:
     chance = Chance("sums of cells")
     for _ in range(count):
         yield Sum(chance_cell(chance), chance_cell(chance))
+
+
+# ------------------------------------------------------------------ the file
 
 
 def found() -> Vectors:

@@ -28,19 +28,16 @@ from tools.vectors.plans import (
 )
 
 TERMS = (40, 60)
-
 NANOGRAMS = 10 ** 9
 
 # How far a value must lie from a whole number that it is not, so that
 # the reckoning's decimals (good to 10^-84 g) leave its whole part in no doubt.
 CLEAR = Fraction(1, 10 ** 40)
-
 LEAST_FACTORS = 260
 LEAST_OF_A_FACTOR = 30
 LEAST_OF_GRIDS = 100  # of version 2
 LEAST_OF_MILEAGES = 150  # of rows with a mileage
 LEAST_BEYOND = 30  # of rows behind the first 32
-
 ALL = range(1, 8)
 
 
@@ -50,6 +47,8 @@ class Group(NamedTuple):
     data: bytes
     calls: list
 
+
+# ------------------------------------------------------------------ parkings
 
 # A car without canister.
 PLAIN = {**ROW, "class": 1, "technology": 0, **EMPTY}
@@ -65,6 +64,8 @@ def single_groups() -> Iterator[Group]:
         calls = [*product((0,), (0,), ALL), (0, 1, 1), (0, 1, 3)]
         yield Group("parking of %d half-hours to hour %d" % cell, plan.data(), calls)
 
+
+# --------------------------------------------------------------- the limits
 
 WEATHER = tuple(
     {"days": 30, "lowest": lowest, "highest": highest, "vp": vp}
@@ -118,6 +119,9 @@ def pair_groups() -> Iterator[Group]:
         yield Group("classes and canisters", Plan((season,), part, *FEW).data(), calls)
 
 
+# --------------------------------------------------- samples and by chance
+
+
 def sample_groups() -> Iterator[Group]:
     """Tables 3-12 and 3-13 as parkings: Table 3-5, and the region."""
     data = (SAMPLES / "table-3-5.evp").read_bytes()
@@ -140,6 +144,8 @@ def chance_groups() -> Iterator[Group]:
         calls = [(chance.below(seasons), j % rows, 1 + chance.below(7)) for j in range(16)]
         yield Group("values by chance", data, sorted(set(calls)))
 
+
+# ---------------------------------------------------------------- version 2
 
 # A car without canister and a two-wheeler with one, on a day that crosses 0 C.
 TWO_ROWS = Plan(
@@ -199,6 +205,8 @@ def chance_grid_groups() -> Iterator[Group]:
         yield Group("grid by chance, sum %d" % total, data, sorted(set(calls)))
 
 
+# ---------------------------------------------------------------- version 3
+
 # Up to 16 km an empty canister has them, from 17 km on none has.
 MILEAGES = (1, 16, 17, 1_000, 1_000_000)
 
@@ -247,6 +255,9 @@ def chance_mileage_groups() -> Iterator[Group]:
         yield Group("mileages by chance", plan.data(), sorted(set(calls)))
 
 
+# ---------------------------------------------------------------- version 4
+
+
 def many_group() -> Group:
     """Both sides of what one byte counts and of the most rows of the other
     versions, and the last of a thousand; no row has the fill level of one that
@@ -259,6 +270,8 @@ def many_group() -> Group:
     plan = replace(many((SEASON,), rows), grid=FIVE)
     return Group("a thousand rows", plan.data(), calls + absent)
 
+
+# ------------------------------------------------------------------ refused
 
 LARGEST = 2 ** 64 - 1
 
@@ -283,6 +296,9 @@ def refused_groups() -> Iterator[Group]:
     row and factor are there or not."""
     for case in sheets.refused_cases():
         yield Group(case.words, case.data, [(0, 0, 1), (LARGEST, LARGEST, 0)])
+
+
+# ------------------------------------------------------------------ the file
 
 
 class Call(NamedTuple):

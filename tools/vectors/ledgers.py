@@ -30,6 +30,9 @@ LEAST_CALLS = 2_000
 LEAST_OF_A_KIND = 20
 
 
+# -------------------------------------------------------------------- ledgers
+
+
 class Case(NamedTuple):
     """A ledger and the calls on it; `room` is how many words are lent."""
     words: str
@@ -81,13 +84,13 @@ def roomy(words: str, plan: Plan, calls: list[Call]) -> Case:
     return Case(words, plan.data(), WORDS, calls)
 
 
+# ----------------------------------------------------------------------- cases
+
 # Rows that differ in what is made anew: without canister, with a load, with a
 # mileage where the version has one; one without vehicles. Few cells and one
 # season, since each call is followed by a whole report.
 WITHOUT = {**ROW, "class": 6, "technology": 0, **EMPTY, "vehicles": 700}
-
 FOUR_ROWS = (WITHOUT, ROW, {**ROW, "class": 4, "technology": 3, "vehicles": 0}, {**ROW, "class": 2, "technology": 2})
-
 GRID = cells_grid({(7, 3): 5, (24, 24): 2})
 
 

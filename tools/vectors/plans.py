@@ -24,9 +24,7 @@ BY_CLASS = 255
 # Table 3-11 as document 01 has it: tank in litres, and canister at each
 # technology from 0 on.
 CARS = (0, 1, 1, 2, 2, 2)
-
 LARGE_CARS = (0, 2, 2, 3, 3, 3)
-
 TWO_WHEELERS = (0, 0, 0, 0)
 
 CLASSES = {
@@ -206,7 +204,6 @@ FIVE = cells_grid({(3, 9): 2, (9, 14): 5, (24, 3): 1, (6, 19): 4, (17, 24): 3})
 
 # A row with the load of its odometer. In SEASON its a + b.s.m_sat is below 0.
 DRIVEN = {**ROW, "load": 0, "mileage": 84_000}
-
 WITHOUT = {**ROW, "class": 5, "technology": 2, **EMPTY}
 
 
@@ -216,9 +213,7 @@ def metered(seasons: Iterable[Record], rows: Iterable[Record]) -> Plan:
 
 
 SMALL_METERED = metered((SEASON,), (DRIVEN,))
-
 BASE_METERED = metered((SEASON,) * 2, (DRIVEN, ROW, WITHOUT, DRIVEN))
-
 MOST_OF_ROW, MOST_OF_ALL = 10_000_000, 100_000_000
 
 
@@ -233,7 +228,6 @@ def many(seasons: Iterable[Record], rows: Iterable[Record]) -> Plan:
 
 
 SMALL_MANY = many((SEASON,), (DRIVEN,))
-
 BASE_MANY = replace(BASE_METERED, many=True)
 
 # Ten rows with all the vehicles that there can be in one of them, which are all

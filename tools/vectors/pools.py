@@ -30,9 +30,7 @@ from tools.vectors.reports import HOT_AND_COLD, KINDS, varied
 ROOM = 25_344  # the bytes of the program's buffer
 MANY_ROWS = 1000
 LEAST_PAIRS, LEAST_ACCEPTED = 60, 20
-
 OF_A_REGION = {1, 2, 3, 4, 5, 7, *range(10, 21), 24, 25, 26}  # what one sheet of version 4 can be refused with
-
 OF_BOTH = {32, 5, 26, 22}
 
 
@@ -57,6 +55,8 @@ def pair(words: str, first: Plan | bytes, second: Plan | bytes, room: int = ROOM
     return Case(words, *data, room)
 
 
+# -------------------------------------------------------------------- accepted
+
 SEASONS = HOT_AND_COLD
 
 
@@ -65,7 +65,6 @@ def region(rows: Iterable[Record], seasons: Iterable[Record] = SEASONS) -> Plan:
 
 
 NORTH = region(varied("north", 4, KINDS[:4], 3 * 10 ** 6))
-
 SOUTH = region(varied("south", 3, KINDS[4:], 2 * 10 ** 6))
 
 
@@ -128,6 +127,9 @@ def room_cases() -> Iterator[Case]:
     yield pair("no room", NORTH, SOUTH, 0)
 
 
+# --------------------------------------------------------- one sheet is refused
+
+
 def faults():
     """A sheet of version 4 for each number that it can have, the shortest."""
     found = {}
@@ -163,6 +165,9 @@ def version_cases() -> Iterator[Case]:
     yield pair("version 5", patched(SMALL_MANY.data(), 3, b"\5"), SMALL_MANY)
     yield pair("version 260", SMALL_MANY, patched(SMALL_MANY.data(), 4, b"\1"))
     yield pair("no byte in both", b"", b"")
+
+
+# ------------------------------------------------------- the two are refused
 
 
 def differing_cases() -> Iterator[Case]:
@@ -213,6 +218,9 @@ def pooled_cases() -> Iterator[Case]:
     for vehicles, words in (((MOST_OF_ROW, 1), "in the next row"), ((MOST_OF_ROW - 1, 2, 5), "one past the limit")):
         other = region(tuple({**ROW, "vehicles": n} for n in vehicles), season)
         yield pair("too many vehicles, " + words, nine, other)
+
+
+# -------------------------------------------------------------------- the file
 
 
 def vector(case: Case) -> Vector:

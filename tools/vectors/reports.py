@@ -42,6 +42,9 @@ class Case(NamedTuple):
     room: int
 
 
+# ------------------------------------------------------------------- accepted
+
+
 def exactly(words: str, plan: Plan) -> Case:
     """A buffer without a word more than the report."""
     data = plan.data()
@@ -112,6 +115,9 @@ def limit_cases() -> Iterator[Case]:
     yield roomy("trips of no minutes", Plan((hot,), ({**largest, "minutes": 0, "carburettor": 0},), *one_cell(1, 24)))
 
 
+# ------------------------------------------------------------------ version 2
+
+
 def listed_plans() -> Iterator[Plan]:
     """Sheets whose lists are held against the grid of their products."""
     yield plans.EXAMPLE
@@ -150,6 +156,9 @@ def chance_grid_cases() -> Iterator[Case]:
         yield exactly("grid: sum 1000000 from cell %d on" % start, plan)
 
 
+# ------------------------------------------------------------------ version 3
+
+
 def mileage_cases() -> Iterator[Case]:
     """Each mileage in each canister, in a season of each kind."""
     for i, season in enumerate(METERED_WEATHER):
@@ -165,6 +174,8 @@ def chance_mileage_cases() -> Iterator[Case]:
         yield (exactly, roomy)[i % 2]("mileages by chance, %s" % sized(plan), plan)
     yield exactly("mileages by chance, all parkings", chance_metered_plan(2, 3).gridded())
 
+
+# ------------------------------------------------------------------ version 4
 
 # Kinds of rows; rows of one kind have the same factors, so that a thousand rows
 # are calculated as quickly as these. In HOT_AND_COLD all of them are accepted.
@@ -229,6 +240,9 @@ def far_cases() -> Iterator[Case]:
     yield exactly("version 4, the largest masses", replace(many((hot,), rows), grid=cells_grid({(24, 14): 1})))
 
 
+# -------------------------------------------------------------------- refused
+
+
 def short_cases() -> Iterator[Case]:
     """Buffers of no word, one word and a word too few, number 22."""
     for plan in (
@@ -249,6 +263,9 @@ def refused_cases() -> Iterator[Case]:
     for case in sheets.refused_cases():
         for room in (WORDS, 0):
             yield Case(case.words, case.data, room)
+
+
+# ------------------------------------------------------------------- the file
 
 
 class Vector(NamedTuple):

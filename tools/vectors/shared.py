@@ -62,6 +62,9 @@ class Vector(NamedTuple):
     told: list[Told]
 
 
+# ------------------------------------------------------------- what is told
+
+
 def told(case: Case) -> Vector:
     first = opening(case.data, case.owners, WORDS)
     version = version_of(case.data)
@@ -84,6 +87,8 @@ def told(case: Case) -> Vector:
                              (ask.kind, caller(ask.who), row, number)))
     return Vector(case, first, all_told)
 
+
+# ---------------------------------------------------------------------- sheets
 
 # Few cells and one season, since each change makes a row anew. The products of
 # the two lists are the cells of a version 1 sheet.
@@ -111,6 +116,9 @@ def plan_of(version: int, rows: Iterable[Record], grid: tuple[int, ...] = GRID) 
 def ledger(words: str, version: int, counts: Iterable[int], owners: Iterable[int], asks: Iterable[Ask]) -> Case:
     """A ledger of rows of several kinds with these counts; no answer of it is kept."""
     return Case(words, plan_of(version, rows_with(counts, version)).data(), bytes(owners), list(asks), None, False)
+
+
+# ----------------------------------------------------------------------- cases
 
 
 def table_cases() -> Iterator[Case]:

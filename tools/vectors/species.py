@@ -17,7 +17,6 @@ from tools.vectors.frame import VectorSet, packed
 Vector = tuple[int, list[int]]  # a total and its masses
 
 MOST = 2 ** 64 - 1
-
 DEMANDED = (0, 1, 10_000, 10_001, MOST)  # by request Eleven
 
 

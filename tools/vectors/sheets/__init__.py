@@ -34,7 +34,6 @@ ABSENT = {1: {24, 25, 26}, 2: {3, 8, 9, 25, 26}, 3: {3, 8, 9, 21, 26},
           4: {3, 6, 8, 9, 21}}  # what a version cannot have
 
 LEAST_SHEETS = {1: 420, 2: 150, 3: 150, 4: 150}
-
 LEAST_OF_A_NUMBER = 5
 LONGEST = 25_257  # one byte more than the longest sheet: ROOM of the program
 

@@ -17,7 +17,6 @@ from tools.vectors.sheets.limits import (
 
 # Mileages beside no load: bytes 20 to 23 one by one, and the limit.
 MILEAGES = (1, 16, 17, 255, 256, 65_535, 65_536, 2 ** 19, 999_999, 1_000_000)
-
 MILEAGES_BEYOND = (1_000_001, 2 ** 20, 2 ** 24, 2 ** 31, 2 ** 32 - 1)
 
 

@@ -17,7 +17,6 @@ from tools.vectors.sheets.limits import (
 
 # The count of rows: bytes 6 and 7 one by one, and the limit.
 COUNTS_OF_ROWS = (1, 2, 31, 32, 33, 255, 256, 257, 512, 999, 1000)
-
 COUNTS_BEYOND = (0, 1001, 1023, 1024, 1256, 1280, 2048, 8192, 32_768, 65_280, 65_535)
 
 
