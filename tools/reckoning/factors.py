@@ -49,8 +49,13 @@ class Day:
 
     def vapour(self, row, heat):
         """Vapour in grams for a difference of heat (eq. 8)."""
-        share = (1 - Fraction(row.fill, 100)) * tank_of(row) * Fraction(25, 1000)
-        return self.numbers.scaled(self.numbers.times(self.vapour_vp, heat), share)
+        return self.numbers.scaled(self.numbers.times(self.vapour_vp, heat), _vapour_share(row))
+
+
+@functools.lru_cache(maxsize=4096)
+def _vapour_share(row: Row) -> Fraction:
+    """What eq. 8 multiplies by for the fill level and the tank of a row."""
+    return (1 - Fraction(row.fill, 100)) * tank_of(row) * Fraction(25, 1000)
 
 
 @functools.lru_cache(maxsize=64)
