@@ -1,4 +1,4 @@
-// Holds the bounds of E and of T^2.5 against exact values that tools/vectors.py put into standard input: how many are enclosed, and how
+// Holds the bounds of E and of T^2.5 against exact values that tools/vectors/bounds.py put into standard input: how many are enclosed, and how
 // far the largest lies above its lower bound, of how far it may.
 use bounds::exp::ZERO;
 use libc::STDIN_FILENO;

@@ -1,4 +1,4 @@
-// Holds the two calls for cells against the answers that tools/cells.py put into standard input, bit by bit: how many rows and sums of
+// Holds the two calls for cells against the answers that tools/vectors/cells.py put into standard input, bit by bit: how many rows and sums of
 // each number are tried, and how many of them get that number, its place and those cells.
 use evaporation::map_cells::EvpCell;
 use evaporation::map_cells::EvpCellSum;
@@ -141,7 +141,7 @@ fn sum_is(r: EvpCellSum, s: &[u8], at: usize) -> bool
     (r.number == u64_at(s, at)) & (r.place == u64_at(s, at + 8)) & cell_is(c, s, at + 16)
 }
 
-// A line for an answer that is another than the one expected; rows and sums are counted from 1, as tools/cells.py lists them.
+// A line for an answer that is another than the one expected; rows and sums are counted from 1, as tools/vectors/cells.py lists them.
 fn print_other(what: &[u8], position: u64, expected: u64, found: u64) {
     number(what, position);
     number(b": expected number ", expected);

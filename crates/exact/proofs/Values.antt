@@ -1,5 +1,5 @@
--- Exact factors and masses of small sheets and starting loads for small n, in grams, calculated apart from these definitions:
--- tools/values.py wrote this file from tools/evaporation.py. antt computes each value anew.
+-- Exact factors and masses of small sheets and starting loads for small n, in grams, calculated apart from these
+-- definitions: tools/make/values.py wrote this file from tools/reckoning. antt computes each value anew.
 -- Assumes nothing.
 use mathlib.Core.Bool.{Bool, true, false, _&&_}
 use mathlib.Core.List.{List, [], _∷_, map}

@@ -1,4 +1,4 @@
-// Holds the factor call against the exact factors that tools/factors.py put into standard input: for each of the seven, how many lie in
+// Holds the factor call against the exact factors that tools/vectors/factors.py put into standard input: for each of the seven, how many lie in
 // their bands, how wide these are and how far off their middles the factors lie; the same for the rows with a mileage; and how many calls
 // are refused as expected.
 use inventory::FactorAnswer;
@@ -76,7 +76,7 @@ fn is_of(kind: u64, expected: u64, factor: u64, mileage: u64) -> bool {
     (kind == factor) | ((kind == DRIVEN) & (mileage != 0))
 }
 
-// A line for a call whose answer is not right; sheets and the calls on each are counted from 1, as tools/factors.py lists them.
+// A line for a call whose answer is not right; sheets and the calls on each are counted from 1, as tools/vectors/factors.py lists them.
 fn print_other(sheet: u64, call: u64, c: Call, expected: Reply, found: Reply) {
     number(b"sheet ", sheet);
     number(b" call ", call);

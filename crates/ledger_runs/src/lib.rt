@@ -1,4 +1,4 @@
-// One call of a list that tools/ledgers.py wrote, made on a ledger and held against what is expected; and one opening.
+// One call of a list that tools/vectors/ledgers.py wrote, made on a ledger and held against what is expected; and one opening.
 use ledger::Call;
 use sheet::Check;
 use vectors::bytes::copy;

@@ -1,4 +1,4 @@
-// Runs the lists of calls on ledgers that tools/ledgers.py put into standard input: how many ledgers open as expected, and how many calls are
+// Runs the lists of calls on ledgers that tools/vectors/ledgers.py put into standard input: how many ledgers open as expected, and how many calls are
 // answered as the plain machine says, leave the bytes that it says, and leave the words of a fresh report of these bytes.
 use ledger_runs::call_right;
 use ledger_runs::opens;

@@ -1,4 +1,4 @@
-// Holds pooling against the pairs of sheets that tools/pools.py put into standard input: how many are refused as expected, with the number,
+// Holds pooling against the pairs of sheets that tools/vectors/pools.py put into standard input: how many are refused as expected, with the number,
 // the place and the sheet, and every byte of the buffer left as it was; how many pooled sheets are those expected, with the bytes beyond
 // them left as they were; and how many of their reports have both sheets' row words in their places and the sums of their sums.
 use crate::words::words_right;

@@ -1,4 +1,4 @@
-// Holds the report against the exact masses that tools/reports.py put into standard input: how many of the rows' bands enclose their
+// Holds the report against the exact masses that tools/vectors/reports.py put into standard input: how many of the rows' bands enclose their
 // masses and are as narrow as they should be, how many sheets have subtotals and totals that are sums of their rows' words, and how
 // many are refused as expected with every word of the buffer left as it was.
 use libc::STDIN_FILENO;

@@ -1,4 +1,4 @@
-// One call of a list that tools/rights.py wrote, made on a shared ledger and held against what is expected, and its answer as numbers.
+// One call of a list that tools/vectors/shared.py wrote, made on a shared ledger and held against what is expected, and its answer as numbers.
 use rights::RowAnswer;
 use rights::TotalsAnswer;
 use sheet::Check;

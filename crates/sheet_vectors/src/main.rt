@@ -1,4 +1,4 @@
-// Holds the checks of a sheet against the numbers and places that tools/sheets.py put into standard input: how many sheets are to be
+// Holds the checks of a sheet against the numbers and places that tools/vectors/sheets put into standard input: how many sheets are to be
 // refused with each number, and how many of them get that number and its place. Number 0 stands for the sheets to be accepted.
 use libc::STDIN_FILENO;
 use sheet::Check;
@@ -56,7 +56,7 @@ fn put(sheet: &mut [u8], from: usize, bytes: &[u8])
     }
 }
 
-// A line for a sheet whose answer is another than the one expected; sheets are counted from 1, as tools/sheets.py lists them.
+// A line for a sheet whose answer is another than the one expected; sheets are counted from 1, as tools/vectors/sheets lists them.
 fn print_other(position: u64, expected: Answer, found: Answer) {
     number(b"sheet ", position);
     text(b": expected ");

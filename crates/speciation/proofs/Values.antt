@@ -1,4 +1,4 @@
--- Masses of the species, computed. Those of 1,000 mg are held against tools/species.py.
+-- Masses of the species, computed. Those of 1,000 mg are held against tools/reckoning/species.py.
 -- Assumes nothing.
 use mathlib.Core.List.{List, [], _∷_}
 use mathlib.Core.Path.{_≡_, refl}

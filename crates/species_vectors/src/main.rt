@@ -1,4 +1,4 @@
-// Holds the split of a total among the species against masses that tools/species.py put into standard input.
+// Holds the split of a total among the species against masses that tools/vectors/species.py put into standard input.
 use libc::STDIN_FILENO;
 use speciation::split;
 use vectors::input::u64_at;

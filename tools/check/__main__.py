@@ -1,0 +1,76 @@
+"""The command: python3 -m tools.check WHAT."""
+
+import argparse
+import sys
+
+from tools.check import bounds, edits, figures, header, pressures, promises, samples
+from tools.command import add_command, described, report, run
+
+
+def finish(name: str, faults, said: str) -> int:
+    """Prints what is wrong, or that nothing is, and gives the exit status."""
+    status = report("check " + name, faults)
+    if not status:
+        print(said)
+    return status
+
+
+def run_samples(given: argparse.Namespace) -> int:
+    return finish("samples", samples.check(given.write),
+                  "samples: the programs print the stored reports and their species; README.md's example is one")
+
+
+def run_pressures(_: argparse.Namespace) -> int:
+    found, counts = pressures.check()
+    return finish("pressures", found,
+                  "%d pairs of sheets: %d masses of %d rows without canister are in order, %d with bands apart" % (
+        counts.pairs, 3 * counts.rows, counts.rows, counts.apart))
+
+
+def run_edits(given: argparse.Namespace) -> int:
+    what = "are read whole and change one place" + (", and fail by a fact" if given.logs else "")
+    return finish("edits", edits.faults(given.logs, given.crates),
+                  "%d edits %s" % (len(edits.find(given.crates)), what))
+
+
+def run_figures(_: argparse.Namespace) -> int:
+    return finish("figures", figures.faults(), "%d claims of the documents hold" % len(figures.CLAIMS))
+
+
+def run_header(_: argparse.Namespace) -> int:
+    ours, theirs = header.both_sources()
+    return finish("header", header.faults(ours, theirs), "%s declares the %d functions and %d structs of the crate" % (
+        header.HEADER, len(theirs.functions), len(theirs.structs)))
+
+
+def run_promises(_: argparse.Namespace) -> int:
+    return finish("promises", promises.faults(), "%d sentences of %s point to what is there" % (
+        len(list(promises.rows())), promises.PAGE))
+
+
+def run_bounds(_: argparse.Namespace) -> int:
+    return finish("bounds", bounds.faults(), "the crates above bounds cite its %d listed laws alone" % len(bounds.listed()))
+
+
+def parser() -> argparse.ArgumentParser:
+    top = argparse.ArgumentParser(prog="python3 -m tools.check", **described(
+        "Checks programs that were proved, and files that must agree with one another.",
+        "python3 -m tools.check edits"))
+    commands = top.add_subparsers(required=True, metavar="WHAT")
+    found = {}
+    for name, module, run_it in (
+        ("samples", samples, run_samples), ("pressures", pressures, run_pressures), ("edits", edits, run_edits),
+        ("figures", figures, run_figures), ("header", header, run_header), ("promises", promises, run_promises),
+        ("bounds", bounds, run_bounds),
+    ):
+        about, _, more = module.__doc__.partition("\n\n")
+        found[name] = add_command(commands, name, about, "python3 -m tools.check " + name, "\n\n" + more)
+        found[name].set_defaults(run=run_it)
+    found["samples"].add_argument("--write", action="store_true", help="store what `report` prints")
+    found["edits"].add_argument("--logs", action="store_true", help="look at the logs under target/must-fail too")
+    found["edits"].add_argument("crates", nargs="*", metavar="CRATE", help="the edits of these crates alone")
+    return top
+
+
+if __name__ == "__main__":
+    sys.exit(run(parser()))

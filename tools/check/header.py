@@ -1,0 +1,224 @@
+"""include/evaporation.h against the exported functions and the #[repr(C)] structs of crates/evaporation.
+
+Both sides are brought to one form. A function is its name, its parameters in
+their order and what it answers; a slice is two parameters, a pointer and a
+length, whose name is that of the slice with _bytes or _count, or one of these
+alone. A struct is its members down to the numbers, each with its place in the
+struct and the words of its name: the member `rural` of a member `mileage` may
+be called rural_mileage in C. Members at the same places with the same types in
+another order are told apart by these words.
+"""
+
+import re
+from collections.abc import Iterator
+from pathlib import Path
+from typing import NamedTuple
+
+from tools.command import TOP
+
+HEADER = "include/evaporation.h"
+CRATE = "crates/evaporation/src/*.rt"
+ALL_CRATES = "crates/*/src/**/*.rt"
+SCALARS = {"u8": "uint8_t", "u32": "uint32_t", "u64": "uint64_t", "usize": "size_t", "f64": "double", "bool": "bool"}
+SIZES = {"uint8_t": 1, "bool": 1, "uint32_t": 4, "uint64_t": 8, "size_t": 8, "double": 8}
+LENGTHS = ("bytes", "count")
+
+
+class Member(NamedTuple):
+    """A parameter of a function or a member of a struct: its name, its type by
+    C's name or the name of its struct, and how many there are of it."""
+    name: str
+    type: str
+    count: int = 1
+
+
+class Function(NamedTuple):
+    name: str
+    parameters: list[Member]
+    answer: str
+
+
+class Source(NamedTuple):
+    """One side: functions and structs by their names."""
+    functions: dict[str, Function]
+    structs: dict[str, list[Member]]
+
+
+class Number(NamedTuple):
+    """A number in a struct: where it stands, the words of its name, its type."""
+    place: int
+    words: tuple[str, ...]
+    type: str
+
+
+# ------------------------------------------------------------------ the crate
+
+
+def crate_text(pattern: str) -> str:
+    """The files of a pattern without comments."""
+    texts = [path.read_text(encoding="utf-8") for path in sorted(TOP.glob(pattern))]
+    return re.sub(r"//[^\n]*", "", "\n".join(texts))
+
+
+def crate_type(name: str, written: str) -> list[Member]:
+    """What a parameter or member of the crate is in C."""
+    slice_of = re.fullmatch(r"&(mut )?\[(\w+)\]", written)
+    if slice_of:
+        constant = "" if slice_of[1] else "const "
+        return [Member(name, "%s%s *" % (constant, SCALARS[slice_of[2]])), Member(name + "_count", "size_t")]
+    array = re.fullmatch(r"\[(\w+); (\d+)\]", written)
+    if array:
+        return [Member(name, SCALARS[array[1]], int(array[2]))]
+    return [Member(name, SCALARS.get(written, written))]
+
+
+def crate_members(text: str) -> list[Member]:
+    """The members of a list such as `pub low: u64, pub high: u64`."""
+    pairs = re.findall(r"(?:pub )?(\w+): (&(?:mut )?\[\w+\]|\[\w+; \d+\]|\w+)", text)
+    return [member for pair in pairs for member in crate_type(*pair)]
+
+
+def crate_source(exports: str, declarations: str) -> Source:
+    """The functions that one text exports, and the structs that another declares."""
+    functions = {
+        name: Function(name, crate_members(parameters), SCALARS.get(answer, answer))
+        for name, parameters, answer in re.findall(r'pub extern "C" fn (\w+)\(([^)]*)\)\s*->\s*(\w+)', exports)
+    }
+    structs = re.findall(r"#\[repr\(C\)\]\s*pub struct (\w+) \{(.*?)\}", declarations, re.S)
+    return Source(functions, {name: crate_members(members) for name, members in structs})
+
+
+# ----------------------------------------------------------------- the header
+
+
+def header_member(written: str) -> list[Member]:
+    """The members of a declaration such as `uint64_t low, high` or `const uint8_t *sheet`."""
+    kind, names = re.fullmatch(r"((?:const )?(?:struct )?\w+) ?(.*)", " ".join(written.split())).groups()
+    found = []
+    for name in names.split(","):
+        star, plain, count = re.fullmatch(r"\s*(\*?)(\w+)(?:\[(\d+)\])?\s*", name).groups()
+        found.append(Member(plain, kind.removeprefix("struct ") + (" *" if star else ""), int(count or 1)))
+    return found
+
+
+def header_source(text: str) -> Source:
+    text = re.sub(r"/\*.*?\*/", "", text, flags=re.S)
+    text = re.sub(r"^#(?:.*\\\n)*.*$", "", text, flags=re.M)
+    functions = {
+        name: Function(name, [member for one in parameters.split(",") for member in header_member(one)],
+                       answer.removeprefix("struct "))
+        for answer, name, parameters in re.findall(r"((?:struct )?\w+) (evp_\w+)\(([^)]*)\);", text)
+    }
+    structs = {
+        name: [member for declaration in members.split(";")[:-1] for member in header_member(declaration)]
+        for name, members in re.findall(r"struct (\w+) \{(.*?)\};", text, re.S)
+    }
+    return Source(functions, structs)
+
+
+# ------------------------------------------------------------------ both sides
+
+
+def layout(source: Source, struct: str) -> tuple[list[Number], int, int]:
+    """The numbers of a struct, its size and its alignment, by the rules of C."""
+    numbers, at, widest = [], 0, 1
+    for member in source.structs[struct]:
+        if member.type in source.structs:
+            inner, size, aligned = layout(source, member.type)
+        else:
+            size = aligned = SIZES[member.type]
+            inner = [Number(0, (), member.type)]
+        at = -(-at // aligned) * aligned
+        widest = max(widest, aligned)
+        for _ in range(member.count):
+            numbers += [Number(at + n.place, tuple(sorted((*member.name.split("_"), *n.words))), n.type) for n in inner]
+            at += size
+    return numbers, -(-at // widest) * widest, widest
+
+
+def type_faults(where: str, ours: Source, theirs: Source, pair: tuple[str, str]) -> Iterator[str]:
+    """What differs between a type of the crate and one of the header."""
+    rust, c = pair
+    if (rust in ours.structs) != (c in theirs.structs):
+        yield "%s: %s in the crate, %s in the header" % (where, rust, c)
+    elif rust not in ours.structs:
+        if rust != c:
+            yield "%s: %s in the crate, %s in the header" % (where, rust, c)
+    elif layout(ours, rust) != layout(theirs, c):
+        found, expected = layout(theirs, c)[0], layout(ours, rust)[0]
+        first = next((pair for pair in zip(found, expected) if pair[0] != pair[1]), (None, None))
+        yield "%s: struct %s is not %s: %s in the header, %s in the crate" % (where, c, rust, *map(number_text, first))
+
+
+def number_text(number: Number | None) -> str:
+    if number is None:
+        return "another number of members"
+    return "%s %s at byte %d" % (number.type, "_".join(number.words), number.place)
+
+
+def name_differs(ours: Member, theirs: Member) -> bool:
+    """Whether two parameters have other names; the length of a slice has several."""
+    if ours.name == theirs.name:
+        return False
+    base, _, last = ours.name.rpartition("_")
+    return last != "count" or theirs.name not in ("%s_bytes" % base, *LENGTHS)
+
+
+def function_faults(ours: Source, theirs: Source, name: str) -> Iterator[str]:
+    a, b = ours.functions[name], theirs.functions[name]
+    yield from type_faults("%s, what it answers" % name, ours, theirs, (a.answer, b.answer))
+    if len(a.parameters) != len(b.parameters):
+        yield "%s: %d parameters in the crate, %d in the header" % (name, len(a.parameters), len(b.parameters))
+        return
+    for position, (mine, its) in enumerate(zip(a.parameters, b.parameters), 1):
+        where = "%s, parameter %d" % (name, position)
+        if name_differs(mine, its):
+            yield "%s: %s in the crate, %s in the header" % (where, mine.name, its.name)
+        yield from type_faults(where, ours, theirs, (mine.type, its.type))
+
+
+def faults(ours: Source, theirs: Source) -> Iterator[str]:
+    """What differs between the crate and the header."""
+    for name in sorted(ours.functions.keys() ^ theirs.functions.keys()):
+        yield "%s is in the %s alone" % (name, "crate" if name in ours.functions else "header")
+    both = sorted(ours.functions.keys() & theirs.functions.keys())
+    for name in both:
+        yield from function_faults(ours, theirs, name)
+    yield from pairing_faults([pair for name in both for pair in struct_pairs(ours, theirs, name)])
+    used = reached(theirs, (f.answer for f in theirs.functions.values())) | reached(
+        theirs, (m.type for f in theirs.functions.values() for m in f.parameters))
+    for name in sorted(theirs.structs.keys() - used):
+        yield "struct %s is used by no function" % name
+
+
+def struct_pairs(ours: Source, theirs: Source, name: str) -> list[tuple[str, str]]:
+    """Which structs of the crate and of the header stand in one another's place."""
+    a, b = ours.functions[name], theirs.functions[name]
+    pairs = [(a.answer, b.answer), *((x.type, y.type) for x, y in zip(a.parameters, b.parameters))]
+    return [(rust, c) for rust, c in pairs if rust in ours.structs]
+
+
+def pairing_faults(pairs: list[tuple[str, str]]) -> Iterator[str]:
+    """A struct that stands for two of the other side."""
+    for side, other in ((0, 1), (1, 0)):
+        partners: dict[str, set[str]] = {}
+        for pair in pairs:
+            partners.setdefault(pair[side], set()).add(pair[other])
+        for name, found in sorted(partners.items()):
+            if len(found) > 1:
+                yield "%s is %s" % (name, " and ".join(sorted(found)))
+
+
+def reached(source: Source, names) -> set[str]:
+    """The structs among these, and those that they hold."""
+    found: set[str] = set()
+    for name in names:
+        if name in source.structs and name not in found:
+            found |= {name} | reached(source, (member.type for member in source.structs[name]))
+    return found
+
+
+def both_sources() -> tuple[Source, Source]:
+    """The crate's, whose structs may be those of a crate below, and the header's."""
+    header = Path(TOP / HEADER).read_text(encoding="ascii")
+    return crate_source(crate_text(CRATE), crate_text(ALL_CRATES)), header_source(header)

@@ -1,0 +1,94 @@
+"""The programs `report` and `species` on every sample.
+
+What `report` prints is held against the stored report, samples/NAME.report;
+`species` must print the species of that report's last word as the reckoning has
+them. Of a sheet that lacks its last byte both must print the same refusal. The
+example of README.md must be one of the stored reports, word for word.
+
+The programs are target/bin/report and target/bin/species, as `rt check report
+species` or `rt ci` made them.
+"""
+
+import subprocess
+from collections.abc import Iterator, Sequence
+from pathlib import Path
+
+from tools.command import SAMPLES, TOP
+from tools.reckoning import species
+
+REPORT = TOP / "target" / "bin" / "report"
+SPECIES = TOP / "target" / "bin" / "species"
+INDENT = "    "
+
+
+def printed(program: Path, data: bytes) -> bytes:
+    """What a program prints for a sheet; it must say nothing else."""
+    run = subprocess.run([program], input=data, capture_output=True, timeout=60)
+    if run.returncode or run.stderr:
+        raise ValueError("%s: status %d, %r on standard error" % (program.name, run.returncode, run.stderr))
+    return run.stdout
+
+
+def blocks(text: str) -> list[str]:
+    """The indented blocks of a text, without their indent."""
+    found, block = [], []
+    for line in [*text.splitlines(), ""]:
+        if line.startswith(INDENT):
+            block.append(line[len(INDENT):] + "\n")
+        elif block:
+            found.append("".join(block))
+            block = []
+    return found
+
+
+def faults(sheets: Sequence[Path], reports: dict[Path, bytes]) -> Iterator[str]:
+    """What differs from the stored reports."""
+    for sheet in sheets:
+        stored = sheet.with_suffix(".report")
+        if not stored.exists():
+            yield "samples/%s is missing" % stored.name
+        elif stored.read_bytes() != reports[sheet]:
+            yield "samples/%s is not what the program prints" % stored.name
+    for stored in sorted(SAMPLES.glob("*.report")):
+        if stored.with_suffix(".evp") not in sheets:
+            yield "samples/%s has no sheet" % stored.name
+    examples = [block for block in blocks((TOP / "README.md").read_text(encoding="utf-8")) if block.startswith("EVP ")]
+    if not examples:
+        yield "README.md has no example of a report"
+    for example in examples:
+        if example.encode() not in reports.values():
+            yield "the example of README.md is no sample's report"
+
+
+def species_faults(sheet: Path, report: bytes) -> Iterator[str]:
+    """What the program `species` prints otherwise than it should."""
+    data = sheet.read_bytes()
+    fields = report.split()
+    if printed(SPECIES, data).decode() != species.text(int(fields[1]), int(fields[-1])):
+        yield "samples/%s: other species than the reckoning has" % sheet.name
+    refusal = printed(SPECIES, data[:-1])
+    if not refusal.startswith(b"refused ") or refusal != printed(REPORT, data[:-1]):
+        yield "samples/%s without its last byte: `species` and `report` refuse it otherwise" % sheet.name
+
+
+def check(write: bool) -> Iterator[str]:
+    """What is wrong; with `write` what `report` prints is stored first."""
+    for program in (REPORT, SPECIES):
+        if not program.exists():
+            yield "no target/bin/%s; rt check %s makes it" % (program.name, program.name)
+            return
+    sheets = sorted(SAMPLES.glob("*.evp"))
+    if not sheets:
+        yield "no sample"
+    reports = {}
+    for sheet in sheets:
+        try:
+            reports[sheet] = printed(REPORT, sheet.read_bytes())
+            yield from species_faults(sheet, reports[sheet])
+        except (ValueError, subprocess.TimeoutExpired) as error:
+            yield "%s: %s" % (sheet.name, error)
+            return
+    if write:
+        for sheet, report in reports.items():
+            sheet.with_suffix(".report").write_bytes(report)
+    yield from faults(sheets, reports)

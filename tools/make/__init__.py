@@ -1,0 +1,1 @@
+"""Files of the repository that are made and not written: values, tables, a sample and a picture."""

@@ -1,0 +1,5 @@
+"""What makes a file cannot be made."""
+
+
+class MakeError(Exception):
+    """A file that cannot be made from what is given."""

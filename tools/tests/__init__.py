@@ -1,0 +1,1 @@
+"""Tests of this package: python3 -m tools.tests."""
