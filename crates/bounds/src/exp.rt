@@ -1,6 +1,6 @@
 // The exponential, in units of 2^-40. An exponent z is held as x = (z + 16) * 10^14. With z = (h - 256) / 16 + m / 4096 + p and
 // p below 1 / 4096, E(z) is close to the product of two table entries, at h and at m, and of 1 + p + p^2 / 2. Every step cuts downwards.
-use crate::fixed::mul_shift;
+use crate::fixed::mul_above;
 ghost use mathlib.Core.Path.{_≡_};
 ghost use Prim.Native.Nat.{_*_, _^_, _<_, _≤_};
 ghost use Rattle.bounds.specs.Series.{E};
@@ -40,7 +40,7 @@ fn rest(r: u64) -> u64
 // 1 + p + p^2 / 2
 fn quadratic(r: u64) -> u64
     requires { ⌜ r < 24414062500 ⌝ }
-    ensures { λ q. ⌜ (q ≡ quadratic r) × (q < 11 * 10 ^ 11) ⌝ }
+    ensures { λ q. ⌜ (q ≡ quadratic r) × (2 ^ 40 ≤ q) × (q < 11 * 10 ^ 11) ⌝ }
 {
     let p = rest(r);
     ONE + p + p * p / TWO
@@ -49,10 +49,10 @@ fn quadratic(r: u64) -> u64
 // E(m / 4096 + p), for d = (m / 4096 + p) * 10^14 below 10^14 / 16
 fn fine(tables: &[u64; 578], d: u64) -> u64
     requires { ⌜ (now tables ≡ entries) × (d < 6250000000000) ⌝ }
-    ensures { λ f. ⌜ (f ≡ fine d) × (f < 12 * 10 ^ 11) ⌝ }
+    ensures { λ f. ⌜ (f ≡ fine d) × (2 ^ 40 ≤ f) × (f < 12 * 10 ^ 11) ⌝ }
 {
     let m = (d / FINE_STEP) as usize;
-    mul_shift(tables[MIDDLE + m], quadratic(d % FINE_STEP))
+    mul_above(tables[MIDDLE + m], quadratic(d % FINE_STEP))
 }
 
 // E(z) for z below 4.1. The tables are those that `tables` gives.
@@ -61,7 +61,7 @@ pub fn exponential(tables: &[u64; 578], x: u64) -> u64
     ensures { λ r. ⌜ (r ≡ exponential x) × (r < 2 ^ 46) × WithinAll (2 ^ 40) r (exponentialError x) (λ n. E n (exponent x)) ⌝ }
 {
     let h = (x / COARSE_STEP) as usize;
-    mul_shift(tables[h], fine(tables, x % COARSE_STEP))
+    mul_above(tables[h], fine(tables, x % COARSE_STEP))
 }
 
 // How far 2^40 E(z) can be above what `exponential` gives for the same x

@@ -16,7 +16,7 @@ entry : (c : tie.Start) → getD (c .args .tables .now) (c .args .x / 6250000000
 entry c = rw (c .pre .0) (coarse-at _ (omega arith))
 
 -- the result is the computed exponential
-same : (c : tie.After-mul-shift) → c .mul-shift .result ≡ exponential (c .before .before .before .args .x)
+same : (c : tie.After-mul-above) → c .mul-above .result ≡ exponential (c .before .before .before .args .x)
 unfolding exponential
 same c = cc (entry (c .before .before .before))
 
