@@ -1,2 +1,3 @@
 pub mod Exponents
 pub mod Fitted
+pub mod Listed

@@ -77,12 +77,12 @@ pub fn six_figures(units: [u64; 7], row: Row) -> [u64; 6]
 pub fn row_figures(
     tables: &[u64; 578],
     grid: &[u64; 673],
-    rises: &[u64; 576],
+    list: &[u64; 1732],
     at: AtSeason,
     row: Row,
 ) -> [u64; 6]
-    requires { ⌜ Lent (now tables) (now grid) (now rises) at × RowInRange (at .season) row × UseInRange row ⌝ }
+    requires { ⌜ Lent (now tables) (now grid) (now list) at × RowInRange (at .season) row × UseInRange row ⌝ }
     ensures { λ r. ⌜ r ≡ dayFigures (cellsIn (now (grid .entry))) (at .season) row ⌝ }
 {
-    six_figures(row_units(tables, grid, rises, at, row), row)
+    six_figures(row_units(tables, grid, list, at, row), row)
 }

@@ -2,12 +2,10 @@
 use mathlib.Core.Bool.{Bool, true, false}
 use mathlib.Core.Path.{_≡_, refl, _∙_}
 use mathlib.Core.List.{List}
-use mathlib.Core.Logic.{⊎-elim}
 use Prim.Native.Nat.{ℕ, zero, suc, _+_, _*_, _≤_, _<_}
 use native.Mathlib.Numerals.{add-one}
 use native.Mathlib.Omega.{arith}
 use native.Mathlib.Decide.{ℕ-discrete}
-use native.Mathlib.Nat.{eq-or-lt-of-le}
 use lib.ListN.{length, set, replicate, length-set, length-replicate}
 use lib.Seq.{getD-set-same, getD-set-other}
 use Rattle.numbers.specs.Lists.{at, sum}
@@ -15,7 +13,7 @@ use Rattle.numbers.proofs.Lists.{sum-none, sum-ext, sum-le}
 use Rattle.exact.specs.Day.{startMark}
 use Rattle.factors.specs.Units.{startOf, endOf}
 use Rattle.parking.specs.Grid.{markOf, tally}
-use Rattle.parking.proofs.Sums.{sum-next}
+use Rattle.parking.proofs.Sums.{sum-next, sum-but-one}
 
 -- a mark is below 48
 pub startMark-below : (hour d : ℕ) → startMark hour d < 48
@@ -30,20 +28,12 @@ markOf-below false cell = startMark-below _ _
 -- a store at a place takes the old value's part away and adds the new one's
 sum-set : (g : ℕ → ℕ) (xs : List ℕ) (a v n : ℕ) → a < length xs → a < n
     → sum (λ (k : ℕ). at (set xs a v) k * g k) n + at xs a * g a ≡ sum (λ (k : ℕ). at xs k * g k) n + v * g a
-unfolding sum
-sum-set g xs a v zero l h = absurd (omega arith)
-sum-set g xs a v (suc n) l h =
-    let le : a ≤ n = omega arith in
-    ⊎-elim
-    (λ (e : a ≡ n).
-    let same : (k : ℕ) → k < n → at (set xs a v) k * g k ≡ at xs k * g k
-    = (λ k q. rw (getD-set-other xs a k v 0 (λ z. omega arith))) in
-    rw (← e, getD-set-same xs a v 0 l) (omega (arith, rw (← e) at (sum-ext n same))))
-    (λ (q : a < n). rw (getD-set-other xs a n v 0 (λ z. omega arith)) (omega (arith, sum-set g xs a v n l q)))
-    (eq-or-lt-of-le le)
+sum-set g xs a v n l h =
+    rw (getD-set-same xs a v 0 l) at
+    (sum-but-one (λ (k : ℕ). at xs k * g k) (λ (k : ℕ). at (set xs a v) k * g k) a n h (λ k e. rw (getD-set-other xs a k v 0 e)))
 
 -- a list of zeros
-blank : (n k : ℕ) → at (replicate n 0) k ≡ 0
+pub blank : (n k : ℕ) → at (replicate n 0) k ≡ 0
 blank zero k = refl
 blank (suc n) zero = refl
 blank (suc n) (suc k) = blank n k

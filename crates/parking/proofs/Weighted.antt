@@ -32,6 +32,10 @@ module _ {grid : List ℕ} (r : GridReady grid) (value : ℕ → ℕ) where
   unfolding meanUnits
   mean-is e = ap₂ (λ (x y : ℕ). x / y) e (r .sum-is)
 
+  -- by cell, of the counts alone
+  pub cells-mean : {x : ℕ} → x ≡ sum (λ (cell : ℕ). at (cellsIn grid) cell * (value cell / 2 ^ 12)) 576 → x / at grid sumPlace ≡ meanUnits (cellsIn grid) value
+  cells-mean e = mean-is (e ∙ counted)
+
   -- by cell
   by-cell : sum (λ (cell : ℕ). at grid cell * (value cell / 2 ^ 12)) 576 ≡ weighted (λ (cell : ℕ). value cell / 2 ^ 12) 0 (cellsIn grid)
   by-cell = sum-ext 576 (λ cell h. ap (λ (count : ℕ). count * (value cell / 2 ^ 12)) (r .cells-are cell h)) ∙ counted

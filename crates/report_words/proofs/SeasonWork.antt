@@ -15,9 +15,10 @@ use Rattle.marks.proofs.Rise.{step-most}
 use Rattle.sheet.proofs.Temperature.{warmth-most}
 use Rattle.factors.specs.Units.{parkingRise}
 use Rattle.parking.specs.Grid.{cellsIn, passedIn}
+use Rattle.parking.specs.SeasonList.{ListReady}
 use Rattle.parking.proofs.Passed.{passedIn-tab}
 use Rattle.row_factors.specs.declared.season.AtSeason.{AtSeason}
-use Rattle.row_factors.specs.Season.{MarksReady, AtSeasonOf}
+use Rattle.row_factors.specs.Season.{MarksReady, risesOf, AtSeasonOf}
 use Rattle.masses.specs.Day.{UseInRange}
 use Rattle.sheet.specs.Bytes.{seasonsOf, rowsOf, seasonAt, rowAt}
 use Rattle.sheet.proofs.Accepted.{Bytes, Accepted, accepted}
@@ -37,21 +38,24 @@ steps-most {season} s m =
 
 -- what passed of them, less the error, are the rises of the parkings
 pub marks-ready : {season : Season} {marks : Marks} {rises : List ℕ} → SeasonInRange season → AtMarks season marks
-    → rises ≡ tab (λ (cell : ℕ). passedIn (marks .step) cell - riseError) 576 → MarksReady season marks rises
+    → rises ≡ tab (λ (cell : ℕ). passedIn (marks .step) cell - riseError) 576 → MarksReady season marks × (rises ≡ risesOf season)
 unfolding parkingRise
 marks-ready {season} s m e =
-    record { season-in = s; marks-are = m; rises-are = e ∙ tab-ext 576 (λ cell _. ap (λ (x : ℕ). x - riseError) (passedIn-tab (stepAt (markWarmth season)) (m .step-is) cell)) }
+    let same = tab-ext 576 (λ cell _. ap (λ (x : ℕ). x - riseError) (passedIn-tab (stepAt (markWarmth season)) (m .step-is) cell)) in
+    (record { season-in = s; marks-are = m }, e ∙ same)
 
 -- season j of the sheet, with its means
-pub season-lent : {s tables grid rises : List ℕ} {season : Season} {marks : Marks} {at : AtSeason} {j : ℕ} → Bytes s → SheetLent s tables grid
-    → j < seasonsOf s → season ≡ seasonAt s j → MarksReady season marks rises → AtSeasonOf season marks (cellsIn grid) at → SeasonLent s tables grid rises at
-season-lent {s} bytes l there e m a =
+pub season-lent : {s tables grid rises list : List ℕ} {season : Season} {marks : Marks} {at : AtSeason} {j : ℕ} → Bytes s → SheetLent s tables grid
+    → j < seasonsOf s → season ≡ seasonAt s j → MarksReady season marks × (rises ≡ risesOf season) → ListReady (cellsIn grid) rises list
+    → AtSeasonOf season marks (cellsIn grid) at → SeasonLent s tables grid list at
+season-lent {s} bytes l there e m k a =
     record {
       sheet = l;
       lent = record {
         tables-are = l .tables-are;
         grid-ready = l .grid-ready;
-        marks-ready = rw (a .season-is, a .marks-are) m;
+        marks-ready = rw (a .season-is, a .marks-are) (m .0);
+        list-ready = rw (a .season-is, ← (m .1)) k;
         means-are = rw (a .season-is) (a .means-are);
       };
       rows-in = λ i row. rw (a .season-is, e) (row-in-range bytes (accepted s (l .passes)) row there);

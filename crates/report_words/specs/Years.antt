@@ -25,9 +25,9 @@ pub record SheetLent (s tables grid : List ℕ) : Type 0 where
   pub cells-are : cellsIn grid ≡ cellsOf s
 
 -- with one of its seasons, for all its rows
-pub record SeasonLent (s tables grid rises : List ℕ) (at : AtSeason) : Type 0 where
+pub record SeasonLent (s tables grid list : List ℕ) (at : AtSeason) : Type 0 where
   pub sheet : SheetLent s tables grid
-  pub lent : Lent tables grid rises at
+  pub lent : Lent tables grid list at
   pub rows-in : (i : ℕ) → i < rowsOf s → RowInRange (at .season) (rowAt s i)
 
 -- figure m of row i in season j, over its days

@@ -4,6 +4,7 @@ use bounds::exp::tables;
 use fields::row_at;
 use fields::season_at;
 use marks::at_marks;
+use parking::season_list::list_of;
 use parking::walk::rises;
 use row_factors::season::at_season;
 use row_factors::units::row_units;
@@ -30,8 +31,9 @@ pub fn units_with(
     let season = season_at(s, season);
     let marks = at_marks(tables, season);
     let rises = rises(&marks.step);
+    let list = list_of(grid, &rises);
     let at = at_season(grid, &rises, season, marks);
-    row_units(tables, grid, &rises, at, row_at(s, row))
+    row_units(tables, grid, &list, at, row_at(s, row))
 }
 
 // The same from the sheet alone.

@@ -7,6 +7,7 @@ use fields::season_at;
 use fields::seasons_of;
 use marks::at_marks;
 use masses::figures::row_figures;
+use parking::season_list::list_of;
 use parking::walk::rises;
 use row_factors::season::AtSeason;
 use row_factors::season::at_season;
@@ -48,12 +49,12 @@ pub fn add_days(words: &mut [u64], at: usize, days: u64, figures: [u64; 6])
 fn add_rows(
     tables: &[u64; 578],
     grid: &[u64; 673],
-    rises: &[u64; 576],
+    list: &[u64; 1732],
     at: AtSeason,
     s: &[u8],
     words: &mut [u64],
 )
-    requires { ⌜ SeasonLent (now s) (now tables) (now grid) (now rises) at
+    requires { ⌜ SeasonLent (now s) (now tables) (now grid) (now list) at
         × (6 * rowsOf (now s) ≤ length (now words)) × SeasonFits (now s) (at .season) (now words) ⌝ }
     ensures { λ _. ⌜ now (words .exit)
         ≡ filled (seasonAdded (now (s .entry)) (at .season) (now (words .entry))) (6 * rowsOf (now (s .entry))) (now (words .entry)) ⌝ }
@@ -62,13 +63,13 @@ fn add_rows(
     let rows = rows_of(s);
     let mut i: usize = 0;
     while i < rows {
-        let figures = row_figures(tables, grid, rises, at, row_at(s, i));
+        let figures = row_figures(tables, grid, list, at, row_at(s, i));
         add_days(words, 6 * i, season.days, figures);
         i += 1;
     }
 }
 
-// Season j: its values at the marks, its rises and its means are made once, for all rows.
+// Season j: its values at the marks, its rises, their list and its means are made once, for all rows.
 fn add_season(tables: &[u64; 578], grid: &[u64; 673], s: &[u8], j: usize, words: &mut [u64])
     requires { ⌜ SheetLent (now s) (now tables) (now grid) × (j < seasonsOf (now s)) × RowsHold (yearWord (now s) j) (now s) (now words) ⌝ }
     ensures { λ _. ⌜ now (words .exit) ≡ filled (yearWord (now (s .entry)) (j + 1)) (6 * rowsOf (now (s .entry))) (now (words .entry)) ⌝ }
@@ -76,8 +77,9 @@ fn add_season(tables: &[u64; 578], grid: &[u64; 673], s: &[u8], j: usize, words:
     let season = season_at(s, j);
     let marks = at_marks(tables, season);
     let rises = rises(&marks.step);
+    let list = list_of(grid, &rises);
     let at = at_season(grid, &rises, season, marks);
-    add_rows(tables, grid, &rises, at, s, words);
+    add_rows(tables, grid, &list, at, s, words);
 }
 
 // All seasons.

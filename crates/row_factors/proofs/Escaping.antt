@@ -25,22 +25,24 @@ use Rattle.factors.proofs.Losses.{duration-most}
 use Rattle.sheet.specs.Range.{SeasonInRange}
 use Rattle.sheet.specs.Range.{halves}
 use Rattle.factors.specs.Means.{meanUnits}
-use Rattle.factors.specs.Units.{gain, parkingRise, parkingRates, vapourUnits, throughUnits, escapeUnits, escapeOverUnits, openUnits, startOf, endOf}
+use Rattle.factors.specs.Escape.{tenthGrams, loss, breakUnits}
+use Rattle.factors.specs.Units.{gain, rowStart, baseAt, growthAt, parkingRise, parkingRates, vapourUnits, throughUnits, escapeUnits, escapeOverUnits, openUnits, startOf, endOf}
 use Rattle.factors.proofs.Gain.{gain-most}
 use Rattle.factors.proofs.Mean.{meanUnits-most}
 use Rattle.factors.proofs.Sizes.{parking-rise-most, raise-rise-most}
 use Rattle.bounds.specs.Exponential.{entries}
-use Rattle.parking.specs.Grid.{markOf, passedIn, cellsIn, GridReady}
+use Rattle.parking.specs.Grid.{markOf, passedIn, cellsIn, sumPlace, GridReady}
+use Rattle.parking.specs.SeasonList.{ListFits}
 use Rattle.parking.proofs.Passed.{passedIn-tab}
 use Rattle.parking.proofs.Tally.{markOf-below}
-use Rattle.parking.proofs.Weighted.{mean-ext, mean-below}
+use Rattle.parking.proofs.Weighted.{mean-ext, mean-below, cells-mean}
 use Rattle.breakthrough.specs.declared.curves.Curves.{Curves}
 use Rattle.breakthrough.specs.Curves.{CurvesOf}
-use Rattle.breakthrough.specs.Through.{CurvesReady}
+use Rattle.breakthrough.specs.Through.{CurvesReady, curveAt, through}
 use Rattle.breakthrough.proofs.Fitted.{curves-ready, through-is}
 use Rattle.row_factors.specs.declared.season.AtSeason.{AtSeason}
 use Rattle.row_factors.specs.declared.escapes.Escapes.{Escapes}
-use Rattle.row_factors.specs.Season.{meanAt, MarksReady, RowLent}
+use Rattle.row_factors.specs.Season.{meanAt, MarksReady, risesOf, RowLent}
 use Rattle.row_factors.specs.Seven.{parkingThrough, raiseThrough, parkingEscape, VapourOf, CarEscapes, TwoWheelerEscapes}
 
 module _ (season : Season) (row : Row) (counts : List ℕ) where
@@ -79,6 +81,17 @@ module _ (season : Season) (row : Row) (counts : List ℕ) where
   open-open Medium e raised = absurd (omega arith)
   open-open Large e raised = absurd (omega arith)
 
+-- from a mark, of no rise, nothing breaks through
+through-none : (season : Season) (row : Row) (mark : ℕ) → throughUnits season row mark 0 ≡ 0
+unfolding throughUnits breakUnits vapourUnits
+through-none season row mark =
+    let A : ℕ = baseAt season row mark in
+    let K : ℕ = growthAt season row mark in
+    let σ : ℕ = tenthGrams (row .saturation) in
+    let m : ℕ = rowStart row A K in
+    let same : loss A K σ (m + gain season row * 0 / 2 ^ 40) ≡ loss A K σ m = ap (loss A K σ) (omega arith) in
+    rw same (omega arith)
+
 -- How large the values at the marks are.
 module _ {season : Season} (s : SeasonInRange season) where
   raise-list-most : (k : ℕ) {xs : List ℕ} → k ≤ 60 → xs ≡ tab (raisesBy season k) 48 → AllAtMost (56 * 2 ^ 40) xs
@@ -111,9 +124,10 @@ module _ {season : Season} (s : SeasonInRange season) where
 -- A row with a canister, whose values at the marks these are.
 module _ {season : Season} {row : Row} {c : Curves} (f : CurvesOf season row c) (p : 0 < halves (row .canister)) (cells : List ℕ) where
   -- in a parking
-  parking-escape : {rises : List ℕ} → length cells ≡ 576 → rises ≡ tab (parkingRise season) 576 → parkingThrough cells rises c ≡ parkingEscape season row cells
-  parking-escape l e =
-      mean-below cells l (λ cell h. rw (e, getD-tab (parkingRise season) 576 cell h) (through-is f (startOf cell) _ (markOf-below false cell))) ∙
+  parking-escape : length cells ≡ 576
+      → meanUnits cells (λ (cell : ℕ). through (curveAt c (startOf cell)) (at (risesOf season) cell)) ≡ parkingEscape season row cells
+  parking-escape l =
+      mean-below cells l (λ cell h. rw (getD-tab (parkingRise season) 576 cell h) (through-is f (startOf cell) _ (markOf-below false cell))) ∙
       escape-through season row cells (row .canister) p startOf (parkingRise season)
 
   -- over a raise by so many tenths of °C
@@ -138,19 +152,28 @@ five-most {a} {b} {c} {d} {e} {bound} p q r s t = record { at-most = each }
     each (suc (suc (suc (suc (suc k))))) = omega arith
 
 -- A row with a canister, and what is lent to its functions: what they need, and that each mean is its escape.
-module _ {tables grid rises : List ℕ} {given : AtSeason} {row : Row} {vapour : ℕ}
-    (q : RowLent tables grid rises given row vapour × (0 < halves (row .canister))) {c : Curves} (f : CurvesOf (given .season) row c) where
-  marks-of : MarksReady (given .season) (given .marks) rises
+module _ {tables grid list : List ℕ} {given : AtSeason} {row : Row} {vapour : ℕ}
+    (q : RowLent tables grid list given row vapour × (0 < halves (row .canister))) {c : Curves} (f : CurvesOf (given .season) row c) where
+  marks-of : MarksReady (given .season) (given .marks)
   marks-of = q .0 .lent .marks-ready
 
   fitted : CurvesReady c
   fitted = curves-ready (marks-of .season-in) (q .0 .row-in) (q .1) f
 
-  pub parking-needs : (tables ≡ entries) × GridReady grid × CurvesReady c × AllAtMost (72 * 2 ^ 40) rises
-  parking-needs = (q .0 .lent .tables-are, q .0 .lent .grid-ready, fitted, rises-most (marks-of .season-in) (marks-of .rises-are))
+  pub parking-needs : (tables ≡ entries) × GridReady grid × CurvesReady c × ListFits (72 * 2 ^ 40) list
+  parking-needs =
+      (q .0 .lent .tables-are, q .0 .lent .grid-ready, fitted, q .0 .lent .list-ready .fits (72 * 2 ^ 40) (rises-most (marks-of .season-in) refl))
 
-  pub parking-right : {x : ℕ} → x ≡ parkingThrough (cellsIn grid) rises c → x ≡ parkingEscape (given .season) row (cellsIn grid)
-  parking-right e = e ∙ parking-escape f (q .1) _ (q .0 .lent .grid-ready .cells-in .length-is) (marks-of .rises-are)
+  -- nothing breaks through where nothing rises
+  still : (mark : ℕ) → mark < 48 → through (curveAt c mark) 0 / 2 ^ 12 ≡ 0
+  still mark h = rw (through-is f mark 0 h, through-none (given .season) row mark) (omega arith)
+
+  pub parking-right : {x : ℕ} → x ≡ parkingThrough list (at grid sumPlace) c → x ≡ parkingEscape (given .season) row (cellsIn grid)
+  parking-right e =
+      e ∙
+      cells-mean (q .0 .lent .grid-ready) (λ (cell : ℕ). through (curveAt c (startOf cell)) (at (risesOf (given .season)) cell))
+      (q .0 .lent .list-ready .sum-is (λ (mark : ℕ) (rise : ℕ). through (curveAt c mark) rise / 2 ^ 12) still) ∙
+      parking-escape f (q .1) _ (q .0 .lent .grid-ready .cells-in .length-is)
 
   -- over a raise, whose list at the marks is one of the season's
   module _ (k : ℕ) {raises : List ℕ} (pick : AtMarks (given .season) (given .marks) → raises ≡ tab (raisesBy (given .season) k) 48) where
@@ -162,7 +185,7 @@ module _ {tables grid rises : List ℕ} {given : AtSeason} {row : Row} {vapour :
     raise-right ends e = e ∙ raise-escape f (q .1) _ ends k (pick (marks-of .marks-are))
 
 -- A row without canister, and what is lent to its functions: how large the mean rises are, and that the vapour of each is its escape.
-module _ {tables grid rises : List ℕ} {given : AtSeason} {row : Row} {vapour : ℕ} (r : RowLent tables grid rises given row vapour) where
+module _ {tables grid list : List ℕ} {given : AtSeason} {row : Row} {vapour : ℕ} (r : RowLent tables grid list given row vapour) where
   season-ok : SeasonInRange (given .season)
   season-ok = r .lent .marks-ready .season-in
 

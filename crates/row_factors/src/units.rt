@@ -65,20 +65,20 @@ fn two_wheeler_units(e: Escapes, m: Means) -> [u64; 7]
 pub fn row_units(
     tables: &[u64; 578],
     grid: &[u64; 673],
-    rises: &[u64; 576],
+    list: &[u64; 1732],
     at: AtSeason,
     row: Row,
 ) -> [u64; 7]
-    requires { ⌜ Lent (now tables) (now grid) (now rises) at × RowInRange (at .season) row ⌝ }
+    requires { ⌜ Lent (now tables) (now grid) (now list) at × RowInRange (at .season) row ⌝ }
     ensures { λ r. ⌜ r ≡ sevenUnits (at .season) row (cellsIn (now (grid .entry))) ⌝ }
 {
     let vapour = gain(tables, at.season, row);
     let means = at.means;
     if row.class < 5 {
-        let e = car(tables, grid, rises, at, row, vapour);
+        let e = car(tables, grid, list, at, row, vapour);
         car_units(e, means, row.minutes)
     } else {
-        let e = two_wheeler(tables, grid, rises, at, row, vapour);
+        let e = two_wheeler(tables, grid, list, at, row, vapour);
         two_wheeler_units(e, means)
     }
 }

@@ -37,7 +37,7 @@ returns c =
       season-is = refl;
       marks-are = refl;
       means-are = record {
-        rise-is = c0 .before .before .before .mean-by-cell .ensures ∙ mean-tab _ _ l (p .rises-are);
+        rise-is = c0 .before .before .before .mean-by-cell .ensures ∙ mean-tab _ _ l (s .pre .2);
         permeation-is = c0 .permeation-mean .ensures ∙ mean-ext _ (λ cell. ap (λ (x : ℕ). x / 2) (rates-in (p .season-in) (a .rate-is) cell));
         soak-is = c1 .mean-by-mark .ensures ∙ mean-marks _ false _ (a .soak-is);
         run-is = c2 .mean-by-mark2 .ensures ∙ mean-marks _ true _ (a .run-is);
@@ -55,7 +55,7 @@ pub at-season-spec : {M : Type 1} → statement M
 at-season-spec =
     tie.close
     (tie.spec
-    (λ c κs. (c .pre .0, record { at-most = λ k. omega (arith, rises-most (c .pre .1 .season-in) (c .pre .1 .rises-are) .at-most k) }))
+    (λ c κs. (c .pre .0, record { at-most = λ k. omega (arith, rises-most (c .pre .1 .season-in) (c .pre .2) .at-most k) }))
     (λ c κs. let p = c .before .before .before .pre in (p .0, rate-list-most (p .1 .season-in) 0 (omega arith) (rates-plain (p .1 .season-in) (p .1 .marks-are .rate-is))))
     (λ c κs. let p = s0 (c .before .before) .pre in (p .0, rate-list-fits (p .1 .season-in) 110 (omega arith) (p .1 .marks-are .soak-is)))
     (λ c κs. let p = s0 (c .before .before .before .before .before) .pre in (p .0, rate-list-fits (p .1 .season-in) 150 (omega arith) (p .1 .marks-are .run-is)))
