@@ -10,7 +10,7 @@ use Rattle.bounds.proofs.ExponentialBound.{exponential-within, exponent
 use Rattle.bounds.proofs.Growth.{exponential-mono}
 use Rattle.bounds.proofs.PowerBound.{power-within, power-size}
 use Rattle.bounds.proofs.Root.{power2·5-nonNegative}
-use Rattle.bounds.proofs.Weights.{w-most, rises-where}
+use Rattle.bounds.proofs.Weights.{w-most, rises-where, apart-alike}
 
 above-zero : {x : Fraction} → NonNegative x → whole 0 ≤ᶠ x
 unfolding whole
@@ -30,4 +30,5 @@ laws = record {
   power-least = λ n t. above-zero (power2·5-nonNegative n t);
   weight-most = w-most;
   weight-rises = rises-where;
+  weight-alike = apart-alike;
 }

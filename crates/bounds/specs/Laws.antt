@@ -8,7 +8,7 @@ use Rattle.bounds.specs.Series.{E, power2·5}
 use Rattle.bounds.specs.Enclosure.{WithinAll}
 use Rattle.bounds.specs.Exponential.{exponent, exponentLimit, exponential, exponentialError}
 use Rattle.bounds.specs.Power.{degrees, degreesLimit, power, powerError}
-use Rattle.bounds.specs.Weights.{w}
+use Rattle.bounds.specs.Weights.{w, apart, ahead}
 
 pub record Laws : Type 0 where
   -- E, for every n: equal exponents have equal values, it grows, and it is 1 at 0
@@ -27,3 +27,5 @@ pub record Laws : Type 0 where
   -- the hourly weights are at most 1, and from a mark to the next they rise from 2:00 to 14:00 and fall else
   pub weight-most : (i : ℕ) → w i ≤ 10 ^ 9
   pub weight-rises : (i : ℕ) → i < 48 → leb (w i) (w ((i + 1) % 48)) ≡ (leb 4 i && ltb i 28)
+  -- and as far from 14:00 they are equal
+  pub weight-alike : (i : ℕ) → i < 48 → w (ahead (apart i)) ≡ w i

@@ -29,6 +29,6 @@ pub list-fits : (list : List ℕ) (c : Curves) → CurvesReady c → ListFits (7
 list-fits list c r l =
     let below : (k : ℕ) → k < at list 1731 → each list c k ≤ 2 ^ 42 = (λ k h.
     let inside : k < 577 = omega (arith, l .entries-most) in
-    let ready = r .ready (at list k) _ (l .marks-below k inside) in
+    let ready = r .ready (at list k) _ (l .starts-below k inside) in
     omega (arith, through-most (curveAt c (at list k)) (at list (577 + k)) ready (l .rises-most k inside))) in
     omega (arith, times-most (λ (k : ℕ). at list (1154 + k)) (each list c) (2 ^ 42) (at list 1731) below, l .counts-most)

@@ -3,6 +3,7 @@ use mathlib.Core.List.{List}
 use mathlib.Core.Path.{_≡_}
 use Prim.Native.Nat.{ℕ, _+_, _^_, _≤_, _<_}
 use Rattle.numbers.specs.Lists.{tab}
+use Rattle.bounds.specs.Weights.{ahead}
 use Rattle.exact.specs.declared.Season.{Season}
 use Rattle.exact.specs.declared.Row.{Row}
 use Rattle.sheet.specs.Limits.{mileageLimit}
@@ -27,18 +28,20 @@ module _ (season : Season) (row : Row) where
   abbrev pub firstAt : ℕ → ℕ
   firstAt i = loss (baseAt season row i) (growthAt season row i) (tenthGrams (row .saturation)) (startAt i) + lossError row
 
+  -- Values by distance from 14:00 are those of the mark so far before it.
+
   -- what a canister is fitted from
   pub record FitReady (warmths : List ℕ) (vapour : ℕ) : Type 0 where
     pub season-in : SeasonInRange season
     pub row-in : RowInRange season row
     pub canister-there : 0 < halves (row .canister)
-    pub warmths-are : warmths ≡ tab (markWarmth season) 48
+    pub warmths-are : warmths ≡ tab (λ (d : ℕ). markWarmth season (ahead d)) 25
     pub vapour-is : vapour ≡ gain season row
 
   pub record CurvesOf (c : Curves) : Type 0 where
-    pub bases-are : c .bases ≡ tab (baseAt season row) 48
-    pub growths-are : c .growths ≡ tab (growthAt season row) 48
-    pub loads-are : c .loads ≡ tab startAt 48
-    pub firsts-are : c .firsts ≡ tab firstAt 48
+    pub bases-are : c .bases ≡ tab (λ (d : ℕ). baseAt season row (ahead d)) 25
+    pub growths-are : c .growths ≡ tab (λ (d : ℕ). growthAt season row (ahead d)) 25
+    pub loads-are : c .loads ≡ tab (λ (d : ℕ). startAt (ahead d)) 25
+    pub firsts-are : c .firsts ≡ tab (λ (d : ℕ). firstAt (ahead d)) 25
     pub saturation-is : c .saturation ≡ tenthGrams (row .saturation)
     pub gain-is : c .gain ≡ gain season row

@@ -1,4 +1,4 @@
--- What breaks through a canister, from its values at the marks. Definitions only.
+-- What breaks through a canister, from its values by distance from 14:00. Definitions only.
 use Prim.Native.Nat.{ℕ, _+_, _*_, _-_, _/_, _^_, _<_, _≤_}
 use Rattle.numbers.specs.Lists.{at}
 use Rattle.bounds.specs.Exponential.{exponentLimit}
@@ -6,18 +6,18 @@ use Rattle.factors.specs.Escape.{loss}
 use Rattle.breakthrough.specs.declared.curve.Curve.{Curve}
 use Rattle.breakthrough.specs.declared.curves.Curves.{Curves}
 
--- of the vapour of a rise, at one mark
+-- of the vapour of a rise, at one temperature
 unfoldable pub through : Curve → ℕ → ℕ
 through c rise = loss (c .base) (c .growth) (c .saturation) (c .load + c .gain * rise / 2 ^ 40) - c .first
 
--- the canister's values at a mark
+-- the canister's values at a distance from 14:00
 abbrev pub curveAt : Curves → ℕ → Curve
-curveAt c mark = record {
-  base = at (c .bases) mark;
-  growth = at (c .growths) mark;
+curveAt c d = record {
+  base = at (c .bases) d;
+  growth = at (c .growths) d;
   saturation = c .saturation;
-  load = at (c .loads) mark;
-  first = at (c .firsts) mark;
+  load = at (c .loads) d;
+  first = at (c .firsts) d;
   gain = c .gain;
 }
 
@@ -29,13 +29,13 @@ pub record CurveReady (c : Curve) : Type 0 where
   pub load-most : c .load ≤ c .saturation
   pub gain-most : c .gain ≤ 36 * 2 ^ 40
 
--- at every mark, whatever is lost there when a parking starts
+-- at every distance, whatever is lost there when a parking starts
 pub record CurvesReady (c : Curves) : Type 0 where
-  pub ready : (mark first : ℕ) → mark < 48 → CurveReady (record {
-    base = at (c .bases) mark;
-    growth = at (c .growths) mark;
+  pub ready : (d first : ℕ) → d < 25 → CurveReady (record {
+    base = at (c .bases) d;
+    growth = at (c .growths) d;
     saturation = c .saturation;
-    load = at (c .loads) mark;
+    load = at (c .loads) d;
     first = first;
     gain = c .gain;
   })

@@ -8,7 +8,7 @@ ghost use Rattle.bounds.specs.Exponential.{entries};
 ghost use Rattle.factors.specs.Escape.{loss};
 ghost use Rattle.breakthrough.specs.Through.{CurveReady, through};
 
-// A row's canister at one mark.
+// A row's canister at one temperature.
 pub struct Curve {
     // a, held as (a + 16) * 10^14, and 2 b s * 10^14.
     pub base: u64,

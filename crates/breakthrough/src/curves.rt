@@ -1,4 +1,5 @@
-// The canister that a row has, in a season: its curve at each mark, and what it has lost when a parking starts.
+// The canister that a row has, in a season: its curve at each temperature of a day, and what it has lost when a parking starts. A day
+// has 25 temperatures, by a mark's distance from 14:00.
 use crate::curve::Curve;
 use crate::curve::loss;
 use crate::loads::loss_error;
@@ -17,12 +18,12 @@ ghost use Rattle.factors.specs.Escape.{base, loss, drivenError};
 ghost use Rattle.breakthrough.specs.Through.{CurvesReady};
 ghost use Rattle.breakthrough.specs.Curves.{FitReady, CurvesOf};
 
-// The values of `Curve` at every mark; what no mark changes stands once.
+// The values of `Curve` by distance from 14:00; what no temperature changes stands once.
 pub struct Curves {
-    pub bases: [u64; 48],
-    pub growths: [u64; 48],
-    pub loads: [u64; 48],
-    pub firsts: [u64; 48],
+    pub bases: [u64; 25],
+    pub growths: [u64; 25],
+    pub loads: [u64; 25],
+    pub firsts: [u64; 25],
     pub saturation: u64,
     pub gain: u64,
 }
@@ -39,62 +40,62 @@ const GROWTH: u64 = 11200000000000;
 
 const GROWTH_BY_PRESSURE: u64 = 1500000000;
 
-// a at each mark.
-fn bases(warmths: &[u64; 48], vp: u64) -> [u64; 48]
+// a at each distance.
+fn bases(warmths: &[u64; 25], vp: u64) -> [u64; 25]
     requires { ⌜ AllAtMost (80 * 10 ^ 10) (now warmths) × (vp ≤ vpLimit) ⌝ }
-    ensures { λ r. ⌜ r ≡ tab (λ (mark : ℕ). base vp (at (now (warmths .entry)) mark)) 48 ⌝ }
+    ensures { λ r. ⌜ r ≡ tab (λ (d : ℕ). base vp (at (now (warmths .entry)) d)) 25 ⌝ }
 {
-    let mut out = [0u64; 48];
-    let mut mark: usize = 0;
-    while mark < 48 {
-        out[mark] = BASE + BASE_BY_WARMTH * warmths[mark] - BASE_BY_PRESSURE * vp;
-        mark += 1;
+    let mut out = [0u64; 25];
+    let mut d: usize = 0;
+    while d < 25 {
+        out[d] = BASE + BASE_BY_WARMTH * warmths[d] - BASE_BY_PRESSURE * vp;
+        d += 1;
     }
     out
 }
 
-// 2 b s at each mark, for 2 s = times.
-fn growths(warmths: &[u64; 48], vp: u64, times: u64) -> [u64; 48]
+// 2 b s at each distance, for 2 s = times.
+fn growths(warmths: &[u64; 25], vp: u64, times: u64) -> [u64; 25]
     requires { ⌜ AllAtMost (80 * 10 ^ 10) (now warmths) × (vp ≤ vpLimit) × (times ≤ 4) ⌝ }
-    ensures { λ r. ⌜ r ≡ tab (λ (mark : ℕ). (112 * 10 ^ 11 + at (now (warmths .entry)) mark - 15 * 10 ^ 8 * vp) * times) 48 ⌝ }
+    ensures { λ r. ⌜ r ≡ tab (λ (d : ℕ). (112 * 10 ^ 11 + at (now (warmths .entry)) d - 15 * 10 ^ 8 * vp) * times) 25 ⌝ }
 {
-    let mut out = [0u64; 48];
-    let mut mark: usize = 0;
-    while mark < 48 {
-        out[mark] = (GROWTH + warmths[mark] - GROWTH_BY_PRESSURE * vp) * times;
-        mark += 1;
+    let mut out = [0u64; 25];
+    let mut d: usize = 0;
+    while d < 25 {
+        out[d] = (GROWTH + warmths[d] - GROWTH_BY_PRESSURE * vp) * times;
+        d += 1;
     }
     out
 }
 
-// What is lost at each mark at the load at parking start, and as much more as it can be off.
-fn first_losses(tables: &[u64; 578], c: Curves, error: u64) -> [u64; 48]
+// What is lost at each distance at the load at parking start, and as much more as it can be off.
+fn first_losses(tables: &[u64; 578], c: Curves, error: u64) -> [u64; 25]
     requires { ⌜ (now tables ≡ entries) × CurvesReady c × (error ≤ drivenError) ⌝ }
-    ensures { λ r. ⌜ r ≡ tab (λ (mark : ℕ). loss (at (c .bases) mark) (at (c .growths) mark) (c .saturation) (at (c .loads) mark) + error) 48 ⌝ }
+    ensures { λ r. ⌜ r ≡ tab (λ (d : ℕ). loss (at (c .bases) d) (at (c .growths) d) (c .saturation) (at (c .loads) d) + error) 25 ⌝ }
 {
-    let mut out = [0u64; 48];
-    let mut mark: usize = 0;
-    while mark < 48 {
-        let load = c.loads[mark];
+    let mut out = [0u64; 25];
+    let mut d: usize = 0;
+    while d < 25 {
+        let load = c.loads[d];
         let curve = Curve {
-            base: c.bases[mark],
-            growth: c.growths[mark],
+            base: c.bases[d],
+            growth: c.growths[d],
             saturation: c.saturation,
             load,
             first: 0,
             gain: c.gain,
         };
-        out[mark] = loss(tables, curve, load) + error;
-        mark += 1;
+        out[d] = loss(tables, curve, load) + error;
+        d += 1;
     }
     out
 }
 
-// A row's canister in a season whose marks have these warmths, and the vapour in its tank for a rise of 1.
+// A row's canister in a season that has these warmths by distance, and the vapour in its tank for a rise of 1.
 pub fn fit(
     tables: &[u64; 578],
     season: Season,
-    warmths: &[u64; 48],
+    warmths: &[u64; 25],
     row: Row,
     vapour: u64,
 ) -> Curves
@@ -106,7 +107,7 @@ pub fn fit(
     let growths = growths(warmths, season.vp, halves(canister));
     let loads = start_loads(tables, row, &bases, &growths);
     let saturation = tenth_grams(row.saturation);
-    let none = [0u64; 48];
+    let none = [0u64; 25];
     let unlost = Curves {
         bases,
         growths,

@@ -39,20 +39,20 @@ pub fn loss_error(row: Row) -> u64
     }
 }
 
-// The load at each mark: found from the mileage, or written. (Up to 16 km both are 0.)
+// The load at each distance from 14:00: found from the mileage, or written. (Up to 16 km both are 0.)
 pub fn start_loads(
     tables: &[u64; 578],
     row: Row,
-    bases: &[u64; 48],
-    growths: &[u64; 48],
-) -> [u64; 48]
+    bases: &[u64; 25],
+    growths: &[u64; 25],
+) -> [u64; 25]
     requires { ⌜ (now tables ≡ entries) × LoadsReady row (now bases) (now growths) ⌝ }
-    ensures { λ r. ⌜ r ≡ tab (λ (mark : ℕ). rowStart row (at (now (bases .entry)) mark) (at (now (growths .entry)) mark)) 48 ⌝ }
+    ensures { λ r. ⌜ r ≡ tab (λ (d : ℕ). rowStart row (at (now (bases .entry)) d) (at (now (growths .entry)) d)) 25 ⌝ }
 {
     if FIRST_KILOMETRES <= row.mileage {
         let canister = row.canister;
         let kept = net(tables, row.mileage, halves(canister));
         return starts(tables, bases, growths, tenth_grams(row.saturation), kept);
     }
-    [tenth_grams(row.load); 48]
+    [tenth_grams(row.load); 25]
 }

@@ -1,4 +1,4 @@
-// What breaks through a row's canister: in the parkings of a season's list, and over a raise at each mark.
+// What breaks through a row's canister: in the parkings of a season's list, and over a raise at each distance from 14:00.
 use crate::curve::Curve;
 use crate::curve::through;
 use crate::curves::Curves;
@@ -18,19 +18,19 @@ const CUT: u64 = 4096;
 // Of the rise in the parkings of the list: each entry in units of 2^-28 g, as often as it counts, summed.
 pub fn through_list(tables: &[u64; 578], list: &[u64; 1732], c: Curves) -> u64
     requires { ⌜ (now tables ≡ entries) × CurvesReady c × ListFits (72 * 2 ^ 40) (now list) ⌝ }
-    ensures { λ r. ⌜ r ≡ byEntry (now (list .entry)) (λ (mark : ℕ) (rise : ℕ). through (curveAt c mark) rise / 2 ^ 12) ⌝ }
+    ensures { λ r. ⌜ r ≡ byEntry (now (list .entry)) (λ (start : ℕ) (rise : ℕ). through (curveAt c start) rise / 2 ^ 12) ⌝ }
 {
     let n = list[LENGTH] as usize;
     let mut sum: u64 = 0;
     let mut k: usize = 0;
     while k < n {
-        let mark = list[k] as usize;
+        let d = list[k] as usize;
         let curve = Curve {
-            base: c.bases[mark],
-            growth: c.growths[mark],
+            base: c.bases[d],
+            growth: c.growths[d],
             saturation: c.saturation,
-            load: c.loads[mark],
-            first: c.firsts[mark],
+            load: c.loads[d],
+            first: c.firsts[d],
             gain: c.gain,
         };
         sum += list[COUNTS + k] * (through(tables, curve, list[RISES + k]) / CUT);
@@ -39,24 +39,24 @@ pub fn through_list(tables: &[u64; 578], list: &[u64; 1732], c: Curves) -> u64
     sum
 }
 
-// Of the rise when the temperature of each mark is raised.
-pub fn through_marks(tables: &[u64; 578], raises: &[u64; 48], c: Curves) -> [u64; 48]
+// Of the rise when the temperature at each distance is raised.
+pub fn through_raises(tables: &[u64; 578], raises: &[u64; 25], c: Curves) -> [u64; 25]
     requires { ⌜ (now tables ≡ entries) × CurvesReady c × AllAtMost (56 * 2 ^ 40) (now raises) ⌝ }
-    ensures { λ r. ⌜ (r ≡ tab (λ (mark : ℕ). through (curveAt c mark) (at (now (raises .entry)) mark)) 48) × AllAtMost (2 ^ 54) r ⌝ }
+    ensures { λ r. ⌜ (r ≡ tab (λ (d : ℕ). through (curveAt c d) (at (now (raises .entry)) d)) 25) × AllAtMost (2 ^ 54) r ⌝ }
 {
-    let mut out = [0u64; 48];
-    let mut mark: usize = 0;
-    while mark < 48 {
+    let mut out = [0u64; 25];
+    let mut d: usize = 0;
+    while d < 25 {
         let curve = Curve {
-            base: c.bases[mark],
-            growth: c.growths[mark],
+            base: c.bases[d],
+            growth: c.growths[d],
             saturation: c.saturation,
-            load: c.loads[mark],
-            first: c.firsts[mark],
+            load: c.loads[d],
+            first: c.firsts[d],
             gain: c.gain,
         };
-        out[mark] = through(tables, curve, raises[mark]);
-        mark += 1;
+        out[d] = through(tables, curve, raises[d]);
+        d += 1;
     }
     out
 }

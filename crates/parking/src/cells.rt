@@ -2,9 +2,13 @@
 ghost use mathlib.Core.Path.{_≡_};
 ghost use Prim.Native.Nat.{_<_, _≤_};
 ghost use lib.ListN.{length};
+ghost use Rattle.bounds.specs.Weights.{oneWay, apart};
 ghost use Rattle.exact.specs.Day.{startMark};
 ghost use Rattle.exact.specs.Factors.{total, products};
-ghost use Rattle.parking.specs.Grid.{markOf};
+ghost use Rattle.parking.specs.Grid.{markOf, apartOf};
+
+// The mark of 14:00.
+pub const WARMEST: usize = 28;
 
 // The products of two lists of counts.
 pub fn products(durations: [u64; 24], hours: [u64; 24]) -> [u64; 576]
@@ -38,4 +42,33 @@ pub fn mark_of(cell: usize, ends: bool) -> usize
     } else {
         start_mark(cell / 24 + 1, cell % 24 + 1)
     }
+}
+
+// How far a mark is from 14:00, by mark or back, in half-hours.
+fn one_way(mark: usize) -> usize
+    requires { ⌜ mark < 48 ⌝ }
+    ensures { λ r. ⌜ (r ≡ oneWay mark) × (r ≤ 28) ⌝ }
+{
+    if mark < WARMEST {
+        WARMEST - mark
+    } else {
+        mark - WARMEST
+    }
+}
+
+// The same the shorter way round the day.
+pub fn apart(mark: usize) -> usize
+    requires { ⌜ mark < 48 ⌝ }
+    ensures { λ r. ⌜ (r ≡ apart mark) × (r ≤ 24) ⌝ }
+{
+    let way = one_way(mark);
+    if way < 24 { way } else { 48 - way }
+}
+
+// Of the mark at which the parking of a cell ends, or starts.
+pub fn apart_of(cell: usize, ends: bool) -> usize
+    requires { ⌜ cell < 576 ⌝ }
+    ensures { λ r. ⌜ (r ≡ apartOf ends cell) × (r ≤ 24) ⌝ }
+{
+    apart(mark_of(cell, ends))
 }

@@ -1,4 +1,6 @@
-// The parkings that breathe, as a list made once a season: cells of one start mark and one rise are one entry, and cells without rise are none.
+// The parkings that breathe, as a list made once a season: cells that start at one temperature and have one rise are one entry, and cells
+// without rise are none.
+use crate::cells::apart;
 use crate::cells::mark_of;
 ghost use mathlib.Core.Bool.{cond, _&&_};
 ghost use mathlib.Core.List.{[], _∷_, _++_};
@@ -10,7 +12,7 @@ ghost use Rattle.numbers.specs.Lists.{at};
 ghost use Rattle.parking.specs.Grid.{cellsIn, GridReady};
 ghost use Rattle.parking.specs.SeasonList.{ListReady};
 
-// In the array stand the marks, the rises and the counts of the entries, and how many entries there are.
+// In the array stand the starts of the entries, by their distance from 14:00, the rises and the counts, and how many entries there are.
 pub const RISES: usize = 577;
 
 pub const COUNTS: usize = 1154;
@@ -20,12 +22,12 @@ pub const LENGTH: usize = 1731;
 // Where cells without rise are counted: no entry stands there.
 const ASIDE: usize = 576;
 
-// The entry has this mark and this rise.
-fn same(marks: &[u64; 577], rises: &[u64; 577], entry: usize, mark: usize, rise: u64) -> bool
-    requires { ⌜ (entry < 577) × (mark < 48) ⌝ }
-    ensures { λ r. ⌜ r ≡ (eqb (at (now (marks .entry)) entry) mark && eqb (at (now (rises .entry)) entry) rise) ⌝ }
+// The entry has this start and this rise.
+fn same(starts: &[u64; 577], rises: &[u64; 577], entry: usize, start: usize, rise: u64) -> bool
+    requires { ⌜ (entry < 577) × (start ≤ 24) ⌝ }
+    ensures { λ r. ⌜ r ≡ (eqb (at (now (starts .entry)) entry) start && eqb (at (now (rises .entry)) entry) rise) ⌝ }
 {
-    (marks[entry] == mark as u64) & (rises[entry] == rise)
+    (starts[entry] == start as u64) & (rises[entry] == rise)
 }
 
 // Where a cell is counted: aside, at an entry like it, or at a new one.
@@ -48,17 +50,17 @@ fn grown(place: usize, len: usize) -> usize
 
 // What stands at a place of the array.
 fn entry_part(
-    marks: &[u64; 577],
+    starts: &[u64; 577],
     rises: &[u64; 577],
     counts: &[u64; 577],
     len: u64,
     k: usize,
 ) -> u64
-    requires { ⌜ (length (now marks) ≡ 577) × (length (now rises) ≡ 577) × (length (now counts) ≡ 577) × (k < 1732) ⌝ }
-    ensures { λ r. ⌜ r ≡ at (now (marks .entry) ++ (now (rises .entry) ++ (now (counts .entry) ++ (len ∷ [])))) k ⌝ }
+    requires { ⌜ (length (now starts) ≡ 577) × (length (now rises) ≡ 577) × (length (now counts) ≡ 577) × (k < 1732) ⌝ }
+    ensures { λ r. ⌜ r ≡ at (now (starts .entry) ++ (now (rises .entry) ++ (now (counts .entry) ++ (len ∷ [])))) k ⌝ }
 {
     if k < RISES {
-        return marks[k];
+        return starts[k];
     }
     if k < COUNTS {
         return rises[k - RISES];
@@ -68,29 +70,29 @@ fn entry_part(
 
 // The parts one after another.
 fn entries_joined(
-    marks: &[u64; 577],
+    starts: &[u64; 577],
     rises: &[u64; 577],
     counts: &[u64; 577],
     len: u64,
 ) -> [u64; 1732]
-    requires { ⌜ (length (now marks) ≡ 577) × (length (now rises) ≡ 577) × (length (now counts) ≡ 577) ⌝ }
-    ensures { λ r. ⌜ r ≡ now (marks .entry) ++ (now (rises .entry) ++ (now (counts .entry) ++ (len ∷ []))) ⌝ }
+    requires { ⌜ (length (now starts) ≡ 577) × (length (now rises) ≡ 577) × (length (now counts) ≡ 577) ⌝ }
+    ensures { λ r. ⌜ r ≡ now (starts .entry) ++ (now (rises .entry) ++ (now (counts .entry) ++ (len ∷ []))) ⌝ }
 {
     let mut out = [0u64; 1732];
     let mut k: usize = 0;
     while k < 1732 {
-        out[k] = entry_part(marks, rises, counts, len, k);
+        out[k] = entry_part(starts, rises, counts, len, k);
         k += 1;
     }
     out
 }
 
 // The list of a season, from the grid and the rises of its parkings. `last` says where to look for an entry; nothing has to be known of it.
-pub fn list_of(grid: &[u64; 673], rises: &[u64; 576]) -> [u64; 1732]
+pub fn list_of(grid: &[u64; 627], rises: &[u64; 576]) -> [u64; 1732]
     requires { ⌜ GridReady (now grid) ⌝ }
     ensures { λ r. ⌜ ListReady (cellsIn (now (grid .entry))) (now (rises .entry)) r ⌝ }
 {
-    let mut marks = [0u64; 577];
+    let mut starts = [0u64; 577];
     let mut values = [0u64; 577];
     let mut counts = [0u64; 577];
     let mut last = [0usize; 48];
@@ -98,16 +100,17 @@ pub fn list_of(grid: &[u64; 673], rises: &[u64; 576]) -> [u64; 1732]
     let mut cell: usize = 0;
     while cell < 576 {
         let mark = mark_of(cell, false);
+        let start = apart(mark);
         let rise = rises[cell];
         let entry = last[mark];
-        let found = same(&marks, &values, entry, mark, rise);
+        let found = same(&starts, &values, entry, start, rise);
         let place = slot(rise, found, entry, len);
-        marks[place] = mark as u64;
+        starts[place] = start as u64;
         values[place] = rise;
         counts[place] += grid[cell];
         last[mark] = place;
         len = grown(place, len);
         cell += 1;
     }
-    entries_joined(&marks, &values, &counts, len as u64)
+    entries_joined(&starts, &values, &counts, len as u64)
 }

@@ -20,7 +20,7 @@ ghost use Rattle.report_words.specs.Years.{SheetLent};
 // With the tables and the grid, in units of 2^-28 g.
 pub fn units_with(
     tables: &[u64; 578],
-    grid: &[u64; 673],
+    grid: &[u64; 627],
     s: &[u8],
     season: usize,
     row: usize,

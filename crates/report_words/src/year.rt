@@ -48,7 +48,7 @@ pub fn add_days(words: &mut [u64], at: usize, days: u64, figures: [u64; 6])
 // A season in all rows: what one vehicle of a row loses on its days is added to the row's six words.
 fn add_rows(
     tables: &[u64; 578],
-    grid: &[u64; 673],
+    grid: &[u64; 627],
     list: &[u64; 1732],
     at: AtSeason,
     s: &[u8],
@@ -70,7 +70,7 @@ fn add_rows(
 }
 
 // Season j: its values at the marks, its rises, their list and its means are made once, for all rows.
-fn add_season(tables: &[u64; 578], grid: &[u64; 673], s: &[u8], j: usize, words: &mut [u64])
+fn add_season(tables: &[u64; 578], grid: &[u64; 627], s: &[u8], j: usize, words: &mut [u64])
     requires { ⌜ SheetLent (now s) (now tables) (now grid) × (j < seasonsOf (now s)) × RowsHold (yearWord (now s) j) (now s) (now words) ⌝ }
     ensures { λ _. ⌜ now (words .exit) ≡ filled (yearWord (now (s .entry)) (j + 1)) (6 * rowsOf (now (s .entry))) (now (words .entry)) ⌝ }
 {
@@ -83,7 +83,7 @@ fn add_season(tables: &[u64; 578], grid: &[u64; 673], s: &[u8], j: usize, words:
 }
 
 // All seasons.
-fn add_seasons(tables: &[u64; 578], grid: &[u64; 673], s: &[u8], words: &mut [u64])
+fn add_seasons(tables: &[u64; 578], grid: &[u64; 627], s: &[u8], words: &mut [u64])
     requires { ⌜ SheetLent (now s) (now tables) (now grid) × RowsHold (yearWord (now s) 0) (now s) (now words) ⌝ }
     ensures { λ _. ⌜ now (words .exit)
         ≡ filled (yearWord (now (s .entry)) (seasonsOf (now (s .entry)))) (6 * rowsOf (now (s .entry))) (now (words .entry)) ⌝ }

@@ -20,7 +20,7 @@ use Rattle.marks.specs.AtMarks.{AtMarks, raisesBy, ratesAt}
 use Rattle.marks.proofs.Heat.{raise-most}
 use Rattle.marks.proofs.Permeation.{rate-most}
 use Rattle.marks.proofs.Curve.{season-rise-most}
-use Rattle.sheet.proofs.Temperature.{warmth-most}
+use Rattle.sheet.proofs.Temperature.{warmth-most, warmth-alike}
 use Rattle.factors.proofs.Losses.{duration-most}
 use Rattle.sheet.specs.Range.{SeasonInRange}
 use Rattle.sheet.specs.Range.{halves}
@@ -31,15 +31,16 @@ use Rattle.factors.proofs.Gain.{gain-most}
 use Rattle.factors.proofs.Mean.{meanUnits-most}
 use Rattle.factors.proofs.Sizes.{parking-rise-most, raise-rise-most}
 use Rattle.bounds.specs.Exponential.{entries}
-use Rattle.parking.specs.Grid.{markOf, passedIn, cellsIn, sumPlace, GridReady}
+use Rattle.bounds.specs.Weights.{apart, ahead}
+use Rattle.parking.specs.Grid.{markOf, apartOf, passedIn, cellsIn, sumPlace, GridReady}
 use Rattle.parking.specs.SeasonList.{ListFits}
 use Rattle.parking.proofs.Passed.{passedIn-tab}
-use Rattle.parking.proofs.Tally.{markOf-below}
+use Rattle.parking.proofs.Tally.{markOf-below, apartOf-below}
 use Rattle.parking.proofs.Weighted.{mean-ext, mean-below, cells-mean}
 use Rattle.breakthrough.specs.declared.curves.Curves.{Curves}
-use Rattle.breakthrough.specs.Curves.{CurvesOf}
+use Rattle.breakthrough.specs.Curves.{FitReady, CurvesOf}
 use Rattle.breakthrough.specs.Through.{CurvesReady, curveAt, through}
-use Rattle.breakthrough.proofs.Fitted.{curves-ready, through-is}
+use Rattle.breakthrough.proofs.Fitted.{curves-ready, through-is, through-alike}
 use Rattle.row_factors.specs.declared.season.AtSeason.{AtSeason}
 use Rattle.row_factors.specs.declared.escapes.Escapes.{Escapes}
 use Rattle.row_factors.specs.Season.{meanAt, MarksReady, risesOf, RowLent}
@@ -92,6 +93,13 @@ through-none season row mark =
     let same : loss A K σ (m + gain season row * 0 / 2 ^ 40) ≡ loss A K σ m = ap (loss A K σ) (omega arith) in
     rw same (omega arith)
 
+-- Marks as far from 14:00 have the same raises and the same permeation.
+pub raises-alike : (season : Season) (k i : ℕ) → i < 48 → raisesBy season k (ahead (apart i)) ≡ raisesBy season k i
+raises-alike season k i h = ap (raise (tenths k)) (warmth-alike season i h)
+
+pub rates-alike : (season : Season) (k i : ℕ) → i < 48 → ratesAt season k (ahead (apart i)) ≡ ratesAt season k i
+rates-alike season k i h = ap (λ (θ : ℕ). rate (season .vp) (θ + tenths k)) (warmth-alike season i h)
+
 -- How large the values at the marks are.
 module _ {season : Season} (s : SeasonInRange season) where
   raise-list-most : (k : ℕ) {xs : List ℕ} → k ≤ 60 → xs ≡ tab (raisesBy season k) 48 → AllAtMost (56 * 2 ^ 40) xs
@@ -123,11 +131,16 @@ module _ {season : Season} (s : SeasonInRange season) where
 
 -- A row with a canister, whose values at the marks these are.
 module _ {season : Season} {row : Row} {c : Curves} (f : CurvesOf season row c) (p : 0 < halves (row .canister)) (cells : List ℕ) where
+  -- from the end, or the start, of a cell's parking
+  through-from : (ends : Bool) (cell rise : ℕ) → through (curveAt c (apartOf ends cell)) rise ≡ throughUnits season row (markOf ends cell) rise
+  through-from ends cell rise =
+      through-is f (apartOf ends cell) rise (apartOf-below ends cell) ∙ through-alike season row (markOf ends cell) rise (markOf-below ends cell)
+
   -- in a parking
   parking-escape : length cells ≡ 576
-      → meanUnits cells (λ (cell : ℕ). through (curveAt c (startOf cell)) (at (risesOf season) cell)) ≡ parkingEscape season row cells
+      → meanUnits cells (λ (cell : ℕ). through (curveAt c (apartOf false cell)) (at (risesOf season) cell)) ≡ parkingEscape season row cells
   parking-escape l =
-      mean-below cells l (λ cell h. rw (getD-tab (parkingRise season) 576 cell h) (through-is f (startOf cell) _ (markOf-below false cell))) ∙
+      mean-below cells l (λ cell h. rw (getD-tab (parkingRise season) 576 cell h) (through-from false cell _)) ∙
       escape-through season row cells (row .canister) p startOf (parkingRise season)
 
   -- over a raise by so many tenths of °C
@@ -136,7 +149,9 @@ module _ {season : Season} {row : Row} {c : Curves} (f : CurvesOf season row c) 
   unfolding escapeOverUnits
   raise-escape ends k e =
       mean-ext cells
-      (λ cell. rw (e, getD-tab (raisesBy season k) 48 (markOf ends cell) (markOf-below ends cell)) (through-is f (markOf ends cell) _ (markOf-below ends cell))) ∙
+      (λ cell.
+      let raised = getD-tab (raisesBy season k) 48 (ahead (apartOf ends cell)) (omega arith) in
+      rw (e, raised, raises-alike season k (markOf ends cell) (markOf-below ends cell)) (through-from ends cell _)) ∙
       escape-through season row cells (row .canister) p (markOf ends) (λ (cell : ℕ). raisesBy season k (markOf ends cell))
 
 -- five rises
@@ -150,6 +165,24 @@ five-most {a} {b} {c} {d} {e} {bound} p q r s t = record { at-most = each }
     each (suc (suc (suc zero))) = s
     each (suc (suc (suc (suc zero)))) = t
     each (suc (suc (suc (suc (suc k))))) = omega arith
+
+-- A row with a canister, from the warmths of its season by distance from 14:00.
+pub fit-needs : {tables grid list warmths : List ℕ} {given : AtSeason} {row : Row} {vapour : ℕ}
+    → RowLent tables grid list given row vapour × (0 < halves (row .canister))
+    → warmths ≡ tab (λ (d : ℕ). at (given .marks .warmth) (ahead d)) 25 → (tables ≡ entries) × FitReady (given .season) row warmths vapour
+fit-needs {given = given} q e =
+    let m = q .0 .lent .marks-ready in
+    let warm : (d : ℕ) → d < 25 → at (given .marks .warmth) (ahead d) ≡ markWarmth (given .season) (ahead d)
+    = (λ d h. rw (m .marks-are .warmth-is) (getD-tab (markWarmth (given .season)) 48 (ahead d) (omega arith))) in (
+      q .0 .lent .tables-are,
+      record {
+        season-in = m .season-in;
+        row-in = q .0 .row-in;
+        canister-there = q .1;
+        warmths-are = e ∙ tab-ext 25 warm;
+        vapour-is = q .0 .vapour-is;
+      },
+    )
 
 -- A row with a canister, and what is lent to its functions: what they need, and that each mean is its escape.
 module _ {tables grid list : List ℕ} {given : AtSeason} {row : Row} {vapour : ℕ}
@@ -165,14 +198,14 @@ module _ {tables grid list : List ℕ} {given : AtSeason} {row : Row} {vapour : 
       (q .0 .lent .tables-are, q .0 .lent .grid-ready, fitted, q .0 .lent .list-ready .fits (72 * 2 ^ 40) (rises-most (marks-of .season-in) refl))
 
   -- nothing breaks through where nothing rises
-  still : (mark : ℕ) → mark < 48 → through (curveAt c mark) 0 / 2 ^ 12 ≡ 0
-  still mark h = rw (through-is f mark 0 h, through-none (given .season) row mark) (omega arith)
+  still : (start : ℕ) → start < 25 → through (curveAt c start) 0 / 2 ^ 12 ≡ 0
+  still start h = rw (through-is f start 0 h, through-none (given .season) row (ahead start)) (omega arith)
 
   pub parking-right : {x : ℕ} → x ≡ parkingThrough list (at grid sumPlace) c → x ≡ parkingEscape (given .season) row (cellsIn grid)
   parking-right e =
       e ∙
-      cells-mean (q .0 .lent .grid-ready) (λ (cell : ℕ). through (curveAt c (startOf cell)) (at (risesOf (given .season)) cell))
-      (q .0 .lent .list-ready .sum-is (λ (mark : ℕ) (rise : ℕ). through (curveAt c mark) rise / 2 ^ 12) still) ∙
+      cells-mean (q .0 .lent .grid-ready) (λ (cell : ℕ). through (curveAt c (apartOf false cell)) (at (risesOf (given .season)) cell))
+      (q .0 .lent .list-ready .sum-is (λ (start : ℕ) (rise : ℕ). through (curveAt c start) rise / 2 ^ 12) still) ∙
       parking-escape f (q .1) _ (q .0 .lent .grid-ready .cells-in .length-is)
 
   -- over a raise, whose list at the marks is one of the season's

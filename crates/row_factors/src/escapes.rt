@@ -4,11 +4,12 @@ use bounds::fixed::mul_shift;
 use breakthrough::curves::Curves;
 use breakthrough::curves::fit;
 use breakthrough::losses::through_list;
-use breakthrough::losses::through_marks;
+use breakthrough::losses::through_raises;
 use classes::halves;
 use exact::Row;
 use parking::grid::SUM;
-use parking::means::mean_by_mark;
+use parking::means::by_distance;
+use parking::means::mean_by_distance;
 ghost use mathlib.Core.Path.{_≡_};
 ghost use Prim.Native.Nat.{_*_, _^_, _<_};
 ghost use Rattle.numbers.specs.Lists.{at, AllAtMost};
@@ -44,7 +45,7 @@ fn open_escapes(gain: u64, rises: [u64; 5]) -> Escapes
 }
 
 // What breaks through in a parking.
-fn parking_through(tables: &[u64; 578], grid: &[u64; 673], list: &[u64; 1732], c: Curves) -> u64
+fn parking_through(tables: &[u64; 578], grid: &[u64; 627], list: &[u64; 1732], c: Curves) -> u64
     requires { ⌜ (now tables ≡ entries) × GridReady (now grid) × CurvesReady c × ListFits (72 * 2 ^ 40) (now list) ⌝ }
     ensures { λ r. ⌜ r ≡ parkingThrough (now (list .entry)) (at (now (grid .entry)) sumPlace) c ⌝ }
 {
@@ -54,7 +55,7 @@ fn parking_through(tables: &[u64; 578], grid: &[u64; 673], list: &[u64; 1732], c
 // What breaks through over a raise at the end, or the start, of a parking.
 fn raise_through(
     tables: &[u64; 578],
-    grid: &[u64; 673],
+    grid: &[u64; 627],
     ends: bool,
     raises: &[u64; 48],
     c: Curves,
@@ -62,14 +63,15 @@ fn raise_through(
     requires { ⌜ (now tables ≡ entries) × GridReady (now grid) × CurvesReady c × AllAtMost (56 * 2 ^ 40) (now raises) ⌝ }
     ensures { λ r. ⌜ r ≡ raiseThrough (cellsIn (now (grid .entry))) ends (now (raises .entry)) c ⌝ }
 {
-    let through = through_marks(tables, raises, c);
-    mean_by_mark(grid, ends, &through)
+    let by = by_distance(raises);
+    let through = through_raises(tables, &by, c);
+    mean_by_distance(grid, ends, &through)
 }
 
 // A car with canister, from which nothing escapes on a trip.
 fn canister_car(
     tables: &[u64; 578],
-    grid: &[u64; 673],
+    grid: &[u64; 627],
     list: &[u64; 1732],
     at: AtSeason,
     row: Row,
@@ -79,7 +81,8 @@ fn canister_car(
     ensures { λ r. ⌜ CarEscapes (at .season) row (cellsIn (now (grid .entry))) r ⌝ }
 {
     let marks = at.marks;
-    let c = fit(tables, at.season, &marks.warmth, row, vapour);
+    let warmths = by_distance(&marks.warmth);
+    let c = fit(tables, at.season, &warmths, row, vapour);
     Escapes {
         parking: parking_through(tables, grid, list, c),
         soak: raise_through(tables, grid, false, &marks.raise45, c),
@@ -92,7 +95,7 @@ fn canister_car(
 // A two-wheeler with canister.
 fn canister_two_wheeler(
     tables: &[u64; 578],
-    grid: &[u64; 673],
+    grid: &[u64; 627],
     list: &[u64; 1732],
     at: AtSeason,
     row: Row,
@@ -102,7 +105,8 @@ fn canister_two_wheeler(
     ensures { λ r. ⌜ TwoWheelerEscapes (at .season) row (cellsIn (now (grid .entry))) r ⌝ }
 {
     let marks = at.marks;
-    let c = fit(tables, at.season, &marks.warmth, row, vapour);
+    let warmths = by_distance(&marks.warmth);
+    let c = fit(tables, at.season, &warmths, row, vapour);
     Escapes {
         parking: parking_through(tables, grid, list, c),
         soak: raise_through(tables, grid, false, &marks.raise15, c),
@@ -115,7 +119,7 @@ fn canister_two_wheeler(
 // A car, with or without canister.
 pub fn car(
     tables: &[u64; 578],
-    grid: &[u64; 673],
+    grid: &[u64; 627],
     list: &[u64; 1732],
     at: AtSeason,
     row: Row,
@@ -136,7 +140,7 @@ pub fn car(
 // A two-wheeler, with or without canister.
 pub fn two_wheeler(
     tables: &[u64; 578],
-    grid: &[u64; 673],
+    grid: &[u64; 627],
     list: &[u64; 1732],
     at: AtSeason,
     row: Row,

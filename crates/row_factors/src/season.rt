@@ -37,7 +37,7 @@ pub struct AtSeason {
 }
 
 // The permeation in a parking: half of the hourly rates at its marks.
-fn permeation_mean(grid: &[u64; 673], rates: &[u64; 48]) -> u64
+fn permeation_mean(grid: &[u64; 627], rates: &[u64; 48]) -> u64
     requires { ⌜ GridReady (now grid) × AllAtMost (2 ^ 40) (now rates) ⌝ }
     ensures { λ r. ⌜ r ≡ meanUnits (cellsIn (now (grid .entry))) (λ (cell : ℕ). passedIn (now (rates .entry)) cell / 2) ⌝ }
 {
@@ -47,7 +47,7 @@ fn permeation_mean(grid: &[u64; 673], rates: &[u64; 48]) -> u64
 }
 
 // The means of a season, from the rises of its parkings and its values at the marks.
-pub fn at_season(grid: &[u64; 673], rises: &[u64; 576], season: Season, marks: Marks) -> AtSeason
+pub fn at_season(grid: &[u64; 627], rises: &[u64; 576], season: Season, marks: Marks) -> AtSeason
     requires { ⌜ GridReady (now grid) × MarksReady season marks × (now rises ≡ risesOf season) ⌝ }
     ensures { λ r. ⌜ AtSeasonOf season marks (cellsIn (now (grid .entry))) r ⌝ }
 {

@@ -64,7 +64,7 @@ fn two_wheeler_units(e: Escapes, m: Means) -> [u64; 7]
 // The seven factors of a row.
 pub fn row_units(
     tables: &[u64; 578],
-    grid: &[u64; 673],
+    grid: &[u64; 627],
     list: &[u64; 1732],
     at: AtSeason,
     row: Row,

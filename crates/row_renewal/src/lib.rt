@@ -28,7 +28,7 @@ ghost use Rattle.row_renewal.specs.RowYear.{rowYear};
 const CUT_UP: u64 = 999999999;
 
 // What one vehicle of row i loses on a day of season j.
-fn day_of(tables: &[u64; 578], grid: &[u64; 673], s: &[u8], j: usize, i: usize) -> [u64; 6]
+fn day_of(tables: &[u64; 578], grid: &[u64; 627], s: &[u8], j: usize, i: usize) -> [u64; 6]
     requires { ⌜ SheetLent (now s) (now tables) (now grid) × (j < seasonsOf (now s)) × (i < rowsOf (now s)) ⌝ }
     ensures { λ r. ⌜ r ≡ dayFigures (cellsOf (now (s .entry))) (seasonAt (now (s .entry)) j) (rowAt (now (s .entry)) i) ⌝ }
 {
@@ -36,7 +36,7 @@ fn day_of(tables: &[u64; 578], grid: &[u64; 673], s: &[u8], j: usize, i: usize) 
 }
 
 // What one vehicle of row i loses in the year: its figures of a day, for the days of each season.
-fn year_of(tables: &[u64; 578], grid: &[u64; 673], s: &[u8], i: usize) -> [u64; 6]
+fn year_of(tables: &[u64; 578], grid: &[u64; 627], s: &[u8], i: usize) -> [u64; 6]
     requires { ⌜ SheetLent (now s) (now tables) (now grid) × (i < rowsOf (now s)) ⌝ }
     ensures { λ r. ⌜ r ≡ tab (rowYear (now (s .entry)) i (seasonsOf (now (s .entry)))) 6 ⌝ }
 {

@@ -1,4 +1,4 @@
--- `breakthrough::curves::first_losses` meets its contract: the first marks hold their losses.
+-- `breakthrough::curves::first_losses` meets its contract: the first distances hold their losses.
 use mathlib.Core.Path.{refl, ap}
 use Prim.Native.Nat.{ℕ, _+_, _-_}
 use native.Mathlib.Omega.{arith}
@@ -11,21 +11,21 @@ use Rattle.breakthrough.proofs.curves.first_losses.Statement.{statement
 use Rattle.breakthrough.proofs.curves.first_losses.Tie as tie
 
 abbrev Inv-loop : tie.InvT-loop
-Inv-loop tables error c out₀ mark₀ out mark = Filled (λ (k : ℕ). loss (at (c .bases) k) (at (c .growths) k) (c .saturation) (at (c .loads) k) + error) 48 mark out
+Inv-loop tables error c out₀ d₀ out d = Filled (λ (k : ℕ). loss (at (c .bases) k) (at (c .growths) k) (c .saturation) (at (c .loads) k) + error) 25 d out
 
 abbrev μ-loop : tie.MeasureT-loop
-μ-loop tables error c out₀ mark₀ out mark = 48 - mark
+μ-loop tables error c out₀ d₀ out d = 25 - d
 
 loss-requires : tie.Need-loss-requires Inv-loop μ-loop
 loss-requires c κs =
     let s = c .before .before .before .before .before in
-    let r = s .pre .1 .ready (c .before .before .before .before .loop .mark) 0 (omega arith) in
+    let r = s .pre .1 .ready (c .before .before .before .before .loop .d) 0 (omega arith) in
     (s .pre .0, r, omega (arith, r .load-most, r .saturation-below))
 
 add-out : tie.Need-add-out Inv-loop μ-loop
 add-out c =
     let l = c .before .before .before .before .before in
-    omega (arith, c .loss .ensures .1, l .before .pre .1 .ready (l .loop .mark) 0 (omega arith) .load-most)
+    omega (arith, c .loss .ensures .1, l .before .pre .1 .ready (l .loop .d) 0 (omega arith) .load-most)
 
 loop-again : tie.Need-loop-again Inv-loop μ-loop
 loop-again c =
@@ -38,7 +38,7 @@ first-losses-spec =
     (tie.spec
     Inv-loop
     μ-loop
-    (λ c. filled-none _ (replicate 48 0) refl)
+    (λ c. filled-none _ (replicate 25 0) refl)
     (λ c. search needs)
     (λ c. search needs)
     (λ c. search needs)

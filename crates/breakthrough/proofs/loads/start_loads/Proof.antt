@@ -15,11 +15,11 @@ returns : tie.Need-returns
 returns c =
     let g = c .before in
     c .starts .ensures .0 ∙
-    tab-ext 48
-    (λ mark h. rw (g .tenth-grams .ensures, g .before .net .ensures .0, g .before .before .halves .ensures .0) (sym (start-driven _ _ _ (g .before .before .before .if1 .taken))))
+    tab-ext 25
+    (λ d h. rw (g .tenth-grams .ensures, g .before .net .ensures .0, g .before .before .halves .ensures .0) (sym (start-driven _ _ _ (g .before .before .before .if1 .taken))))
 
 returns-2 : tie.Need-returns-2
-returns-2 c = tab-constant 48 _ (λ k l. start-written _ _ _ (c .before .if1 .left) ∙ sym (c .tenth-grams2 .ensures))
+returns-2 c = tab-constant 25 _ (λ k l. start-written _ _ _ (c .before .if1 .left) ∙ sym (c .tenth-grams2 .ensures))
 
 pub start-loads-spec : {M : Type 1} → statement M
 start-loads-spec =

@@ -21,9 +21,9 @@ abbrev μ-loop : tie.MeasureT-loop
 inside : (c : tie.In-loop Inv-loop μ-loop) → c .before .loop .k < 577
 inside c = omega (arith, c .loop-test .taken, c .before .before .before .pre .2 .entries-most)
 
--- and so its mark one of the day
-marked : (c : tie.In-loop Inv-loop μ-loop) → at (c .before .before .before .args .list .now) (c .before .loop .k) < 48
-marked c = c .before .before .before .pre .2 .marks-below (c .before .loop .k) (inside c)
+-- and so its start a distance
+marked : (c : tie.In-loop Inv-loop μ-loop) → at (c .before .before .before .args .list .now) (c .before .loop .k) < 25
+marked c = c .before .before .before .pre .2 .starts-below (c .before .loop .k) (inside c)
 
 through-requires : tie.Need-through-requires Inv-loop μ-loop
 through-requires c κs =

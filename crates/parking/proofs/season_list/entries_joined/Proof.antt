@@ -12,17 +12,17 @@ use Rattle.parking.proofs.season_list.entries_joined.Statement.{stateme
 use Rattle.parking.proofs.season_list.entries_joined.Tie as tie
 
 abbrev Inv-loop : tie.InvT-loop
-Inv-loop marks rises counts len out₀ k₀ out k = Filled (at (marks ++ (rises ++ (counts ++ (len ∷ []))))) 1732 k out
+Inv-loop starts rises counts len out₀ k₀ out k = Filled (at (starts ++ (rises ++ (counts ++ (len ∷ []))))) 1732 k out
 
 abbrev μ-loop : tie.MeasureT-loop
-μ-loop marks rises counts len out₀ k₀ out k = 1732 - k
+μ-loop starts rises counts len out₀ k₀ out k = 1732 - k
 
 returns : tie.Need-returns Inv-loop μ-loop
 returns c =
     let s = c .before .before in
     let a = s .args in
     filled-all (c .before .loop .inv) (omega arith) ∙
-    tab-at _ (entries-length (a .marks .now) (a .rises .now) (a .counts .now) (a .len) (s .pre .0) (s .pre .1) (s .pre .2))
+    tab-at _ (entries-length (a .starts .now) (a .rises .now) (a .counts .now) (a .len) (s .pre .0) (s .pre .1) (s .pre .2))
 
 pub entries-joined-spec : {M : Type 1} → statement M
 entries-joined-spec =

@@ -2,6 +2,7 @@
 use mathlib.Core.Path.{ap}
 use Prim.Native.Nat.{ℕ, _/_}
 use Rattle.numbers.specs.Lists.{at}
+use Rattle.parking.specs.Grid.{sumPlace}
 use native.Mathlib.Omega.{arith}
 use borrow.Author.Needs.{needs}
 use Rattle.row_factors.proofs.escapes.parking_through.Statement.{statement}
@@ -14,4 +15,4 @@ parking-through-spec =
     (λ c κs. search needs)
     (λ c. search needs)
     (λ c. omega (arith, c .before .before .pre .1 .sum-is, c .before .before .pre .1 .cells-in .total-least))
-    (λ c. ap (λ (x : ℕ). x / at (c .before .before .args .grid .now) 672) (c .before .through-list .ensures)))
+    (λ c. ap (λ (x : ℕ). x / at (c .before .before .args .grid .now) sumPlace) (c .before .through-list .ensures)))

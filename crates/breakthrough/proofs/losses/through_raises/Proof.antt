@@ -1,4 +1,4 @@
--- `breakthrough::losses::through_marks` meets its contract: the first marks hold what breaks through from them.
+-- `breakthrough::losses::through_raises` meets its contract: the first distances hold what breaks through at them.
 use mathlib.Core.Path.{refl}
 use Prim.Native.Nat.{ℕ, _-_}
 use native.Mathlib.Omega.{arith}
@@ -8,34 +8,34 @@ use Rattle.numbers.proofs.Lists.{Filled, filled-none, filled-more, filled-all, 
 use Rattle.breakthrough.specs.Through.{curveAt, through}
 use Rattle.breakthrough.proofs.Exponents.{through-most}
 use borrow.Author.Needs.{needs}
-use Rattle.breakthrough.proofs.losses.through_marks.Statement.{statement}
-use Rattle.breakthrough.proofs.losses.through_marks.Tie as tie
+use Rattle.breakthrough.proofs.losses.through_raises.Statement.{statement}
+use Rattle.breakthrough.proofs.losses.through_raises.Tie as tie
 
 abbrev Inv-loop : tie.InvT-loop
-Inv-loop tables raises c out₀ mark₀ out mark = Filled (λ (k : ℕ). through (curveAt c k) (at raises k)) 48 mark out
+Inv-loop tables raises c out₀ d₀ out d = Filled (λ (k : ℕ). through (curveAt c k) (at raises k)) 25 d out
 
 abbrev μ-loop : tie.MeasureT-loop
-μ-loop tables raises c out₀ mark₀ out mark = 48 - mark
+μ-loop tables raises c out₀ d₀ out d = 25 - d
 
 through-requires : tie.Need-through-requires Inv-loop μ-loop
 through-requires c κs =
     let l = c .before .before .before .before .before .before in
     let p = l .before .pre in
-    (p .0, p .1 .ready (l .loop .mark) _ (omega arith), omega (arith, p .2 .at-most (l .loop .mark)))
+    (p .0, p .1 .ready (l .loop .d) _ (omega arith), omega (arith, p .2 .at-most (l .loop .d)))
 
 returns : tie.Need-returns Inv-loop μ-loop
 returns c =
     let p = c .before .before .pre in
     let e = filled-all (c .before .loop .inv) (omega arith) in
-    (e, tab-at-most _ 48 e (λ k h. through-most _ _ (p .1 .ready k _ h) (omega (arith, p .2 .at-most k))))
+    (e, tab-at-most _ 25 e (λ k h. through-most _ _ (p .1 .ready k _ h) (omega (arith, p .2 .at-most k))))
 
-pub through-marks-spec : {M : Type 1} → statement M
-through-marks-spec =
+pub through-raises-spec : {M : Type 1} → statement M
+through-raises-spec =
     tie.close
     (tie.spec
     Inv-loop
     μ-loop
-    (λ c. filled-none _ (replicate 48 0) refl)
+    (λ c. filled-none _ (replicate 25 0) refl)
     (λ c. search needs) (λ c. search needs) (λ c. search needs) (λ c. search needs)
     (λ c. search needs) (λ c. search needs) (λ c. search needs) (λ c. search needs)
     (λ c. search needs) (λ c. search needs)
