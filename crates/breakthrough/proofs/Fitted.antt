@@ -52,7 +52,6 @@ module _ {season : Season} {row : Row} (s : SeasonInRange season) (r : RowInRang
   loads-ready eb eg = record {
     saturation-most = saturation-most s r p;
     load-most = r .load-most;
-    mileage-most = r .mileage-most;
     canister-there = p;
     balanced = λ km net h. record {
       ready = λ d l.

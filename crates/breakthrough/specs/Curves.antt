@@ -6,18 +6,22 @@ use Rattle.numbers.specs.Lists.{tab}
 use Rattle.bounds.specs.Weights.{ahead}
 use Rattle.exact.specs.declared.Season.{Season}
 use Rattle.exact.specs.declared.Row.{Row}
-use Rattle.sheet.specs.Limits.{mileageLimit}
 use Rattle.sheet.specs.Range.{SeasonInRange, markWarmth, halves, RowInRange}
+use Rattle.starting_loads.specs.Net.{netOf}
 use Rattle.starting_loads.specs.Balance.{BalancesReady}
 use Rattle.factors.specs.Escape.{tenthGrams, loss}
 use Rattle.factors.specs.Units.{rowStart, lossError, baseAt, growthAt, gain}
 use Rattle.breakthrough.specs.declared.curves.Curves.{Curves}
 
+-- what a row's canister keeps of its load, from the mileage alone: no season changes it
+pub record KeptOf (row : Row) (kept : ℕ) : Type 0 where
+  pub kept-is : 17 ≤ row .mileage → 0 < halves (row .canister) → kept ≡ netOf (halves (row .canister)) (row .mileage)
+  pub kept-below : kept < 2 ^ 50
+
 -- what the starting loads are found from: with a mileage every exponent up to m_sat is at most 0
 pub record LoadsReady (row : Row) (bases growths : List ℕ) : Type 0 where
   pub saturation-most : row .saturation ≤ 3685
   pub load-most : row .load ≤ row .saturation
-  pub mileage-most : row .mileage ≤ mileageLimit
   pub canister-there : 0 < halves (row .canister)
   pub balanced : 17 ≤ row .mileage → (net : ℕ) → net < 2 ^ 50 → BalancesReady bases growths (tenthGrams (row .saturation)) net
 
@@ -31,12 +35,13 @@ module _ (season : Season) (row : Row) where
   -- Values by distance from 14:00 are those of the mark so far before it.
 
   -- what a canister is fitted from
-  pub record FitReady (warmths : List ℕ) (vapour : ℕ) : Type 0 where
+  pub record FitReady (warmths : List ℕ) (vapour kept : ℕ) : Type 0 where
     pub season-in : SeasonInRange season
     pub row-in : RowInRange season row
     pub canister-there : 0 < halves (row .canister)
     pub warmths-are : warmths ≡ tab (λ (d : ℕ). markWarmth season (ahead d)) 25
     pub vapour-is : vapour ≡ gain season row
+    pub kept-of : KeptOf row kept
 
   pub record CurvesOf (c : Curves) : Type 0 where
     pub bases-are : c .bases ≡ tab (λ (d : ℕ). baseAt season row (ahead d)) 25

@@ -91,21 +91,23 @@ fn first_losses(tables: &[u64; 578], c: Curves, error: u64) -> [u64; 25]
     out
 }
 
-// A row's canister in a season that has these warmths by distance, and the vapour in its tank for a rise of 1.
+// A row's canister in a season that has these warmths by distance, the vapour in its tank for a rise of 1, and what it keeps of
+// its load.
 pub fn fit(
     tables: &[u64; 578],
     season: Season,
     warmths: &[u64; 25],
     row: Row,
     vapour: u64,
+    kept: u64,
 ) -> Curves
-    requires { ⌜ (now tables ≡ entries) × FitReady season row (now warmths) vapour ⌝ }
+    requires { ⌜ (now tables ≡ entries) × FitReady season row (now warmths) vapour kept ⌝ }
     ensures { λ r. ⌜ CurvesOf season row r ⌝ }
 {
     let bases = bases(warmths, season.vp);
     let canister = row.canister;
     let growths = growths(warmths, season.vp, halves(canister));
-    let loads = start_loads(tables, row, &bases, &growths);
+    let loads = start_loads(tables, row, kept, &bases, &growths);
     let saturation = tenth_grams(row.saturation);
     let none = [0u64; 25];
     let unlost = Curves {

@@ -8,6 +8,7 @@ ghost use mathlib.Core.Path.{_≡_};
 ghost use Prim.Native.Nat.{_*_, _^_, _<_, _≤_};
 ghost use Rattle.sheet.specs.Range.{RowInRange};
 ghost use Rattle.parking.specs.Grid.{cellsIn};
+ghost use Rattle.breakthrough.specs.Curves.{KeptOf};
 ghost use Rattle.row_factors.specs.Season.{Lent};
 ghost use Rattle.masses.specs.Figures.{blended};
 ghost use Rattle.masses.specs.Day.{UnitsInRange, MicrogramsInRange, UseInRange, tripLimit};
@@ -80,9 +81,10 @@ pub fn row_figures(
     list: &[u64; 1732],
     at: AtSeason,
     row: Row,
+    kept: u64,
 ) -> [u64; 6]
-    requires { ⌜ Lent (now tables) (now grid) (now list) at × RowInRange (at .season) row × UseInRange row ⌝ }
+    requires { ⌜ Lent (now tables) (now grid) (now list) at × RowInRange (at .season) row × UseInRange row × KeptOf row kept ⌝ }
     ensures { λ r. ⌜ r ≡ dayFigures (cellsIn (now (grid .entry))) (at .season) row ⌝ }
 {
-    six_figures(row_units(tables, grid, list, at, row), row)
+    six_figures(row_units(tables, grid, list, at, row, kept), row)
 }

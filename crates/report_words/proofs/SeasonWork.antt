@@ -1,12 +1,15 @@
 -- What a season and a row of an accepted sheet give to the calculation of their factors.
 use mathlib.Core.List.{List}
 use mathlib.Core.Path.{_≡_, _∙_, ap}
-use Prim.Native.Nat.{ℕ, _-_, _^_, _<_}
+use Prim.Native.Nat.{ℕ, _-_, _^_, _≤_, _<_}
+use native.Mathlib.Decide.{decLe}
 use native.Mathlib.Omega.{arith}
 use Rattle.numbers.specs.Lists.{tab, AllAtMost}
 use Rattle.numbers.proofs.Lists.{tab-ext, tab-at-most}
 use Rattle.exact.specs.declared.Season.{Season}
 use Rattle.marks.specs.declared.Marks.{Marks}
+use Rattle.sheet.specs.Limits.{mileageLimit}
+use Rattle.sheet.specs.Versions.{versionOf}
 use Rattle.sheet.specs.Range.{SeasonInRange}
 use Rattle.sheet.specs.Range.{markWarmth}
 use Rattle.marks.specs.Marks.{stepAt, riseError}
@@ -30,6 +33,12 @@ pub use-in-range : {s : List ℕ} → Accepted s → {i : ℕ} → i < rowsOf s 
 use-in-range a {i} there =
     let r = a .row i there in
     record { carburettor-most = r .carburettor-most; hot-most = r .hot-most; trips-most = r .trips-most }
+
+-- its mileage, of which there is none before version 3
+pub mileage-within : {s : List ℕ} → Accepted s → {i : ℕ} → i < rowsOf s → (rowAt s i) .mileage ≤ mileageLimit
+mileage-within {s} a {i} there =
+    let r = a .row i there in
+    elim (decLe 3 (versionOf s)) [ yes new ↦ r .mileage new .0 | no old ↦ omega (arith, r .no-mileage (omega arith)) ]
 
 -- the steps of a season's day
 pub steps-most : {season : Season} {marks : Marks} → SeasonInRange season → AtMarks season marks → AllAtMost (2 ^ 50) (marks .step)

@@ -9,6 +9,7 @@ use Rattle.bounds.specs.Exponential.{entries}
 use Rattle.exact.specs.declared.Season.{Season}
 use Rattle.sheet.specs.Range.{RowInRange}
 use Rattle.parking.specs.Grid.{cellsIn, GridReady}
+use Rattle.breakthrough.specs.Curves.{KeptOf}
 use Rattle.row_factors.specs.declared.season.AtSeason.{AtSeason}
 use Rattle.row_factors.specs.Season.{Lent}
 use Rattle.masses.specs.Day.{dayFigures}
@@ -23,6 +24,10 @@ pub record SheetLent (s tables grid : List ℕ) : Type 0 where
   pub tables-are : tables ≡ entries
   pub grid-ready : GridReady grid
   pub cells-are : cellsIn grid ≡ cellsOf s
+
+-- what the canister of each of its rows keeps of its load
+pub record RowsKept (s kept : List ℕ) : Type 0 where
+  pub kept-of : (i : ℕ) → i < rowsOf s → KeptOf (rowAt s i) (getD kept i 0)
 
 -- with one of its seasons, for all its rows
 pub record SeasonLent (s tables grid list : List ℕ) (at : AtSeason) : Type 0 where

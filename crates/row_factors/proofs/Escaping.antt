@@ -167,9 +167,9 @@ five-most {a} {b} {c} {d} {e} {bound} p q r s t = record { at-most = each }
     each (suc (suc (suc (suc (suc k))))) = omega arith
 
 -- A row with a canister, from the warmths of its season by distance from 14:00.
-pub fit-needs : {tables grid list warmths : List ℕ} {given : AtSeason} {row : Row} {vapour : ℕ}
-    → RowLent tables grid list given row vapour × (0 < halves (row .canister))
-    → warmths ≡ tab (λ (d : ℕ). at (given .marks .warmth) (ahead d)) 25 → (tables ≡ entries) × FitReady (given .season) row warmths vapour
+pub fit-needs : {tables grid list warmths : List ℕ} {given : AtSeason} {row : Row} {vapour kept : ℕ}
+    → RowLent tables grid list given row vapour kept × (0 < halves (row .canister))
+    → warmths ≡ tab (λ (d : ℕ). at (given .marks .warmth) (ahead d)) 25 → (tables ≡ entries) × FitReady (given .season) row warmths vapour kept
 fit-needs {given = given} q e =
     let m = q .0 .lent .marks-ready in
     let warm : (d : ℕ) → d < 25 → at (given .marks .warmth) (ahead d) ≡ markWarmth (given .season) (ahead d)
@@ -181,12 +181,13 @@ fit-needs {given = given} q e =
         canister-there = q .1;
         warmths-are = e ∙ tab-ext 25 warm;
         vapour-is = q .0 .vapour-is;
+        kept-of = q .0 .kept-of;
       },
     )
 
 -- A row with a canister, and what is lent to its functions: what they need, and that each mean is its escape.
-module _ {tables grid list : List ℕ} {given : AtSeason} {row : Row} {vapour : ℕ}
-    (q : RowLent tables grid list given row vapour × (0 < halves (row .canister))) {c : Curves} (f : CurvesOf (given .season) row c) where
+module _ {tables grid list : List ℕ} {given : AtSeason} {row : Row} {vapour kept : ℕ}
+    (q : RowLent tables grid list given row vapour kept × (0 < halves (row .canister))) {c : Curves} (f : CurvesOf (given .season) row c) where
   marks-of : MarksReady (given .season) (given .marks)
   marks-of = q .0 .lent .marks-ready
 
@@ -218,7 +219,7 @@ module _ {tables grid list : List ℕ} {given : AtSeason} {row : Row} {vapour : 
     raise-right ends e = e ∙ raise-escape f (q .1) _ ends k (pick (marks-of .marks-are))
 
 -- A row without canister, and what is lent to its functions: how large the mean rises are, and that the vapour of each is its escape.
-module _ {tables grid list : List ℕ} {given : AtSeason} {row : Row} {vapour : ℕ} (r : RowLent tables grid list given row vapour) where
+module _ {tables grid list : List ℕ} {given : AtSeason} {row : Row} {vapour kept : ℕ} (r : RowLent tables grid list given row vapour kept) where
   season-ok : SeasonInRange (given .season)
   season-ok = r .lent .marks-ready .season-in
 

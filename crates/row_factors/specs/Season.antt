@@ -14,6 +14,7 @@ use Rattle.factors.specs.Means.{meanUnits}
 use Rattle.factors.specs.Units.{startOf, endOf, parkingRise, parkingRates, gain}
 use Rattle.parking.specs.Grid.{cellsIn, GridReady}
 use Rattle.parking.specs.SeasonList.{ListReady}
+use Rattle.breakthrough.specs.Curves.{KeptOf}
 use Rattle.row_factors.specs.declared.season.Means.{Means}
 use Rattle.row_factors.specs.declared.season.AtSeason.{AtSeason}
 
@@ -57,8 +58,9 @@ pub record Lent (tables grid list : List ℕ) (at : AtSeason) : Type 0 where
   pub list-ready : ListReady (cellsIn grid) (risesOf (at .season)) list
   pub means-are : MeansOf (at .season) (cellsIn grid) (at .means)
 
--- with a row in range, and the vapour in its tank for a rise of 1
-pub record RowLent (tables grid list : List ℕ) (at : AtSeason) (row : Row) (vapour : ℕ) : Type 0 where
+-- with a row in range, the vapour in its tank for a rise of 1, and what its canister keeps of its load
+pub record RowLent (tables grid list : List ℕ) (at : AtSeason) (row : Row) (vapour kept : ℕ) : Type 0 where
   pub lent : Lent tables grid list at
   pub row-in : RowInRange (at .season) row
   pub vapour-is : vapour ≡ gain (at .season) row
+  pub kept-of : KeptOf row kept

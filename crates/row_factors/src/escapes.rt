@@ -76,13 +76,14 @@ fn canister_car(
     at: AtSeason,
     row: Row,
     vapour: u64,
+    kept: u64,
 ) -> Escapes
-    requires { ⌜ RowLent (now tables) (now grid) (now list) at row vapour × (0 < halves (row .canister)) ⌝ }
+    requires { ⌜ RowLent (now tables) (now grid) (now list) at row vapour kept × (0 < halves (row .canister)) ⌝ }
     ensures { λ r. ⌜ CarEscapes (at .season) row (cellsIn (now (grid .entry))) r ⌝ }
 {
     let marks = at.marks;
     let warmths = by_distance(&marks.warmth);
-    let c = fit(tables, at.season, &warmths, row, vapour);
+    let c = fit(tables, at.season, &warmths, row, vapour, kept);
     Escapes {
         parking: parking_through(tables, grid, list, c),
         soak: raise_through(tables, grid, false, &marks.raise45, c),
@@ -100,13 +101,14 @@ fn canister_two_wheeler(
     at: AtSeason,
     row: Row,
     vapour: u64,
+    kept: u64,
 ) -> Escapes
-    requires { ⌜ RowLent (now tables) (now grid) (now list) at row vapour × (0 < halves (row .canister)) ⌝ }
+    requires { ⌜ RowLent (now tables) (now grid) (now list) at row vapour kept × (0 < halves (row .canister)) ⌝ }
     ensures { λ r. ⌜ TwoWheelerEscapes (at .season) row (cellsIn (now (grid .entry))) r ⌝ }
 {
     let marks = at.marks;
     let warmths = by_distance(&marks.warmth);
-    let c = fit(tables, at.season, &warmths, row, vapour);
+    let c = fit(tables, at.season, &warmths, row, vapour, kept);
     Escapes {
         parking: parking_through(tables, grid, list, c),
         soak: raise_through(tables, grid, false, &marks.raise15, c),
@@ -124,8 +126,9 @@ pub fn car(
     at: AtSeason,
     row: Row,
     vapour: u64,
+    kept: u64,
 ) -> Escapes
-    requires { ⌜ RowLent (now tables) (now grid) (now list) at row vapour ⌝ }
+    requires { ⌜ RowLent (now tables) (now grid) (now list) at row vapour kept ⌝ }
     ensures { λ r. ⌜ CarEscapes (at .season) row (cellsIn (now (grid .entry))) r ⌝ }
 {
     let canister = row.canister;
@@ -133,7 +136,7 @@ pub fn car(
         let m = at.means;
         open_escapes(vapour, [m.rise, m.start45, m.start60, m.end10, m.end50])
     } else {
-        canister_car(tables, grid, list, at, row, vapour)
+        canister_car(tables, grid, list, at, row, vapour, kept)
     }
 }
 
@@ -145,8 +148,9 @@ pub fn two_wheeler(
     at: AtSeason,
     row: Row,
     vapour: u64,
+    kept: u64,
 ) -> Escapes
-    requires { ⌜ RowLent (now tables) (now grid) (now list) at row vapour ⌝ }
+    requires { ⌜ RowLent (now tables) (now grid) (now list) at row vapour kept ⌝ }
     ensures { λ r. ⌜ TwoWheelerEscapes (at .season) row (cellsIn (now (grid .entry))) r ⌝ }
 {
     let canister = row.canister;
@@ -154,6 +158,6 @@ pub fn two_wheeler(
         let m = at.means;
         open_escapes(vapour, [m.rise, m.start15, m.start35, m.end10, m.end25])
     } else {
-        canister_two_wheeler(tables, grid, list, at, row, vapour)
+        canister_two_wheeler(tables, grid, list, at, row, vapour, kept)
     }
 }

@@ -14,6 +14,7 @@ ghost use Rattle.bounds.specs.Exponential.{entries};
 ghost use Rattle.sheet.specs.Range.{SeasonInRange, RowInRange};
 ghost use Rattle.factors.specs.Units.{gain};
 ghost use Rattle.parking.specs.Grid.{cellsIn};
+ghost use Rattle.breakthrough.specs.Curves.{KeptOf};
 ghost use Rattle.row_factors.specs.Season.{Lent};
 ghost use Rattle.row_factors.specs.Seven.{CarFits, carSeven, twoWheelerSeven, sevenUnits};
 
@@ -61,24 +62,25 @@ fn two_wheeler_units(e: Escapes, m: Means) -> [u64; 7]
     ]
 }
 
-// The seven factors of a row.
+// The seven factors of a row whose canister keeps so much of its load.
 pub fn row_units(
     tables: &[u64; 578],
     grid: &[u64; 627],
     list: &[u64; 1732],
     at: AtSeason,
     row: Row,
+    kept: u64,
 ) -> [u64; 7]
-    requires { ⌜ Lent (now tables) (now grid) (now list) at × RowInRange (at .season) row ⌝ }
+    requires { ⌜ Lent (now tables) (now grid) (now list) at × RowInRange (at .season) row × KeptOf row kept ⌝ }
     ensures { λ r. ⌜ r ≡ sevenUnits (at .season) row (cellsIn (now (grid .entry))) ⌝ }
 {
     let vapour = gain(tables, at.season, row);
     let means = at.means;
     if row.class < 5 {
-        let e = car(tables, grid, list, at, row, vapour);
+        let e = car(tables, grid, list, at, row, vapour, kept);
         car_units(e, means, row.minutes)
     } else {
-        let e = two_wheeler(tables, grid, list, at, row, vapour);
+        let e = two_wheeler(tables, grid, list, at, row, vapour, kept);
         two_wheeler_units(e, means)
     }
 }

@@ -47,7 +47,7 @@ start-loads-requires c κs =
     let b = g .before .before in
     let p = b .before .pre in
     let f = p .1 in
-    (p .0, loads-ready (f .season-in) (f .row-in) (f .canister-there) (bases-known b) (growths-known g))
+    (p .0, loads-ready (f .season-in) (f .row-in) (f .canister-there) (bases-known b) (growths-known g), f .kept-of)
 
 loads-known : (c : tie.After-start-loads)
     → let s = c .before .before .before .before .before .before in c .start-loads .result ≡ tab (startsOf (s .args .season) (s .args .row)) 25

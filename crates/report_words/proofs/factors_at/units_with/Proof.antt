@@ -35,7 +35,7 @@ row-units-requires c κs =
     let d = w .before .before .before .before in
     let p = d .before .before .pre in
     let l = season-lent (bytes (d .before)) (p .0) (p .1) (d .season-at .ensures .0) (ready w) (k .list-of .ensures) (a .at-season .ensures) in
-    (l .lent, rw (c .row-at .ensures .0) (l .rows-in _ (p .2)))
+    (l .lent, rw (c .row-at .ensures .0) (l .rows-in _ (p .2)), rw (c .row-at .ensures .0) (p .3))
 
 returns : tie.Need-returns
 returns c =

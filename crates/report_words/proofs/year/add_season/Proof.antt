@@ -39,7 +39,8 @@ add-rows-requires c κs =
     let x = start .args in
     let s = x .s .now in
     let l = season-lent (bytes (d .before)) (p .0) (p .1) (d .season-at .ensures .0) (ready w) (k .list-of .ensures) (a .at-season .ensures) in
-    (l, p .2 .room, rw (a .at-season .ensures .season-is, d .season-at .ensures .0) (season-fits s (x .words .now) (x .j) (p .2 .words-are) (bytes (d .before)) (accepted s (p .0 .passes)) (p .1)))
+    let fits = season-fits s (x .words .now) (x .j) (p .2 .words-are) (bytes (d .before)) (accepted s (p .0 .passes)) (p .1) in
+    (l, p .2 .room, rw (a .at-season .ensures .season-is, d .season-at .ensures .0) fits, p .3)
 
 returns : tie.Need-returns
 returns c =
