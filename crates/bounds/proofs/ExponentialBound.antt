@@ -119,7 +119,7 @@ fine-at m r s h l e =
     (omega (arith, quadratic-size r h))
 
 -- at d = m/4096 + ρ
-fine-near : (d : ℕ) → d < 6250000000000 → Small (10 ^ 14) 10 (2 ^ 40) d (fine d) 8
+pub fine-near : (d : ℕ) → d < 6250000000000 → Small (10 ^ 14) 10 (2 ^ 40) d (fine d) 8
 unfolding fine
 fine-near d h =
     let m : ℕ = d / 24414062500 in
@@ -132,7 +132,7 @@ exponential-at : (n h d t lo : ℕ) → d < 6250000000000 → 40 ≤ n → lo < 
 exponential-at n h d t lo l n40 k e s =
     widen
     (round-within (2 ^ 40) (omega arith)
-    (within-≈ (≈-sym (E-is n (exponent (6250000000000 * h + d)))) (composed 16 256 6250000000000 h d (2 ^ 40) (2 ^ 40) lo 8 t n (ten-pos 14) l n40 e s)))
+    (within-≈ (≈-sym (E-is n (exponent (6250000000000 * h + d)))) (composed 16 256 6250000000000 h d 10 (2 ^ 40) (2 ^ 40) lo 8 t n (ten-pos 14) l (omega arith) n40 e s)))
     (omega arith)
 
 -- The result.

@@ -7,6 +7,7 @@ use Rattle.numbers.proofs.Order.{NonNegative}
 use Rattle.bounds.specs.Laws.{Laws}
 use Rattle.bounds.proofs.Exponential.{E-cong, E-mono, E-zero}
 use Rattle.bounds.proofs.ExponentialBound.{exponential-within, exponentialError-mono, exponential-size}
+use Rattle.bounds.proofs.ShortBound.{short-within, short-size}
 use Rattle.bounds.proofs.Growth.{exponential-mono}
 use Rattle.bounds.proofs.PowerBound.{power-within, power-size}
 use Rattle.bounds.proofs.Root.{power2·5-nonNegative}
@@ -25,6 +26,8 @@ laws = record {
   error-grows = exponentialError-mono;
   exponential-fits = exponential-size;
   exponential-grows = exponential-mono;
+  short-encloses = short-within;
+  short-fits = short-size;
   power-encloses = power-within;
   power-fits = power-size;
   power-least = λ n t. above-zero (power2·5-nonNegative n t);

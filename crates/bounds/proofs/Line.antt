@@ -96,14 +96,14 @@ exponential-most-1 x h =
     within-cross (exponential-within x (omega arith) .at 40 (omega arith)) (whole-within (2 ^ 40) 1) (E-most-1 40 (at-most-0 x h))
 
 -- a value between two enclosed ones
-within-between : {s l w m v u : ℕ} {x y z : Fraction} (p : 0 < s) → Within s l w x → Within s m v z → x ≤ᶠ y → y ≤ᶠ z → m + v ≤ l + u
+pub within-between : {s l w m v u : ℕ} {x y z : Fraction} (p : 0 < s) → Within s l w x → Within s m v z → x ≤ᶠ y → y ≤ᶠ z → m + v ≤ l + u
     → Within s l u y
 within-between {s} p a b h k g =
     within-from p (≤-trans (within-above p a) h) (≤-trans k (≤-trans (within-below p b) (ratio-mono p g)))
 
--- E(y) ≤ E(x) + d·steepest where x ≤ y ≤ x + d and y is at most the top
-climb : (sl : Slope) {x y : Fraction} (n : ℕ) (d : Fraction) → 40 ≤ n → x ≤ᶠ y → y ≤ᶠ x +ᶠ d → y ≤ᶠ sl .top → E n y ≤ᶠ E n x +ᶠ d *ᶠ sl .steepest
-climb sl {x} {y} n d n40 l h t =
+-- E(y) ≤ E(x) + d·steepest where x ≤ y ≤ x + d and E(y) is at most steepest
+pub climb-to : {x y : Fraction} (n : ℕ) (d steepest : Fraction) → x ≤ᶠ y → y ≤ᶠ x +ᶠ d → E n y ≤ᶠ steepest → E n y ≤ᶠ E n x +ᶠ d *ᶠ steepest
+climb-to {x} {y} n d steepest l h k =
     let e : Fraction = y -ᶠ x in
     let same : x +ᶠ e ≈ᶠ y = ≈-trans (+-comm x e) (sub-add y x) in
     let small : e ≤ᶠ d = ≤-sub x d h in
@@ -111,7 +111,11 @@ climb sl {x} {y} n d n40 l h t =
     ≤-trans (E-mono n (≈→≥ same))
     (≤-trans (E-tangent n x e e0)
     (+-mono (≤-refl (E n x))
-    (*-mono (nonNegative-up small e0) (positive→nonNegative (E-positive n (x +ᶠ e))) small (sl .steep n n40 (≤-trans (≈→≤ same) t)))))
+    (*-mono (nonNegative-up small e0) (positive→nonNegative (E-positive n (x +ᶠ e))) small (≤-trans (E-mono n (≈→≤ same)) k))))
+
+-- the same up to a slope's top
+climb : (sl : Slope) {x y : Fraction} (n : ℕ) (d : Fraction) → 40 ≤ n → x ≤ᶠ y → y ≤ᶠ x +ᶠ d → y ≤ᶠ sl .top → E n y ≤ᶠ E n x +ᶠ d *ᶠ sl .steepest
+climb sl n d n40 l h t = climb-to n d (sl .steepest) l h (sl .steep n n40 t)
 
 -- the exponent over bare numbers: a = (A − O)/U, b = K/(2·U), m in units of 1/s
 module _ (U O s : ℕ) (u : 0 < U) (p : 0 < s) where

@@ -7,6 +7,7 @@ use Rattle.numbers.specs.Fraction.{Fraction, _≤ᶠ_, _≈ᶠ_, whole}
 use Rattle.bounds.specs.Series.{E, power2·5}
 use Rattle.bounds.specs.Enclosure.{WithinAll}
 use Rattle.bounds.specs.Exponential.{exponent, exponentLimit, exponential, exponentialError}
+use Rattle.bounds.specs.Short.{shortExponent, short, shortLimit, shortError}
 use Rattle.bounds.specs.Power.{degrees, degreesLimit, power, powerError}
 use Rattle.bounds.specs.Weights.{w, apart, ahead}
 
@@ -20,6 +21,9 @@ pub record Laws : Type 0 where
   pub error-grows : {x y : ℕ} → x ≤ y → y < exponentLimit → exponentialError x ≤ exponentialError y
   pub exponential-fits : (x : ℕ) → x < exponentLimit → exponential x < 2 ^ 46
   pub exponential-grows : {x y : ℕ} → x ≤ y → y < exponentLimit → exponential x ≤ exponential y
+  -- so does the short exponential, in units of 2⁻³⁶
+  pub short-encloses : (x : ℕ) → x < shortLimit → WithinAll (2 ^ 36) (short x) (shortError x) (λ n. E n (shortExponent x))
+  pub short-fits : (x : ℕ) → x < shortLimit → short x < 2 ^ 41
   -- the computed T^2.5 encloses the exact one, which is 0 or more
   pub power-encloses : (θ : ℕ) → θ ≤ degreesLimit → WithinAll (2 ^ 24) (power θ) powerError (λ n. power2·5 n (degrees θ))
   pub power-fits : (θ : ℕ) → θ ≤ degreesLimit → power θ < 2 ^ 40

@@ -7,7 +7,7 @@ use Rattle.numbers.specs.Lists.{at, sum}
 use Rattle.parking.specs.SeasonList.{ListFits}
 use Rattle.breakthrough.specs.declared.curves.Curves.{Curves}
 use Rattle.breakthrough.specs.Through.{CurvesReady, curveAt, through}
-use Rattle.breakthrough.proofs.Exponents.{through-most}
+use Rattle.breakthrough.proofs.Fitted.{through-most}
 
 -- what breaks through in a parking of an entry, in units of 2⁻²⁸ g
 abbrev each : List ℕ → Curves → ℕ → ℕ
@@ -29,6 +29,6 @@ pub list-fits : (list : List ℕ) (c : Curves) → CurvesReady c → ListFits (7
 list-fits list c r l =
     let below : (k : ℕ) → k < at list 1731 → each list c k ≤ 2 ^ 42 = (λ k h.
     let inside : k < 577 = omega (arith, l .entries-most) in
-    let ready = r .ready (at list k) _ (l .starts-below k inside) in
+    let ready = r .ready (at list k) (l .starts-below k inside) in
     omega (arith, through-most (curveAt c (at list k)) (at list (577 + k)) ready (l .rises-most k inside))) in
     omega (arith, times-most (λ (k : ℕ). at list (1154 + k)) (each list c) (2 ^ 42) (at list 1731) below, l .counts-most)

@@ -17,9 +17,9 @@ ghost use Rattle.breakthrough.specs.Curves.{KeptOf, LoadsReady};
 const FIRST_KILOMETRES: u64 = 17;
 
 // How far a loss can be above the computed one, in units of 2^-40 g: at a written load, and at one that is found.
-const WRITTEN_ERROR: u64 = 179;
+const WRITTEN_ERROR: u64 = 93010;
 
-const DRIVEN_ERROR: u64 = 161733;
+const DRIVEN_ERROR: u64 = 178491;
 
 // Tenths of a gram in units of 2^-40 g, cut.
 pub fn tenth_grams(m: u64) -> u64
@@ -41,7 +41,7 @@ pub fn loss_error(row: Row) -> u64
 }
 
 // What a row's canister keeps of its load, which its mileage says and no season changes; of no account up to 16 km and without canister.
-pub fn kept_of(tables: &[u64; 578], row: Row) -> u64
+pub fn kept_of(tables: &[u64; 1907], row: Row) -> u64
     requires { ⌜ (now tables ≡ entries) × (row .mileage ≤ mileageLimit) ⌝ }
     ensures { λ r. ⌜ KeptOf row r ⌝ }
 {
@@ -58,7 +58,7 @@ pub fn kept_of(tables: &[u64; 578], row: Row) -> u64
 
 // The load at each distance from 14:00: found from the mileage, or written. (Up to 16 km both are 0.)
 pub fn start_loads(
-    tables: &[u64; 578],
+    tables: &[u64; 1907],
     row: Row,
     kept: u64,
     bases: &[u64; 25],

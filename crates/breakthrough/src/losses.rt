@@ -16,7 +16,7 @@ ghost use Rattle.breakthrough.specs.Through.{CurvesReady, curveAt, throu
 const CUT: u64 = 4096;
 
 // Of the rise in the parkings of the list: each entry in units of 2^-28 g, as often as it counts, summed.
-pub fn through_list(tables: &[u64; 578], list: &[u64; 1732], c: Curves) -> u64
+pub fn through_list(tables: &[u64; 1907], list: &[u64; 1732], c: Curves) -> u64
     requires { ⌜ (now tables ≡ entries) × CurvesReady c × ListFits (72 * 2 ^ 40) (now list) ⌝ }
     ensures { λ r. ⌜ r ≡ byEntry (now (list .entry)) (λ (start : ℕ) (rise : ℕ). through (curveAt c start) rise / 2 ^ 12) ⌝ }
 {
@@ -26,10 +26,10 @@ pub fn through_list(tables: &[u64; 578], list: &[u64; 1732], c: Curves) -> u64
     while k < n {
         let d = list[k] as usize;
         let curve = Curve {
-            base: c.bases[d],
-            growth: c.growths[d],
-            saturation: c.saturation,
-            load: c.loads[d],
+            exponent: c.exponents[d],
+            last: c.lasts[d],
+            reach: c.reaches[d],
+            room: c.rooms[d],
             first: c.firsts[d],
             gain: c.gain,
         };
@@ -40,7 +40,7 @@ pub fn through_list(tables: &[u64; 578], list: &[u64; 1732], c: Curves) -> u64
 }
 
 // Of the rise when the temperature at each distance is raised.
-pub fn through_raises(tables: &[u64; 578], raises: &[u64; 25], c: Curves) -> [u64; 25]
+pub fn through_raises(tables: &[u64; 1907], raises: &[u64; 25], c: Curves) -> [u64; 25]
     requires { ⌜ (now tables ≡ entries) × CurvesReady c × AllAtMost (56 * 2 ^ 40) (now raises) ⌝ }
     ensures { λ r. ⌜ (r ≡ tab (λ (d : ℕ). through (curveAt c d) (at (now (raises .entry)) d)) 25) × AllAtMost (2 ^ 54) r ⌝ }
 {
@@ -48,10 +48,10 @@ pub fn through_raises(tables: &[u64; 578], raises: &[u64; 25], c: Curves) -> [u6
     let mut d: usize = 0;
     while d < 25 {
         let curve = Curve {
-            base: c.bases[d],
-            growth: c.growths[d],
-            saturation: c.saturation,
-            load: c.loads[d],
+            exponent: c.exponents[d],
+            last: c.lasts[d],
+            reach: c.reaches[d],
+            room: c.rooms[d],
             first: c.firsts[d],
             gain: c.gain,
         };

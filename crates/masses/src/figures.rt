@@ -76,7 +76,7 @@ pub fn six_figures(units: [u64; 7], row: Row) -> [u64; 6]
 
 // A row in a season: what one of its vehicles loses on one day.
 pub fn row_figures(
-    tables: &[u64; 578],
+    tables: &[u64; 1907],
     grid: &[u64; 627],
     list: &[u64; 1732],
     at: AtSeason,

@@ -21,7 +21,7 @@ ghost use Rattle.report_words.specs.Years.{SheetLent};
 
 // With the tables, the grid and what the row's canister keeps of its load, in units of 2^-28 g.
 pub fn units_with(
-    tables: &[u64; 578],
+    tables: &[u64; 1907],
     grid: &[u64; 627],
     s: &[u8],
     season: usize,

@@ -12,7 +12,7 @@ ghost use Rattle.sheet.specs.Sheet.{sheetCheck};
 ghost use Rattle.report_words.specs.Years.{RowsKept};
 
 // Of one row.
-pub fn row_kept(tables: &[u64; 578], s: &[u8], row: usize) -> u64
+pub fn row_kept(tables: &[u64; 1907], s: &[u8], row: usize) -> u64
     requires { ⌜ (now tables ≡ entries) × (sheetCheck (now s) ≡ Pass) × (row < rowsOf (now s)) ⌝ }
     ensures { λ r. ⌜ KeptOf (rowAt (now (s .entry)) row) r ⌝ }
 {
@@ -20,7 +20,7 @@ pub fn row_kept(tables: &[u64; 578], s: &[u8], row: usize) -> u64
 }
 
 // Of each row.
-pub fn rows_kept(tables: &[u64; 578], s: &[u8]) -> [u64; 1000]
+pub fn rows_kept(tables: &[u64; 1907], s: &[u8]) -> [u64; 1000]
     requires { ⌜ (now tables ≡ entries) × (sheetCheck (now s) ≡ Pass) ⌝ }
     ensures { λ r. ⌜ RowsKept (now (s .entry)) r ⌝ }
 {

@@ -49,7 +49,7 @@ pub fn add_days(words: &mut [u64], at: usize, days: u64, figures: [u64; 6])
 
 // A season in all rows: what one vehicle of a row loses on its days is added to the row's six words.
 fn add_rows(
-    tables: &[u64; 578],
+    tables: &[u64; 1907],
     grid: &[u64; 627],
     list: &[u64; 1732],
     kept: &[u64; 1000],
@@ -74,7 +74,7 @@ fn add_rows(
 
 // Season j: its values at the marks, its rises, their list and its means are made once, for all rows.
 fn add_season(
-    tables: &[u64; 578],
+    tables: &[u64; 1907],
     grid: &[u64; 627],
     kept: &[u64; 1000],
     s: &[u8],
@@ -95,7 +95,7 @@ fn add_season(
 
 // All seasons.
 fn add_seasons(
-    tables: &[u64; 578],
+    tables: &[u64; 1907],
     grid: &[u64; 627],
     kept: &[u64; 1000],
     s: &[u8],

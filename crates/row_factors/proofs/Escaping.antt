@@ -25,8 +25,7 @@ use Rattle.factors.proofs.Losses.{duration-most}
 use Rattle.sheet.specs.Range.{SeasonInRange}
 use Rattle.sheet.specs.Range.{halves}
 use Rattle.factors.specs.Means.{meanUnits}
-use Rattle.factors.specs.Escape.{tenthGrams, loss, breakUnits}
-use Rattle.factors.specs.Units.{gain, rowStart, baseAt, growthAt, parkingRise, parkingRates, vapourUnits, throughUnits, escapeUnits, escapeOverUnits, openUnits, startOf, endOf}
+use Rattle.factors.specs.Units.{gain, parkingRise, parkingRates, vapourUnits, throughUnits, escapeUnits, escapeOverUnits, openUnits, startOf, endOf}
 use Rattle.factors.proofs.Gain.{gain-most}
 use Rattle.factors.proofs.Mean.{meanUnits-most}
 use Rattle.factors.proofs.Sizes.{parking-rise-most, raise-rise-most}
@@ -40,7 +39,7 @@ use Rattle.parking.proofs.Weighted.{mean-ext, mean-below, cells-mean}
 use Rattle.breakthrough.specs.declared.curves.Curves.{Curves}
 use Rattle.breakthrough.specs.Curves.{FitReady, CurvesOf}
 use Rattle.breakthrough.specs.Through.{CurvesReady, curveAt, through}
-use Rattle.breakthrough.proofs.Fitted.{curves-ready, through-is, through-alike}
+use Rattle.breakthrough.proofs.Fitted.{curves-ready, through-is, through-none, through-alike}
 use Rattle.row_factors.specs.declared.season.AtSeason.{AtSeason}
 use Rattle.row_factors.specs.declared.escapes.Escapes.{Escapes}
 use Rattle.row_factors.specs.Season.{meanAt, MarksReady, risesOf, RowLent}
@@ -82,17 +81,6 @@ module _ (season : Season) (row : Row) (counts : List ℕ) where
   open-open Medium e raised = absurd (omega arith)
   open-open Large e raised = absurd (omega arith)
 
--- from a mark, of no rise, nothing breaks through
-through-none : (season : Season) (row : Row) (mark : ℕ) → throughUnits season row mark 0 ≡ 0
-unfolding throughUnits breakUnits vapourUnits
-through-none season row mark =
-    let A : ℕ = baseAt season row mark in
-    let K : ℕ = growthAt season row mark in
-    let σ : ℕ = tenthGrams (row .saturation) in
-    let m : ℕ = rowStart row A K in
-    let same : loss A K σ (m + gain season row * 0 / 2 ^ 40) ≡ loss A K σ m = ap (loss A K σ) (omega arith) in
-    rw same (omega arith)
-
 -- Marks as far from 14:00 have the same raises and the same permeation.
 pub raises-alike : (season : Season) (k i : ℕ) → i < 48 → raisesBy season k (ahead (apart i)) ≡ raisesBy season k i
 raises-alike season k i h = ap (raise (tenths k)) (warmth-alike season i h)
@@ -130,17 +118,17 @@ module _ {season : Season} (s : SeasonInRange season) where
   rises-most e = tab-at-most _ 576 e (λ cell _. omega (arith, season-rise-most s (endHour cell) (duration cell) (duration-most cell)))
 
 -- A row with a canister, whose values at the marks these are.
-module _ {season : Season} {row : Row} {c : Curves} (f : CurvesOf season row c) (p : 0 < halves (row .canister)) (cells : List ℕ) where
+module _ {season : Season} {row : Row} {c : Curves} (f : CurvesOf season row c) (l : row .load ≤ row .saturation) (p : 0 < halves (row .canister)) (cells : List ℕ) where
   -- from the end, or the start, of a cell's parking
   through-from : (ends : Bool) (cell rise : ℕ) → through (curveAt c (apartOf ends cell)) rise ≡ throughUnits season row (markOf ends cell) rise
   through-from ends cell rise =
-      through-is f (apartOf ends cell) rise (apartOf-below ends cell) ∙ through-alike season row (markOf ends cell) rise (markOf-below ends cell)
+      through-is l f (apartOf ends cell) rise (apartOf-below ends cell) ∙ through-alike season row (markOf ends cell) rise (markOf-below ends cell)
 
   -- in a parking
   parking-escape : length cells ≡ 576
       → meanUnits cells (λ (cell : ℕ). through (curveAt c (apartOf false cell)) (at (risesOf season) cell)) ≡ parkingEscape season row cells
-  parking-escape l =
-      mean-below cells l (λ cell h. rw (getD-tab (parkingRise season) 576 cell h) (through-from false cell _)) ∙
+  parking-escape e =
+      mean-below cells e (λ cell h. rw (getD-tab (parkingRise season) 576 cell h) (through-from false cell _)) ∙
       escape-through season row cells (row .canister) p startOf (parkingRise season)
 
   -- over a raise by so many tenths of °C
@@ -200,14 +188,14 @@ module _ {tables grid list : List ℕ} {given : AtSeason} {row : Row} {vapour ke
 
   -- nothing breaks through where nothing rises
   still : (start : ℕ) → start < 25 → through (curveAt c start) 0 / 2 ^ 12 ≡ 0
-  still start h = rw (through-is f start 0 h, through-none (given .season) row (ahead start)) (omega arith)
+  still start h = rw (through-is (q .0 .row-in .load-most) f start 0 h, through-none (given .season) row (ahead start) (q .0 .row-in .load-most)) (omega arith)
 
   pub parking-right : {x : ℕ} → x ≡ parkingThrough list (at grid sumPlace) c → x ≡ parkingEscape (given .season) row (cellsIn grid)
   parking-right e =
       e ∙
       cells-mean (q .0 .lent .grid-ready) (λ (cell : ℕ). through (curveAt c (apartOf false cell)) (at (risesOf (given .season)) cell))
       (q .0 .lent .list-ready .sum-is (λ (start : ℕ) (rise : ℕ). through (curveAt c start) rise / 2 ^ 12) still) ∙
-      parking-escape f (q .1) _ (q .0 .lent .grid-ready .cells-in .length-is)
+      parking-escape f (q .0 .row-in .load-most) (q .1) _ (q .0 .lent .grid-ready .cells-in .length-is)
 
   -- over a raise, whose list at the marks is one of the season's
   module _ (k : ℕ) {raises : List ℕ} (pick : AtMarks (given .season) (given .marks) → raises ≡ tab (raisesBy (given .season) k) 48) where
@@ -216,7 +204,7 @@ module _ {tables grid list : List ℕ} {given : AtSeason} {row : Row} {vapour ke
 
     pub raise-right : (ends : Bool) {x : ℕ} → x ≡ raiseThrough (cellsIn grid) ends raises c
         → x ≡ escapeOverUnits (given .season) row (cellsIn grid) (markOf ends) (tenths k)
-    raise-right ends e = e ∙ raise-escape f (q .1) _ ends k (pick (marks-of .marks-are))
+    raise-right ends e = e ∙ raise-escape f (q .0 .row-in .load-most) (q .1) _ ends k (pick (marks-of .marks-are))
 
 -- A row without canister, and what is lent to its functions: how large the mean rises are, and that the vapour of each is its escape.
 module _ {tables grid list : List ℕ} {given : AtSeason} {row : Row} {vapour kept : ℕ} (r : RowLent tables grid list given row vapour kept) where

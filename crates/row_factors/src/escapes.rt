@@ -45,7 +45,7 @@ fn open_escapes(gain: u64, rises: [u64; 5]) -> Escapes
 }
 
 // What breaks through in a parking.
-fn parking_through(tables: &[u64; 578], grid: &[u64; 627], list: &[u64; 1732], c: Curves) -> u64
+fn parking_through(tables: &[u64; 1907], grid: &[u64; 627], list: &[u64; 1732], c: Curves) -> u64
     requires { ⌜ (now tables ≡ entries) × GridReady (now grid) × CurvesReady c × ListFits (72 * 2 ^ 40) (now list) ⌝ }
     ensures { λ r. ⌜ r ≡ parkingThrough (now (list .entry)) (at (now (grid .entry)) sumPlace) c ⌝ }
 {
@@ -54,7 +54,7 @@ fn parking_through(tables: &[u64; 578], grid: &[u64; 627], list: &[u64; 1732], c
 
 // What breaks through over a raise at the end, or the start, of a parking.
 fn raise_through(
-    tables: &[u64; 578],
+    tables: &[u64; 1907],
     grid: &[u64; 627],
     ends: bool,
     raises: &[u64; 48],
@@ -70,7 +70,7 @@ fn raise_through(
 
 // A car with canister, from which nothing escapes on a trip.
 fn canister_car(
-    tables: &[u64; 578],
+    tables: &[u64; 1907],
     grid: &[u64; 627],
     list: &[u64; 1732],
     at: AtSeason,
@@ -95,7 +95,7 @@ fn canister_car(
 
 // A two-wheeler with canister.
 fn canister_two_wheeler(
-    tables: &[u64; 578],
+    tables: &[u64; 1907],
     grid: &[u64; 627],
     list: &[u64; 1732],
     at: AtSeason,
@@ -120,7 +120,7 @@ fn canister_two_wheeler(
 
 // A car, with or without canister.
 pub fn car(
-    tables: &[u64; 578],
+    tables: &[u64; 1907],
     grid: &[u64; 627],
     list: &[u64; 1732],
     at: AtSeason,
@@ -142,7 +142,7 @@ pub fn car(
 
 // A two-wheeler, with or without canister.
 pub fn two_wheeler(
-    tables: &[u64; 578],
+    tables: &[u64; 1907],
     grid: &[u64; 627],
     list: &[u64; 1732],
     at: AtSeason,

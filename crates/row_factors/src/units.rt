@@ -22,7 +22,7 @@ ghost use Rattle.row_factors.specs.Seven.{CarFits, carSeven, twoWheelerS
 const VAPOUR_EXPONENT: u64 = 205000000000;
 
 // Grams of vapour for a rise of 1 in E(0.0716 T).
-fn gain(tables: &[u64; 578], season: Season, row: Row) -> u64
+fn gain(tables: &[u64; 1907], season: Season, row: Row) -> u64
     requires { ⌜ (now tables ≡ entries) × SeasonInRange season × RowInRange season row ⌝ }
     ensures { λ r. ⌜ (r ≡ gain season row) × (r ≤ 36 * 2 ^ 40) ⌝ }
 {
@@ -64,7 +64,7 @@ fn two_wheeler_units(e: Escapes, m: Means) -> [u64; 7]
 
 // The seven factors of a row whose canister keeps so much of its load.
 pub fn row_units(
-    tables: &[u64; 578],
+    tables: &[u64; 1907],
     grid: &[u64; 627],
     list: &[u64; 1732],
     at: AtSeason,

@@ -31,7 +31,7 @@ const CUT_UP: u64 = 999999999;
 
 // What one vehicle of row i loses on a day of season j.
 fn day_of(
-    tables: &[u64; 578],
+    tables: &[u64; 1907],
     grid: &[u64; 627],
     s: &[u8],
     j: usize,
@@ -45,7 +45,7 @@ fn day_of(
 }
 
 // What one vehicle of row i loses in the year: its figures of a day, for the days of each season.
-fn year_of(tables: &[u64; 578], grid: &[u64; 627], s: &[u8], i: usize) -> [u64; 6]
+fn year_of(tables: &[u64; 1907], grid: &[u64; 627], s: &[u8], i: usize) -> [u64; 6]
     requires { ⌜ SheetLent (now s) (now tables) (now grid) × (i < rowsOf (now s)) ⌝ }
     ensures { λ r. ⌜ r ≡ tab (rowYear (now (s .entry)) i (seasonsOf (now (s .entry)))) 6 ⌝ }
 {

@@ -23,7 +23,7 @@ fn kept(y: u64, halves: u64) -> u64
 }
 
 // The load without what is lost, for a canister with 2 s = halves.
-pub fn net(tables: &[u64; 578], mileage: u64, halves: u64) -> u64
+pub fn net(tables: &[u64; 1907], mileage: u64, halves: u64) -> u64
     requires { ⌜ (now tables ≡ entries) × (17 ≤ mileage) × (mileage ≤ 10 ^ 6) × (0 < halves) ⌝ }
     ensures { λ r. ⌜ (r ≡ netOf halves mileage) × (r < 2 ^ 50) ⌝ }
 {

@@ -50,7 +50,7 @@ fn stepped(c: Balance, x: u64, load: u64) -> u64
 }
 
 // A step.
-fn step(tables: &[u64; 578], c: Balance, load: u64) -> u64
+fn step(tables: &[u64; 1907], c: Balance, load: u64) -> u64
     requires { ⌜ (now tables ≡ entries) × BalanceReady c × (min (c .saturation) (c .net) ≤ load) × (load ≤ c .saturation) ⌝ }
     ensures { λ r. ⌜ (r ≡ step (c .base) (c .growth) (c .saturation) (c .net) load) × (load ≤ r) × (r ≤ c .saturation) ⌝ }
 {
@@ -59,7 +59,7 @@ fn step(tables: &[u64; 578], c: Balance, load: u64) -> u64
 }
 
 // The load at one mark.
-fn start(tables: &[u64; 578], c: Balance) -> u64
+fn start(tables: &[u64; 1907], c: Balance) -> u64
     requires { ⌜ (now tables ≡ entries) × BalanceReady c ⌝ }
     ensures { λ r. ⌜ (r ≡ start (c .base) (c .growth) (c .saturation) (c .net)) × (r ≤ c .saturation) ⌝ }
 {
@@ -74,7 +74,7 @@ fn start(tables: &[u64; 578], c: Balance) -> u64
 
 // At each of the 25 temperatures of a day, for a canister with these values of `Balance`.
 pub fn starts(
-    tables: &[u64; 578],
+    tables: &[u64; 1907],
     bases: &[u64; 25],
     growths: &[u64; 25],
     saturation: u64,

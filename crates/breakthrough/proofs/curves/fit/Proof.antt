@@ -10,7 +10,8 @@ use Rattle.sheet.proofs.Temperature.{warmth-most}
 use Rattle.factors.specs.Escape.{base, growth}
 use Rattle.factors.proofs.Canister.{saturation-most}
 use Rattle.factors.specs.Units.{rowStart}
-use Rattle.breakthrough.proofs.Fitted.{basesOf, growthsOf, startsOf, loads-ready, fitted-ready, losses-tab}
+use Rattle.breakthrough.specs.Curves.{basesOf, growthsOf, startsOf}
+use Rattle.breakthrough.proofs.Fitted.{loads-ready, curves-fit, curves-by}
 use borrow.Author.Needs.{needs}
 use Rattle.breakthrough.proofs.curves.fit.Statement.{statement}
 use Rattle.breakthrough.proofs.curves.fit.Tie as tie
@@ -61,35 +62,32 @@ loads-known c =
     ap₂ (λ (base growth : ℕ). rowStart (a .row) base growth) (rw (bases-known b) (getD-tab (basesOf (a .season) (a .row)) 25 k h))
     (rw (growths-known g) (getD-tab (growthsOf (a .season) (a .row)) 25 k h)))
 
-first-losses-requires : tie.Need-first-losses-requires
-first-losses-requires c κs =
-    let t = c .before in
+curves-of-requires : tie.Need-curves-of-requires
+curves-of-requires c κs =
+    let t = c .before .before .before .before in
     let w = t .before in
     let g = w .before .before .before in
     let b = g .before .before in
     let p = b .before .pre in
     let f = p .1 in (
       p .0,
-      fitted-ready (f .season-in) (f .row-in) (f .canister-there) (bases-known b) (growths-known g) (loads-known w) (t .tenth-grams .ensures) (f .vapour-is),
-      c .loss-error .ensures .1,
+      curves-fit (f .season-in) (f .row-in) (f .canister-there) (bases-known b) (growths-known g) (loads-known w) (t .tenth-grams .ensures) (f .vapour-is)
+          (c .loss-error .ensures .1),
     )
 
 returns : tie.Need-returns
 returns c =
-    let t = c .before .before in
+    let t = c .before .before .before .before .before in
     let w = t .before in
     let g = w .before .before .before in
     let b = g .before .before in
-    let es = t .tenth-grams .ensures in
+    let a = b .before .args in
     record {
-      bases-are = bases-known b;
-      growths-are = growths-known g;
-      loads-are = loads-known w;
-      firsts-are =
-          c .first-losses .ensures ∙
-          losses-tab _ _ _ (bases-known b) (growths-known g) (loads-known w) es (c .before .loss-error .ensures .0);
-      saturation-is = es;
-      gain-is = b .before .pre .1 .vapour-is;
+      by =
+          curves-by (λ k h. rw (bases-known b) (getD-tab (basesOf (a .season) (a .row)) 25 k h))
+          (λ k h. rw (growths-known g) (getD-tab (growthsOf (a .season) (a .row)) 25 k h))
+          (λ k h. rw (loads-known w) (getD-tab (startsOf (a .season) (a .row)) 25 k h))
+          (t .tenth-grams .ensures) (b .before .pre .1 .vapour-is) (c .before .loss-error .ensures .0) (c .curves-of .ensures);
     }
 
 pub fit-spec : {M : Type 1} → statement M
@@ -102,5 +100,5 @@ fit-spec =
     start-loads-requires
     (λ c κs. saturation-fits (c .before .before .before .before .before .before))
     (λ c κs. search needs)
-    first-losses-requires
+    curves-of-requires
     returns)

@@ -27,31 +27,31 @@ marked c = c .before .before .before .pre .2 .starts-below (c .before .loop .k) 
 
 through-requires : tie.Need-through-requires Inv-loop μ-loop
 through-requires c κs =
-    let i = c .before .before .before .before .before .before .before in
+    let i = c .before .before .before .before .before .before .before .before in
     let p = i .before .before .before .pre in
-    (p .0, p .1 .ready _ _ (marked i), p .2 .rises-most (i .before .loop .k) (inside i))
+    (p .0, p .1 .ready _ (marked i), p .2 .rises-most (i .before .loop .k) (inside i))
 
 -- what the entry adds is its part
 added : (c : tie.After-through Inv-loop μ-loop)
-    → let i = c .before .before .before .before .before .before .before .before in
+    → let i = c .before .before .before .before .before .before .before .before .before in
     let a = i .before .before .before .args in
     at (a .list .now) (1154 + i .before .loop .k) * (c .through .result / 2 ^ 12) ≡ part (a .list .now) (a .t3) (i .before .loop .k)
 added c =
-    let i = c .before .before .before .before .before .before .before .before in
+    let i = c .before .before .before .before .before .before .before .before .before in
     ap (λ (x : ℕ). at (i .before .before .before .args .list .now) (1154 + i .before .loop .k) * (x / 2 ^ 12)) (c .through .ensures)
 
 -- it fits, and the sum with it
 fits : (c : tie.After-through Inv-loop μ-loop)
-    → let i = c .before .before .before .before .before .before .before .before in
+    → let i = c .before .before .before .before .before .before .before .before .before in
     i .before .loop .sum + at (i .before .before .before .args .list .now) (1154 + i .before .loop .k) * (c .through .result / 2 ^ 12) < 2 ^ 64
 fits c =
-    let i = c .before .before .before .before .before .before .before .before in
+    let i = c .before .before .before .before .before .before .before .before .before in
     let s = i .before .before .before in
     sum-fits _ (i .loop-test .taken) (list-fits (s .args .list .now) (s .args .t3) (s .pre .1) (s .pre .2)) (i .before .loop .inv .1) (added c)
 
 loop-again : tie.Need-loop-again Inv-loop μ-loop
 loop-again c =
-    let i = c .before .before .before .before .before .before .before .before in
+    let i = c .before .before .before .before .before .before .before .before .before in
     (omega (arith, i .loop-test .taken), sum-more _ _ (i .before .loop .inv .1) (added c))
 
 pub through-list-spec : {M : Type 1} → statement M
@@ -72,16 +72,18 @@ through-list-spec =
     (λ c. omega (arith, marked (c .before .before .before)))
     (λ c. omega (arith, marked (c .before .before .before .before)))
     (λ c. omega (arith, marked (c .before .before .before .before)))
-    (λ c. omega (arith, inside (c .before .before .before .before .before)))
-    (λ c. omega (arith, inside (c .before .before .before .before .before)))
-    (λ c. omega (arith, inside (c .before .before .before .before .before)))
+    (λ c. omega (arith, marked (c .before .before .before .before .before)))
+    (λ c. omega (arith, marked (c .before .before .before .before .before)))
     (λ c. omega (arith, inside (c .before .before .before .before .before .before)))
     (λ c. omega (arith, inside (c .before .before .before .before .before .before)))
     (λ c. omega (arith, inside (c .before .before .before .before .before .before)))
+    (λ c. omega (arith, inside (c .before .before .before .before .before .before .before)))
+    (λ c. omega (arith, inside (c .before .before .before .before .before .before .before)))
+    (λ c. omega (arith, inside (c .before .before .before .before .before .before .before)))
     through-requires
     (λ c. omega (arith, fits c))
     (λ c. omega (arith, fits c))
-    (λ c. omega (arith, inside (c .before .before .before .before .before .before .before .before)))
-    (λ c. omega (arith, c .before .before .before .before .before .before .before .before .loop-test .taken))
+    (λ c. omega (arith, inside (c .before .before .before .before .before .before .before .before .before)))
+    (λ c. omega (arith, c .before .before .before .before .before .before .before .before .before .loop-test .taken))
     loop-again
     (λ c. sum-all _ _ _ (c .before .loop .inv .1) (c .before .loop .inv .0) (c .loop-test .left)))

@@ -6,7 +6,7 @@ use lib.ListN.{replicate}
 use Rattle.numbers.specs.Lists.{at}
 use Rattle.numbers.proofs.Lists.{Filled, filled-none, filled-more, filled-all, tab-at-most}
 use Rattle.breakthrough.specs.Through.{curveAt, through}
-use Rattle.breakthrough.proofs.Exponents.{through-most}
+use Rattle.breakthrough.proofs.Fitted.{through-most}
 use borrow.Author.Needs.{needs}
 use Rattle.breakthrough.proofs.losses.through_raises.Statement.{statement}
 use Rattle.breakthrough.proofs.losses.through_raises.Tie as tie
@@ -19,15 +19,15 @@ abbrev μ-loop : tie.MeasureT-loop
 
 through-requires : tie.Need-through-requires Inv-loop μ-loop
 through-requires c κs =
-    let l = c .before .before .before .before .before .before in
+    let l = c .before .before .before .before .before .before .before in
     let p = l .before .pre in
-    (p .0, p .1 .ready (l .loop .d) _ (omega arith), omega (arith, p .2 .at-most (l .loop .d)))
+    (p .0, p .1 .ready (l .loop .d) (omega arith), omega (arith, p .2 .at-most (l .loop .d)))
 
 returns : tie.Need-returns Inv-loop μ-loop
 returns c =
     let p = c .before .before .pre in
     let e = filled-all (c .before .loop .inv) (omega arith) in
-    (e, tab-at-most _ 25 e (λ k h. through-most _ _ (p .1 .ready k _ h) (omega (arith, p .2 .at-most k))))
+    (e, tab-at-most _ 25 e (λ k h. through-most _ _ (p .1 .ready k h) (omega (arith, p .2 .at-most k))))
 
 pub through-raises-spec : {M : Type 1} → statement M
 through-raises-spec =
@@ -38,8 +38,8 @@ through-raises-spec =
     (λ c. filled-none _ (replicate 25 0) refl)
     (λ c. search needs) (λ c. search needs) (λ c. search needs) (λ c. search needs)
     (λ c. search needs) (λ c. search needs) (λ c. search needs) (λ c. search needs)
-    (λ c. search needs) (λ c. search needs)
+    (λ c. search needs) (λ c. search needs) (λ c. search needs) (λ c. search needs)
     through-requires
     (λ c. search needs) (λ c. search needs) (λ c. search needs) (λ c. search needs)
-    (λ c. filled-more (c .before .before .before .before .before .before .before .loop .inv) (omega arith) (c .through .ensures))
+    (λ c. filled-more (c .before .before .before .before .before .before .before .before .loop .inv) (omega arith) (c .through .ensures))
     returns)
