@@ -177,11 +177,6 @@ pub exponentialError-2·3 : (x : ℕ) → x ≤ 183 * 10 ^ 13 → exponentialErr
 unfolding exponentialError coarse
 exponentialError-2·3 = exponentialError-most (183 * 10 ^ 13) 83 (omega arith) refl
 
--- z ≤ 3
-pub exponentialError-3 : (x : ℕ) → x ≤ 19 * 10 ^ 14 → exponentialError x ≤ 171
-unfolding exponentialError coarse
-exponentialError-3 = exponentialError-most (19 * 10 ^ 14) 171 (omega arith) refl
-
 -- z ≤ 3.6
 pub exponentialError-3·6 : (x : ℕ) → x ≤ 196 * 10 ^ 13 → exponentialError x ≤ 291
 unfolding exponentialError coarse

@@ -1,7 +1,7 @@
 -- E along a straight line, E(a + b·m), for an m that is known within a width: a law with E's slope as its parameter.
 -- a is held as A, an exponent; 2·b as K, in units of 10⁻¹⁴; m in units of 2⁻⁴⁰.
 -- Assumes nothing.
-use Prim.Native.Nat.{ℕ, _+_, _*_, _^_, _/_, _≤_, _<_, min}
+use Prim.Native.Nat.{ℕ, _+_, _*_, _^_, _/_, _≤_, _<_}
 use native.Mathlib.Omega.{arith}
 use native.Mathlib.Nat.{mul-le-mul-right, mul-le-mul-left, le-of-mul-le-mul-right}
 use Rattle.numbers.specs.Fraction.{Fraction, _≤ᶠ_, _≈ᶠ_, _+ᶠ_, _-ᶠ_, _*ᶠ_, whole, _/10^_, ten-pos}
@@ -11,7 +11,7 @@ use Rattle.bounds.specs.Enclosure.{Within}
 use Rattle.bounds.specs.Exponential.{exponential, exponent, exponentLimit, exponentialError}
 use Rattle.bounds.proofs.Exponential.{E-mono, E-positive, E-below, E-tangent}
 use Rattle.bounds.proofs.Sums.{E-most-1}
-use Rattle.bounds.proofs.ExponentialBound.{exponential-within, exponentialError-0, exponentialError-3}
+use Rattle.bounds.proofs.ExponentialBound.{exponential-within, exponentialError-0}
 use Rattle.bounds.proofs.Ends.{end-3}
 use Rattle.bounds.proofs.Within.{widen, within-above, within-below, within-from, within-cross, whole-within, +-within, div-mono}
 
@@ -32,35 +32,12 @@ pub record Slope : Type 0 where
   pub moved : ℕ → ℕ
   pub moves : (w : ℕ) → Within (2 ^ 40) 0 (moved w) (ratio (22 * w + 1) (10 ^ 14) (ten-pos 14) *ᶠ steepest)
 
-pub held-3 : (x : ℕ) → exponent x ≤ᶠ whole 3 → x ≤ 19 * 10 ^ 14
-unfolding whole
-held-3 x h = omega (arith, h .cross)
-
 written-3 : whole 3 ≤ᶠ 3 /10^ 0
 unfolding whole _/10^_
 written-3 = omega arith
 
 pub steep-3 : (n : ℕ) → 40 ≤ n → {z : Fraction} → z ≤ᶠ whole 3 → E n z ≤ᶠ 201 /10^ 1
 steep-3 n n40 h = E-below 40 3 0 201 1 (omega arith) end-3 n n40 (≤-trans h written-3)
-
-pub moves-3 : (w : ℕ) → Within (2 ^ 40) 0 (5 * w + 1) (ratio (22 * w + 1) (10 ^ 14) (ten-pos 14) *ᶠ 201 /10^ 1)
-unfolding ratio _*ᶠ_ _/10^_
-moves-3 w = omega arith
-
--- up to 3: E is at most 20.1 and moves by five units for each of m
-abbrev pub slopeTo3 : Slope
-slopeTo3 = record {
-  top = whole 3;
-  last = 19 * 10 ^ 14;
-  held = held-3;
-  last-fits = omega arith;
-  steepest = 201 /10^ 1;
-  steep = steep-3;
-  error = 171;
-  error-most = exponentialError-3;
-  moved = λ (w : ℕ). 5 * w + 1;
-  moves = moves-3;
-}
 
 pub held-0 : (x : ℕ) → exponent x ≤ᶠ whole 0 → x ≤ 16 * 10 ^ 14
 unfolding whole
@@ -211,12 +188,3 @@ module _ (A K : ℕ) {l w : ℕ} (m : Fraction) (a : Within (2 ^ 40) l w m) wher
         let e = widen (exponential-within x fits .at n n40) (sl .error-most x along-most) in
         within-between (omega arith) e (+-within e (sl .moves w)) (E-mono n along-above) (climb sl n d n40 along-above (along-below h) t)
         (omega arith)
-
--- the held exponent at every load is at most that of m_sat
-pub exponent-most : (sl : Slope) (A K : ℕ) {σ w : ℕ} (saturation : Fraction) → Within (2 ^ 40) σ w saturation → along A K saturation ≤ᶠ sl .top → (l : ℕ)
-    → A + K * min l σ / 2 ^ 41 ≤ sl .last
-exponent-most sl A K {σ} saturation full t l =
-    omega (arith, along-most A K saturation full sl t, div-mono (2 ^ 41) (omega arith) (mul-le-mul-left K (min-least l σ)))
-  where
-    min-least : (l k : ℕ) → min l k ≤ k
-    min-least l k = omega arith

@@ -142,11 +142,6 @@ shortError-mono {x} {y} l h =
 shortError-most : (last most : ℕ) → last < shortLimit → shortError last ≡ most → (x : ℕ) → x ≤ last → shortError x ≤ most
 shortError-most last most h e x l = rw e at (shortError-mono l h)
 
--- z < 0
-pub shortError-below-0 : (x : ℕ) → x < 16 * 2 ^ 53 → shortError x ≤ 797
-unfolding shortError high coarse
-shortError-below-0 x h = shortError-most (16 * 2 ^ 53 - 1) 797 (omega arith) refl x (omega arith)
-
 -- z ≤ 0
 pub shortError-0 : (x : ℕ) → x ≤ 16 * 2 ^ 53 → shortError x ≤ 1047
 unfolding shortError high coarse

@@ -14,7 +14,7 @@ use Rattle.bounds.proofs.Exponential.{E-mono}
 use Rattle.bounds.proofs.Sums.{E-most-1}
 use Rattle.bounds.proofs.ShortBound.{short-within, shortError-0, shortError-3}
 use Rattle.bounds.proofs.Line.{steep-3, climb-to, within-between, double-unit-pos, rising, along}
-use Rattle.bounds.proofs.Within.{widen, within-≈, within-cross, ratio-within, +-within, *-within, round-within, div-mono}
+use Rattle.bounds.proofs.Within.{widen, within-≈, ratio-within, +-within, *-within, round-within, div-mono}
 
 -- x/2⁵³ ≤ z + 16 ≤ (x + w)/2⁵³
 pub record Held (x w : ℕ) (z : Fraction) : Type 0 where
@@ -111,15 +111,6 @@ module _ {x w : ℕ} {z : Fraction} (a : Held x w z) where
         within-between (omega arith) e (+-within e (sl .moves w)) (E-mono n held-above)
         (climb-to n (ratio w (2 ^ 53) (two-pos 53)) (sl .steepest) held-above held-below (sl .steep n n40 t))
         (omega arith)
-
--- The short exponential does not grow everywhere: where the first table goes on by an entry it can fall by some hundred units. But
--- it is never above its value at a later exponent by more than the error there.
-pub short-nearly-mono : {x y : ℕ} → x ≤ y → y < shortLimit → short x ≤ short y + shortError y
-short-nearly-mono {x} {y} l h =
-    within-cross (short-within x (omega arith) .at 40 (omega arith)) (short-within y h .at 40 (omega arith)) (E-mono 40 (exponents l))
-  where
-    exponents : {x y : ℕ} → x ≤ y → shortExponent x ≤ᶠ shortExponent y
-    exponents l = record { cross = omega arith }
 
 -- What the exponent is made of.
 

@@ -28,11 +28,11 @@ use Rattle.marks.proofs.Permeation.{rate-most, rates-most}
 use Rattle.sheet.specs.Range.{RowInRange}
 use Rattle.factors.specs.Means.{meanUnits}
 use Rattle.sheet.specs.Range.{halves}
-use Rattle.factors.specs.Escape.{tenthGrams, growth, risenLoss, breakUnits}
+use Rattle.factors.specs.Escape.{tenthGrams, risenLoss, breakUnits}
 use Rattle.factors.specs.Units.{startOf, endOf, parkingRise, parkingRates, rowStart, baseAt, growthAt, vapourUnits, throughUnits, escapeUnits, escapeOverUnits, openUnits, diurnalUnits, soakUnits, runningUnits, carUnits, twoWheelerUnits, factorUnits, highMicrograms}
 use Rattle.factors.proofs.Gain.{gain-most}
 use Rattle.factors.proofs.Starts.{start-below}
-use Rattle.factors.proofs.Canister.{saturated, unsaturated, saturation-most, growth-most, tenthGrams-within}
+use Rattle.factors.proofs.Canister.{saturated, unsaturated, saturation-most, tenthGrams-within}
 use Rattle.factors.proofs.Mean.{meanUnits-most}
 use Rattle.factors.proofs.Losses.{duration-most}
 
@@ -64,10 +64,6 @@ break-most A K σ error p g rise h e =
     omega (arith, short-3 (min (lineExponent A K p + reach K g * rise / 2 ^ 23) (lineExponent A K σ)) (omega arith))
 
 module _ {season : Season} {row : Row} (s : SeasonInRange season) (r : RowInRange season row) where
-  -- 2·b·s in units of 10⁻¹⁴
-  pub growth-size : (i : ℕ) → growth (row .canister) (season .vp) (markWarmth season i) < 2 ^ 46
-  growth-size i = omega (arith, growth-most (row .canister) (season .vp) (markWarmth season i) (warmth-most i s))
-
   -- m_sat of a canister, in units of 2⁻⁴⁰ g
   pub saturation-size : 0 < halves (row .canister) → tenthGrams (row .saturation) < 2 ^ 49
   unfolding tenthGrams
