@@ -15,18 +15,19 @@ const DRIVEN_ERROR: u64 = 161_733;
 
 /// The canister at one place of the day; loads and losses are in units of 2^-40 g.
 #[derive(Clone, Copy)]
-struct Curve {
+pub struct Curve {
     /// a, held as an exponent, and 2 b s in units of 10^-14.
-    base: u64,
-    growth: u64,
-    saturation: u64,
-    load: u64,
+    pub base: u64,
+    pub growth: u64,
+    pub saturation: u64,
+    pub load: u64,
     /// B at the load, with as much more as it can be off.
     first: u64,
 }
 
 impl Curve {
-    fn new<P: Products>(a: u64, b: u64, row: &Row, net: u64) -> Self {
+    /// With the load at parking start, written or found; what is lost there is not yet known.
+    pub fn loaded<P: Products>(a: u64, b: u64, row: &Row, net: u64) -> Self {
         let mut curve = Curve {
             base: a,
             growth: b * row.halves,
@@ -34,11 +35,15 @@ impl Curve {
             load: row.load * ONE / 10,
             first: 0,
         };
-        let mut error = WRITTEN_ERROR;
         if row.driven() {
             curve.load = curve.start::<P>(net);
-            error = DRIVEN_ERROR;
         }
+        curve
+    }
+
+    fn new<P: Products>(a: u64, b: u64, row: &Row, net: u64) -> Self {
+        let mut curve = Self::loaded::<P>(a, b, row, net);
+        let error = if row.driven() { DRIVEN_ERROR } else { WRITTEN_ERROR };
         curve.first = curve.lost::<P>(curve.load) + error;
         curve
     }

@@ -2,8 +2,8 @@
 //! step cut downwards, and the words of the library as the result. docs/METHOD.md says why they enclose.
 //!
 //! What the cells, marks, rows and seasons of a sheet share can be computed once: the method stands here at
-//! five steps, from nothing shared to all. `steps` has the first four, which give the same words, and `hoisted`
-//! the last, which has a shorter exponential. The other modules are common to all; `report` joins them.
+//! six steps, from nothing shared to all. `steps` has the first four, which give the same words, `short` the
+//! library's, which has a shorter exponential, and `hoisted` one step more. The other modules are common to all; `report` joins them.
 pub mod canister;
 pub mod exponential;
 pub mod hoisted;
@@ -12,6 +12,7 @@ pub mod parkings;
 pub mod products;
 pub mod report;
 pub mod season;
+pub mod short;
 pub mod steps;
 pub mod threshold;
 
@@ -21,7 +22,7 @@ use report::report;
 
 /// The step that the library takes. Its words must be those of this step, and the ratio of request Thirteen is
 /// that to the fastest program of it: the one line to change when the library's method does.
-pub const LIBRARY: Step = Step::EveryCell;
+pub const LIBRARY: Step = Step::Short;
 
 /// The steps in their order; each has the savings of those before.
 #[derive(Clone, Copy, Debug, PartialEq, Eq, PartialOrd, Ord)]
@@ -34,7 +35,9 @@ pub enum Step {
     Folded,
     /// What a mileage says is found once for all seasons.
     OnceARow,
-    /// An exponential of two multiplications, and all that a row's parkings share before their loop.
+    /// An exponential of two multiplications, its exponents formed once a row at each temperature of the day.
+    Short,
+    /// The same, with what the entries of a season share formed once for all rows.
     Hoisted,
 }
 
@@ -42,7 +45,8 @@ pub enum Step {
 pub type Program = fn(&[u8], &mut [u64]) -> Result<(), Refusal>;
 
 impl Step {
-    pub const ALL: [Step; 5] = [Step::EveryCell, Step::Listed, Step::Folded, Step::OnceARow, Step::Hoisted];
+    pub const ALL: [Step; 6] =
+        [Step::EveryCell, Step::Listed, Step::Folded, Step::OnceARow, Step::Short, Step::Hoisted];
 
     pub fn what(self) -> &'static str {
         match self {
@@ -50,13 +54,14 @@ impl Step {
             Step::Listed => "list of the season",
             Step::Folded => "list, 25 marks",
             Step::OnceARow => "list, 25 marks, threshold once a row",
-            Step::Hoisted => "short exponential, hoisted by row",
+            Step::Short => "short exponential, exponents once a row",
+            Step::Hoisted => "short exponential, all hoisted",
         }
     }
 
     /// Whether both steps compute the same numbers, and so must give the same words.
     pub fn same_words(self, other: Step) -> bool {
-        (self < Step::Hoisted) == (other < Step::Hoisted)
+        self == other || (self < Step::Short && other < Step::Short)
     }
 
     fn program<P: Products>(self) -> Program {
@@ -65,6 +70,7 @@ impl Step {
             Step::Listed => report::<steps::Listed, P>,
             Step::Folded => report::<steps::Folded, P>,
             Step::OnceARow => report::<steps::OnceARow, P>,
+            Step::Short => report::<short::Short, P>,
             Step::Hoisted => report::<hoisted::Hoisted, P>,
         }
     }

@@ -81,7 +81,7 @@ CLAIMS = (
     "longer than {text_bytes} bytes",
     # docs/METHOD.md, proved and measured
     "the terms left out 11/4 | 2^-40 | 5 | {quadratic_error} |", "E up to 1/16 | 2^-40 | 8 | {fine_error} |",
-    "0.004·vp | 2^-40 | {bound_2_3} | {error_2_3} |", "the canister | 2^-40 | {bound_3} | {error_3} |",
+    "0.004·vp | 2^-40 | {bound_2_3} | {error_2_3} |",
     "up to 50 °C | 2^-40 | {bound_3_6} | {error_3_6} |", "up to 56 °C | 2^-40 | {bound_4_1} | {error_4_1} |",
     "up to 65 °C | 2^-24 | {bound_power} | {error_power} |",
     "factors tried | | | {factors} | {driven_factors} |", "rows tried | | | {rows} | {driven_rows} |",
@@ -100,7 +100,7 @@ NOUNS = (
 # Figures beside a noun that are of the sheet, of the method or of a measurement, and of no program of the gate.
 KNOWN = (
     "43 pairs are in the table", "29 masses", "26 sums, which are all that grows",
-    "16,384 exponents from the whole range",
+    "16,384 exponents from the whole range", "25 temperatures",
     "20 calls, processor time",
 )
 

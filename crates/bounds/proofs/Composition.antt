@@ -1,7 +1,7 @@
 -- Bounds of E at a sum of exponents, from bounds at its parts: what a product of table entries and a short polynomial says of E,
 -- for every n of 40 or more. Scales and denominators are parameters.
 use mathlib.Core.Path.{_≡_, refl}
-use Prim.Native.Nat.{ℕ, _+_, _*_, _^_, _-_, _/_, _≤_, _<_}
+use Prim.Native.Nat.{ℕ, zero, suc, _+_, _*_, _^_, _-_, _/_, _≤_, _<_}
 use native.Mathlib.Decide.{decLe}
 use native.Mathlib.Omega.{arith}
 use native.Mathlib.Nat.{pow-zero, pow-suc, mul-zero, mul-sub, mul-pos, mul-le-mul, mul-le-mul-left, mul-le-mul-right, le-of-mul-le-mul-left, le-of-mul-le-mul-right, le-trans, div-mul-le-self, lt-div-mul-add}
@@ -77,6 +77,27 @@ small-widen {q} {lo = lo} {v = v} {u = u} a l =
     let g : lo + v ≤ lo + u = omega arith in
     record { above = a .above; below = λ n h. le-trans (a .below n h) (mul-le-mul-right (den q n) g) }
 
+-- a lower bound below, an upper bound above
+pub small-weaken : {q k w d lo v : ℕ} (lo' v' : ℕ) → Small q k w d lo v → lo' ≤ lo → lo + v ≤ lo' + v' → Small q k w d lo' v'
+small-weaken {q} {k} lo' v' a h g = record {
+  above = le-trans (mul-le-mul-right (den q k) h) (a .above);
+  below = λ n l. le-trans (a .below n l) (mul-le-mul-right (den q n) g);
+}
+
+-- a power of a positive number
+pow-pos : {c : ℕ} → 0 < c → (k : ℕ) → 0 < c ^ k
+pow-pos {c} h zero = rw (pow-zero c) (omega arith)
+pow-pos {c} h (suc k) = rw (pow-suc c k) (mul-pos (pow-pos h k) h)
+
+-- over the denominator before a common factor
+pub small-unscale : (c : ℕ) {q k w d lo v : ℕ} → 0 < c → Small (c * q) k w (c * d) lo v → Small q k w d lo v
+small-unscale c {q} {k} {w} {d} {lo} {v} c0 a = record {
+  above =
+      le-of-mul-le-mul-left (omega (arith, rw (num-scale c q d k, den-scale c q k) at (a .above))) (pow-pos c0 k);
+  below =
+      λ n h. le-of-mul-le-mul-left (omega (arith, rw (num-scale c q d n, den-scale c q n) at (a .below n h))) (pow-pos c0 n);
+}
+
 -- an entry of a table whose exponents are 0 or more
 pub near-small : {q N w d t : ℕ} → N ≤ 40 → Near q N w (d - 0) (0 - d) t → Small q N w d t 1
 near-small {q} {N} {w} {d} {t} h a =
@@ -87,12 +108,21 @@ near-small {q} {N} {w} {d} {t} h a =
       below = λ n l. rw (e, f, num-zero) at (a .below n (omega arith));
     }
 
+-- an entry that is cut to a unit c times as large is just below E in that unit
+pub near-cut : {q N w i j t : ℕ} (c : ℕ) → 0 < c → Near q N (w * c) i j t → Near q N w i j (t / c)
+near-cut {q} {N} {w} {i} {j} {t} c c0 a = record {
+  above =
+      λ n h. le-of-mul-le-mul-right {k = c} (omega (arith, a .above n h, mul-le-mul-right (num q j n) (div-mul-le-self t c))) c0;
+  below =
+      λ n h. le-of-mul-le-mul-right {k = c} (omega (arith, a .below n h, mul-le-mul-right (num q j n) (lt-div-mul-add {a = t} c0))) c0;
+}
+
 -- a bound over the denominator q is one over c·q
 rescale : (c q x j w i n : ℕ) → x * num q j n ≤ w * num q i n → x * num (c * q) (c * j) n ≤ w * num (c * q) (c * i) n
 rescale c q x j w i n h = rw (num-scale c q j n, num-scale c q i n) (omega (arith, mul-le-mul-left (c ^ n) h))
 
 -- An entry t just below W·E at a multiple of 1/q, and a small exponent d/(c·q) with its product lo.
-module _ (q c d W w lo v t : ℕ) (q0 : 0 < c * q) (s : Small (c * q) 10 w d lo v) where
+module _ (q c d k W w lo v t : ℕ) (q0 : 0 < c * q) (s : Small (c * q) k w d lo v) where
   -- the exponent (c·i + d)/(c·q)
   entry-plus-below : (i n : ℕ) → 40 ≤ n → W * num q i n ≤ (t + 1) * num q 0 n
       → W * w * num (c * q) (c * i + d) n ≤ (t + 1) * (lo + v) * num (c * q) 0 n
@@ -101,10 +131,10 @@ module _ (q c d W w lo v t : ℕ) (q0 : 0 < c * q) (s : Small (c * q) 10 w d lo 
       (plus-below (c * q) q0 W (t + 1) w (lo + v) (c * i) d n (rw (mul-zero, num-zero) at (rescale c q W i (t + 1) 0 n h)) (s .below n l))
 
   -- from below
-  entry-plus-above : (i n : ℕ) → t * num q 0 n ≤ W * num q i n → t * lo * num (c * q) 0 (n + 10) ≤ W * w * num (c * q) (c * i + d) (n + 10)
+  entry-plus-above : (i n : ℕ) → t * num q 0 n ≤ W * num q i n → t * lo * num (c * q) 0 (n + k) ≤ W * w * num (c * q) (c * i + d) (n + k)
   entry-plus-above i n h =
       rw num-zero
-      (plus-above (c * q) q0 W t w lo (c * i) d n 10 (rw (mul-zero, num-zero) at (rescale c q t 0 W i n h)) (s .above))
+      (plus-above (c * q) q0 W t w lo (c * i) d n k (rw (mul-zero, num-zero) at (rescale c q t 0 W i n h)) (s .above))
 
   -- the exponent −u/(c·q), where u + d = c·j
   entry-minus-below : (u j n : ℕ) → u + d ≡ c * j → 40 ≤ n → W * num q 0 n ≤ (t + 1) * num q j n
@@ -114,32 +144,32 @@ module _ (q c d W w lo v t : ℕ) (q0 : 0 < c * q) (s : Small (c * q) 10 w d lo 
       (minus-below (c * q) q0 W (t + 1) w (lo + v) u d n (rw (mul-zero, num-zero, ← e) at (rescale c q W 0 (t + 1) j n h)) (s .below n l))
 
   -- from below
-  entry-minus-above : (u j n : ℕ) → u + d ≡ c * j → t * num q j (n + 10) ≤ W * num q 0 (n + 10)
+  entry-minus-above : (u j n : ℕ) → u + d ≡ c * j → t * num q j (n + k) ≤ W * num q 0 (n + k)
       → t * lo * num (c * q) u n ≤ W * w * num (c * q) 0 n
   entry-minus-above u j n e h =
       rw num-zero
-      (minus-above (c * q) q0 W t w lo u d n 10 (rw (mul-zero, num-zero, ← e) at (rescale c q t j W 0 (n + 10) h)) (s .above))
+      (minus-above (c * q) q0 W t w lo u d n k (rw (mul-zero, num-zero, ← e) at (rescale c q t j W 0 (n + k) h)) (s .above))
 
 -- the two bounds on W·w·E((x − c·o)/(c·q))
 record Bounded (q o c x n W low high : ℕ) : Type 0 where
   above : low * num (c * q) (c * o - x) n ≤ W * num (c * q) (x - c * o) n
   below : W * num (c * q) (x - c * o) n ≤ high * num (c * q) (c * o - x) n
 
-module _ (q o c a d W w lo v t n : ℕ) (q0 : 0 < c * q) (dc : d < c) (l : 40 ≤ n) (e : Near q (from o a) W (a - o) (o - a) t) (s : Small (c * q) 10 w d lo v) where
+module _ (q o c a d k W w lo v t n : ℕ) (q0 : 0 < c * q) (dc : d < c) (few : k ≤ 11) (l : 40 ≤ n) (e : Near q (from o a) W (a - o) (o - a) t) (s : Small (c * q) k w d lo v) where
   -- an entry at an exponent of 0 or more
   bounded-plus : o ≤ a → Bounded q o c (c * a + d) n (W * w) (t * lo) ((t + 1) * (lo + v))
   unfolding from
   bounded-plus h =
-      let m : ℕ = n - 10 in
+      let m : ℕ = n - k in
       let e₁ : o - a ≡ 0 = omega arith in
-      let e₂ : m + 10 ≡ n = omega arith in
+      let e₂ : m + k ≡ n = omega arith in
       let g : c * o ≤ c * a = mul-le-mul-left c h in
       let e₃ : c * o - (c * a + d) ≡ 0 = omega arith in
       let e₄ : c * a + d - c * o ≡ c * (a - o) + d = rw mul-sub (omega arith) in
       record {
         above =
-            rw (e₃, e₄) (rw e₂ at (entry-plus-above q c d W w lo v t q0 s (a - o) m (rw e₁ at (e .above m (omega arith)))));
-        below = rw (e₃, e₄) (entry-plus-below q c d W w lo v t q0 s (a - o) n l (rw e₁ at (e .below n (omega arith))));
+            rw (e₃, e₄) (rw e₂ at (entry-plus-above q c d k W w lo v t q0 s (a - o) m (rw e₁ at (e .above m (omega arith)))));
+        below = rw (e₃, e₄) (entry-plus-below q c d k W w lo v t q0 s (a - o) n l (rw e₁ at (e .below n (omega arith))));
       }
 
   -- an entry at a negative exponent: so is the sum
@@ -147,15 +177,15 @@ module _ (q o c a d W w lo v t n : ℕ) (q0 : 0 < c * q) (dc : d < c) (l : 40 �
   unfolding from
   bounded-minus h =
       let u : ℕ = c * o - (c * a + d) in
-      let k : a + 1 ≤ o = omega arith in
+      let j : a + 1 ≤ o = omega arith in
       let e₁ : a - o ≡ 0 = omega arith in
-      let g : c * (a + 1) ≤ c * o = mul-le-mul-left c k in
+      let g : c * (a + 1) ≤ c * o = mul-le-mul-left c j in
       let e₃ : c * a + d - c * o ≡ 0 = omega arith in
       let e₄ : u + d ≡ c * (o - a) = rw mul-sub (omega arith) in
       record {
         above =
-            rw e₃ (entry-minus-above q c d W w lo v t q0 s u (o - a) n e₄ (rw e₁ at (e .above (n + 10) (omega arith))));
-        below = rw e₃ (entry-minus-below q c d W w lo v t q0 s u (o - a) n e₄ l (rw e₁ at (e .below n (omega arith))));
+            rw e₃ (entry-minus-above q c d k W w lo v t q0 s u (o - a) n e₄ (rw e₁ at (e .above (n + k) (omega arith))));
+        below = rw e₃ (entry-minus-below q c d k W w lo v t q0 s u (o - a) n e₄ l (rw e₁ at (e .below n (omega arith))));
       }
 
   -- t·lo encloses W·w·E((c·a + d − c·o)/(c·q)): the entry's exponent is (a − o)/q, and d/(c·q) is added to it
@@ -227,3 +257,34 @@ quadratic-small q w r g c b q0 w0 b0 g₁ g₂ c₁ c₂ t l = record {
   above = quadratic-above q w r g c w0 g₁ c₁;
   below = λ n h. quadratic-below q w r g c b n q0 w0 b0 (omega arith) t g₂ c₂ l;
 }
+
+-- The line 1 + ρ at ρ = r/q, with w·ρ known as lo − w.
+
+-- q·S₁(r/q)
+num-one : (q r : ℕ) → num q r 1 ≡ q + r
+unfolding num acc
+num-one q r = rw (pow-suc r 0, pow-zero r) (omega arith)
+
+-- q
+den-one : (q : ℕ) → den q 1 ≡ q
+unfolding den
+den-one q = omega arith
+
+-- the tail after ρ is at most ρ/b
+linear-tail : (q r b n : ℕ) → 1 ≤ n → (1 + b) * r ≤ q * 2 → q * b * num q r n ≤ den q n * (b * (q + r) + r)
+unfolding top
+linear-tail q r b n le t =
+    let h : den q 1 * (b * num q r n) ≤ den q n * (b * num q r 1 + 1 * r ^ 1) = tail q r 1 b 1 n (omega (arith, t)) le in
+    omega (arith, rw (den-one q, num-one q r, pow-suc r 0, pow-zero r) at h)
+
+-- lo is within v of w·E(r/q), where the tail after ρ is at most ρ over b
+pub linear-small : (q w r lo v b : ℕ) → 0 < q → 0 < b → (1 + b) * r ≤ q * 2 → lo * q ≤ w * (q + r)
+    → w * (b * (q + r) + r) ≤ (lo + v) * (q * b)
+    → Small q 1 w r lo v
+linear-small q w r lo v b q0 b0 t h g = record {
+  above = rw (den-one q, num-one q r) h;
+  below = λ n l. cancel (q * b) (b * (q + r) + r) (num q r n) (den q n) (lo + v) (mul-pos q0 b0) (linear-tail q r b n (omega arith) t) g;
+}
+  where
+    cancel : (K x N D z : ℕ) → 0 < K → K * N ≤ D * x → w * x ≤ z * K → w * N ≤ z * D
+    cancel K x N D z p a b = le-of-mul-le-mul-right {k = K} (omega (arith, mul-le-mul-left w a, mul-le-mul-left D b)) p

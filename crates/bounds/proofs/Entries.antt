@@ -18,10 +18,10 @@ pub entry-near : (q o w : ℕ) (N : ℕ → ℕ) (xs : List ℕ) → T (every (e
     → h - o < q * suc (N h) → o - h < q * suc (N h) → Near q (N h) w (h - o) (o - h) (getD xs h 0)
 entry-near q o w N xs t h l z i j = near q (N h) w (h - o) (o - h) (getD xs h 0) z i j (at (entryTest q o w N) xs t h l)
 
--- From which n on: an entry below E at an exponent of 0 or more is compared at 30, which leaves 10 of the 40 for the factors
+-- From which n on: an entry below E at an exponent of 0 or more is compared at 29, which leaves 11 of the 40 for the factors
 -- that it is multiplied with; one below E at a negative exponent at 40.
 unfoldable pub from : ℕ → ℕ → ℕ
-from o h = 30 + 10 * min 1 (o - h)
+from o h = 29 + 11 * min 1 (o - h)
 
 -- coarse(h) ≤ 2⁴⁰·E((h − 256)/16) ≤ coarse(h) + 1
 pub coarse-near : (h : ℕ) → h < 322 → Near 16 (from 256 h) (2 ^ 40) (h - 256) (256 - h) (getD coarse h 0)

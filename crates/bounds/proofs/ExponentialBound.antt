@@ -3,7 +3,7 @@
 use mathlib.Core.Path.{_≡_, refl}
 use Prim.Native.Nat.{ℕ, _+_, _*_, _-_, _^_, _/_, _%_, _≤_, _<_}
 use native.Mathlib.Omega.{arith}
-use native.Mathlib.Nat.{mul-le-mul, le-of-lt, div-add-mod, mod-lt}
+use native.Mathlib.Nat.{mul-le-mul, le-of-lt, le-div-iff-mul-le, div-add-mod, mod-lt}
 use lib.Dec.{lit<, lit≤}
 use lib.ListN.{getD}
 use Rattle.numbers.specs.Fraction.{ten-pos}
@@ -16,7 +16,7 @@ use Rattle.bounds.proofs.Tail.{Near}
 use Rattle.bounds.proofs.Exponential.{E-is}
 use Rattle.bounds.proofs.Entries.{from, coarse-near, middle-near, coarse-mono}
 use Rattle.bounds.proofs.Parts.{cut-below}
-use Rattle.bounds.proofs.Sizes.{coarse-below, middle-below}
+use Rattle.bounds.proofs.Sizes.{coarse-below, middle-below, middle-least}
 use Rattle.bounds.proofs.Composition.{Small, small-sum, small-scale, small-round, small-widen, near-small, composed, quadratic-small}
 
 -- Sizes.
@@ -35,7 +35,19 @@ pub quadratic-size : (r : ℕ) → r < 24414062500 → quadratic r < 11 * 10 ^ 1
 unfolding quadratic
 quadratic-size r h = let g = rest-size r h in omega (arith, rest-square (rest r) g)
 
--- E(m/4096 + ρ)
+-- it is 1 or more
+pub quadratic-least : (r : ℕ) → 2 ^ 40 ≤ quadratic r
+unfolding quadratic
+quadratic-least r = omega arith
+
+-- E(m/4096 + ρ) is 1 or more
+pub fine-least : (d : ℕ) → d < 6250000000000 → 2 ^ 40 ≤ fine d
+unfolding fine
+fine-least d h =
+    le-div-iff-mul-le {k = 2 ^ 40} (omega arith) .1
+    (mul-le-mul (middle-least (d / 24414062500) (omega arith)) (quadratic-least (d % 24414062500)))
+
+-- and no more than this
 pub fine-size : (d : ℕ) → d < 6250000000000 → fine d < 12 * 10 ^ 11
 unfolding fine
 fine-size d h =
@@ -107,7 +119,7 @@ fine-at m r s h l e =
     (omega (arith, quadratic-size r h))
 
 -- at d = m/4096 + ρ
-fine-near : (d : ℕ) → d < 6250000000000 → Small (10 ^ 14) 10 (2 ^ 40) d (fine d) 8
+pub fine-near : (d : ℕ) → d < 6250000000000 → Small (10 ^ 14) 10 (2 ^ 40) d (fine d) 8
 unfolding fine
 fine-near d h =
     let m : ℕ = d / 24414062500 in
@@ -120,7 +132,7 @@ exponential-at : (n h d t lo : ℕ) → d < 6250000000000 → 40 ≤ n → lo < 
 exponential-at n h d t lo l n40 k e s =
     widen
     (round-within (2 ^ 40) (omega arith)
-    (within-≈ (≈-sym (E-is n (exponent (6250000000000 * h + d)))) (composed 16 256 6250000000000 h d (2 ^ 40) (2 ^ 40) lo 8 t n (ten-pos 14) l n40 e s)))
+    (within-≈ (≈-sym (E-is n (exponent (6250000000000 * h + d)))) (composed 16 256 6250000000000 h d 10 (2 ^ 40) (2 ^ 40) lo 8 t n (ten-pos 14) l (omega arith) n40 e s)))
     (omega arith)
 
 -- The result.
@@ -164,11 +176,6 @@ exponentialError-1·41 = exponentialError-most (16 * 10 ^ 14 + 2 ^ 47) 35 (omega
 pub exponentialError-2·3 : (x : ℕ) → x ≤ 183 * 10 ^ 13 → exponentialError x ≤ 83
 unfolding exponentialError coarse
 exponentialError-2·3 = exponentialError-most (183 * 10 ^ 13) 83 (omega arith) refl
-
--- z ≤ 3
-pub exponentialError-3 : (x : ℕ) → x ≤ 19 * 10 ^ 14 → exponentialError x ≤ 171
-unfolding exponentialError coarse
-exponentialError-3 = exponentialError-most (19 * 10 ^ 14) 171 (omega arith) refl
 
 -- z ≤ 3.6
 pub exponentialError-3·6 : (x : ℕ) → x ≤ 196 * 10 ^ 13 → exponentialError x ≤ 291

@@ -107,7 +107,7 @@ fine-end : fine 6249999999999 ≤ 1170424035278
 unfolding fine quadratic rest middle
 fine-end = lit≤ tt
 
-fine-last : (d : ℕ) → d < 6250000000000 → fine d ≤ 1170424035278
+pub fine-last : (d : ℕ) → d < 6250000000000 → fine d ≤ 1170424035278
 fine-last d h = le-trans (fine-mono {e = 6249999999999} (omega arith) (omega arith)) fine-end
 
 -- and its least

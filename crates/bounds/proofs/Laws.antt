@@ -3,16 +3,17 @@
 use native.Mathlib.Omega.{arith}
 use Rattle.numbers.specs.Fraction.{Fraction, _<ᶠ_, whole}
 use Rattle.numbers.proofs.Order.{Positive, nonNegative, nonNegative→≤}
-use Rattle.bounds.specs.Laws.{SeriesLaws, EndLaws, ExponentialLaws, PowerLaws, WeightLaws, Laws}
+use Rattle.bounds.specs.Laws.{SeriesLaws, EndLaws, ExponentialLaws, ShortLaws, PowerLaws, WeightLaws, Laws}
 use Rattle.bounds.proofs.Exponential.{E-cong, E-mono, E-zero, E-positive}
 use Rattle.bounds.proofs.Sums.{E-most-1, E-product-above, E-product-below, one-plus}
 use Rattle.bounds.proofs.Ends.{E-to-0·44, E-to-2·255, E-to-2·8201, E-to-3, E-to-3·58, E-to-4·0096, E-at-2·78, E-at-minus-7·75}
 use Rattle.bounds.proofs.ExponentialBound.{exponential-within, exponentialError-mono, exponentialError-1·41, exponentialError-2·3, exponentialError-3·6, exponentialError-4·1, exponential-size, exponential-size-1·41, exponential-at-0, exponential-at-1·41}
+use Rattle.bounds.proofs.ShortBound.{short-within, shortError-mono, shortError-0, shortError-3, short-size}
 use Rattle.bounds.proofs.Growth.{exponential-mono}
 use Rattle.bounds.proofs.Line.{exponential-most-1}
 use Rattle.bounds.proofs.PowerBound.{power-within, power-size}
 use Rattle.bounds.proofs.Root.{power2·5-nonNegative, power2·5-above, power2·5-below, cutRoot-is, cutRoot-multiple}
-use Rattle.bounds.proofs.Weights.{weight-nearest, w-most, rises-where}
+use Rattle.bounds.proofs.Weights.{weight-nearest, w-most, rises-where, apart-most, apart-alike}
 
 above-0 : {x : Fraction} → Positive x → whole 0 <ᶠ x
 unfolding whole
@@ -58,6 +59,15 @@ computed = record {
   at-1·41 = exponential-at-1·41;
 }
 
+pub shorter : ShortLaws
+shorter = record {
+  encloses = short-within;
+  error-grows = shortError-mono;
+  error-0 = shortError-0;
+  error-3 = shortError-3;
+  fits = short-size;
+}
+
 pub powers : PowerLaws
 powers = record {
   encloses = power-within;
@@ -70,7 +80,7 @@ powers = record {
 }
 
 pub hourly : WeightLaws
-hourly = record { nearest = weight-nearest; most = w-most; rises = rises-where }
+hourly = record { nearest = weight-nearest; most = w-most; rises = rises-where; near = apart-most; alike = apart-alike }
 
 pub laws : Laws
-laws = record { series = series; ends = ends; exponential = computed; power = powers; weights = hourly }
+laws = record { series = series; ends = ends; exponential = computed; short = shorter; power = powers; weights = hourly }

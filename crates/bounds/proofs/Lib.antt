@@ -19,3 +19,5 @@ pub mod Line
 pub mod Units
 pub mod Tangent
 pub mod Laws
+pub mod ShortBound
+pub mod ShortLine

@@ -1,17 +1,17 @@
 -- E along a straight line, E(a + b·m), for an m that is known within a width: a law with E's slope as its parameter.
 -- a is held as A, an exponent; 2·b as K, in units of 10⁻¹⁴; m in units of 2⁻⁴⁰.
 -- Assumes nothing.
-use Prim.Native.Nat.{ℕ, _+_, _*_, _^_, _/_, _≤_, _<_, min}
+use Prim.Native.Nat.{ℕ, _+_, _*_, _^_, _/_, _≤_, _<_}
 use native.Mathlib.Omega.{arith}
 use native.Mathlib.Nat.{mul-le-mul-right, mul-le-mul-left, le-of-mul-le-mul-right}
 use Rattle.numbers.specs.Fraction.{Fraction, _≤ᶠ_, _≈ᶠ_, _+ᶠ_, _-ᶠ_, _*ᶠ_, whole, _/10^_, ten-pos}
-use Rattle.numbers.proofs.Order.{NonNegative, positive→nonNegative, nonNegative-up, ≤-refl, ≤-trans, ≈-refl, ≈-sym, ≈-trans, ≈→≤, ≈→≥, ≈-by, +-mono, +-cong, +-comm, +-assoc, sub-add, sub-nonNegative, ≤-sub, regain, *-mono, *-mono-right, *-cong, *-distrib, ratio, ratio-mono, ratio-nonNegative}
+use Rattle.numbers.proofs.Order.{NonNegative, positive→nonNegative, nonNegative-up, ≤-refl, ≤-trans, ≈-refl, ≈-sym, ≈-trans, ≈→≤, ≈→≥, ≈-by, +-mono, +-cong, +-comm, +-assoc, sub-add, sub-nonNegative, ≤-sub, regain, *-mono, *-mono-right, *-cong, *-assoc, *-distrib, ratio, ratio-mono, ratio-nonNegative}
 use Rattle.bounds.specs.Series.{E}
 use Rattle.bounds.specs.Enclosure.{Within}
 use Rattle.bounds.specs.Exponential.{exponential, exponent, exponentLimit, exponentialError}
 use Rattle.bounds.proofs.Exponential.{E-mono, E-positive, E-tangent}
 use Rattle.bounds.proofs.Sums.{E-most-1}
-use Rattle.bounds.proofs.ExponentialBound.{exponential-within, exponentialError-0, exponentialError-3}
+use Rattle.bounds.proofs.ExponentialBound.{exponential-within, exponentialError-0}
 use Rattle.bounds.proofs.Ends.{E-to-3}
 use Rattle.bounds.proofs.Within.{widen, within-above, within-below, within-from, within-cross, whole-within, +-within, div-mono}
 
@@ -32,35 +32,12 @@ pub record Slope : Type 0 where
   pub moved : ℕ → ℕ
   pub moves : (w : ℕ) → Within (2 ^ 40) 0 (moved w) (ratio (22 * w + 1) (10 ^ 14) (ten-pos 14) *ᶠ steepest)
 
-pub held-3 : (x : ℕ) → exponent x ≤ᶠ whole 3 → x ≤ 19 * 10 ^ 14
-unfolding whole
-held-3 x h = omega (arith, h .cross)
-
 written-3 : whole 3 ≤ᶠ 3 /10^ 0
 unfolding whole _/10^_
 written-3 = omega arith
 
 pub steep-3 : (n : ℕ) → 40 ≤ n → {z : Fraction} → z ≤ᶠ whole 3 → E n z ≤ᶠ 201 /10^ 1
 steep-3 n n40 h = E-to-3 n n40 (≤-trans h written-3)
-
-pub moves-3 : (w : ℕ) → Within (2 ^ 40) 0 (5 * w + 1) (ratio (22 * w + 1) (10 ^ 14) (ten-pos 14) *ᶠ 201 /10^ 1)
-unfolding ratio _*ᶠ_ _/10^_
-moves-3 w = omega arith
-
--- up to 3: E is at most 20.1 and moves by five units for each of m
-abbrev pub slopeTo3 : Slope
-slopeTo3 = record {
-  top = whole 3;
-  last = 19 * 10 ^ 14;
-  held = held-3;
-  last-fits = omega arith;
-  steepest = 201 /10^ 1;
-  steep = steep-3;
-  error = 171;
-  error-most = exponentialError-3;
-  moved = λ (w : ℕ). 5 * w + 1;
-  moves = moves-3;
-}
 
 pub held-0 : (x : ℕ) → exponent x ≤ᶠ whole 0 → x ≤ 16 * 10 ^ 14
 unfolding whole
@@ -96,14 +73,14 @@ exponential-most-1 x h =
     within-cross (exponential-within x (omega arith) .at 40 (omega arith)) (whole-within (2 ^ 40) 1) (E-most-1 40 (at-most-0 x h))
 
 -- a value between two enclosed ones
-within-between : {s l w m v u : ℕ} {x y z : Fraction} (p : 0 < s) → Within s l w x → Within s m v z → x ≤ᶠ y → y ≤ᶠ z → m + v ≤ l + u
+pub within-between : {s l w m v u : ℕ} {x y z : Fraction} (p : 0 < s) → Within s l w x → Within s m v z → x ≤ᶠ y → y ≤ᶠ z → m + v ≤ l + u
     → Within s l u y
 within-between {s} p a b h k g =
     within-from p (≤-trans (within-above p a) h) (≤-trans k (≤-trans (within-below p b) (ratio-mono p g)))
 
--- E(y) ≤ E(x) + d·steepest where x ≤ y ≤ x + d and y is at most the top
-climb : (sl : Slope) {x y : Fraction} (n : ℕ) (d : Fraction) → 40 ≤ n → x ≤ᶠ y → y ≤ᶠ x +ᶠ d → y ≤ᶠ sl .top → E n y ≤ᶠ E n x +ᶠ d *ᶠ sl .steepest
-climb sl {x} {y} n d n40 l h t =
+-- E(y) ≤ E(x) + d·steepest where x ≤ y ≤ x + d and E(y) is at most steepest
+pub climb-to : {x y : Fraction} (n : ℕ) (d steepest : Fraction) → x ≤ᶠ y → y ≤ᶠ x +ᶠ d → E n y ≤ᶠ steepest → E n y ≤ᶠ E n x +ᶠ d *ᶠ steepest
+climb-to {x} {y} n d steepest l h k =
     let e : Fraction = y -ᶠ x in
     let same : x +ᶠ e ≈ᶠ y = ≈-trans (+-comm x e) (sub-add y x) in
     let small : e ≤ᶠ d = ≤-sub x d h in
@@ -111,7 +88,11 @@ climb sl {x} {y} n d n40 l h t =
     ≤-trans (E-mono n (≈→≥ same))
     (≤-trans (E-tangent n x e e0)
     (+-mono (≤-refl (E n x))
-    (*-mono (nonNegative-up small e0) (positive→nonNegative (E-positive n (x +ᶠ e))) small (sl .steep n n40 (≤-trans (≈→≤ same) t)))))
+    (*-mono (nonNegative-up small e0) (positive→nonNegative (E-positive n (x +ᶠ e))) small (≤-trans (E-mono n (≈→≤ same)) k))))
+
+-- the same up to a slope's top
+climb : (sl : Slope) {x y : Fraction} (n : ℕ) (d : Fraction) → 40 ≤ n → x ≤ᶠ y → y ≤ᶠ x +ᶠ d → y ≤ᶠ sl .top → E n y ≤ᶠ E n x +ᶠ d *ᶠ sl .steepest
+climb sl n d n40 l h t = climb-to n d (sl .steepest) l h (sl .steep n n40 t)
 
 -- the exponent over bare numbers: a = (A − O)/U, b = K/(2·U), m in units of 1/s
 module _ (U O s : ℕ) (u : 0 < U) (p : 0 < s) where
@@ -153,6 +134,14 @@ along A K m = exponent A +ᶠ rising K *ᶠ m
 pub along-is : (A K : ℕ) (m : Fraction) {a b : Fraction} → a ≈ᶠ exponent A → b ≈ᶠ rising K → a +ᶠ b *ᶠ m ≈ᶠ along A K m
 unfolding along
 along-is A K m ea eb = +-cong ea (*-cong eb (≈-refl m))
+
+-- b·(m + g·r) = b·m + (b·g)·r
+pub along-risen : (A K : ℕ) (m g r : Fraction) → along A K m +ᶠ rising K *ᶠ g *ᶠ r ≈ᶠ along A K (m +ᶠ g *ᶠ r)
+unfolding along
+along-risen A K m g r =
+    ≈-trans (+-assoc (exponent A) (rising K *ᶠ m) (rising K *ᶠ g *ᶠ r))
+    (+-cong (≈-refl (exponent A))
+    (≈-trans (+-cong (≈-refl (rising K *ᶠ m)) (*-assoc (rising K) g r)) (≈-sym (*-distrib (rising K) m (g *ᶠ r)))))
 
 -- at a decimal number of tenths it is compared in whole numbers
 pub along-≤ : (limit A K m : ℕ) → 20 * A + K * m ≤ (320 + 20 * limit) * 10 ^ 14 → along A K (m /10^ 1) ≤ᶠ whole limit
@@ -207,12 +196,3 @@ module _ (A K : ℕ) {l w : ℕ} (m : Fraction) (a : Within (2 ^ 40) l w m) wher
         let e = widen (exponential-within x fits .at n n40) (sl .error-most x along-most) in
         within-between (omega arith) e (+-within e (sl .moves w)) (E-mono n along-above) (climb sl n d n40 along-above (along-below h) t)
         (omega arith)
-
--- the held exponent at every load is at most that of m_sat
-pub exponent-most : (sl : Slope) (A K : ℕ) {σ w : ℕ} (saturation : Fraction) → Within (2 ^ 40) σ w saturation → along A K saturation ≤ᶠ sl .top → (l : ℕ)
-    → A + K * min l σ / 2 ^ 41 ≤ sl .last
-exponent-most sl A K {σ} saturation full t l =
-    omega (arith, along-most A K saturation full sl t, div-mono (2 ^ 41) (omega arith) (mul-le-mul-left K (min-least l σ)))
-  where
-    min-least : (l k : ℕ) → min l k ≤ k
-    min-least l k = omega arith

@@ -1,11 +1,11 @@
 -- How large the entries of the two tables of the exponential are.
 use mathlib.Core.Bool.{Bool}
 use mathlib.Core.List.{List}
-use Prim.Native.Nat.{ℕ, suc, _*_, _^_, _<_}
+use Prim.Native.Nat.{ℕ, suc, _*_, _^_, _<_, _≤_}
 use lib.Dec.{T, leb, leb→le}
 use lib.ListN.{length, getD}
 use Rattle.bounds.specs.Exponential.{coarse, middle}
-use Rattle.bounds.proofs.Table.{at, every}
+use Rattle.bounds.proofs.Table.{at, every, ascending-least}
 
 -- the test that an entry is below a bound
 abbrev isBelow : ℕ → ℕ → ℕ → Bool
@@ -24,3 +24,8 @@ coarse-below = entries-below (64 * 10 ^ 12) coarse tt
 pub middle-below : (m : ℕ) → m < 256 → getD middle m 0 < 118 * 10 ^ 10
 unfolding middle
 middle-below = entries-below (118 * 10 ^ 10) middle tt
+
+-- and 1 or more
+pub middle-least : (m : ℕ) → m < 256 → 2 ^ 40 ≤ getD middle m 0
+unfolding middle
+middle-least = ascending-least (2 ^ 40) middle tt

@@ -45,7 +45,7 @@ ascending a [] = true
 ascending a (x ∷ xs) = both (leb a x) (ascending x xs)
 
 -- every entry is at least a
-ascending-least : (a : ℕ) (xs : List ℕ) → T (ascending a xs) → (k : ℕ) → k < length xs → a ≤ getD xs k 0
+pub ascending-least : (a : ℕ) (xs : List ℕ) → T (ascending a xs) → (k : ℕ) → k < length xs → a ≤ getD xs k 0
 ascending-least a [] t k h = absurd (not-suc-le-zero h)
 ascending-least a (x ∷ xs) t zero h = leb→le a x (both-left (leb a x) (ascending x xs) t)
 ascending-least a (x ∷ xs) t (suc k) h =

@@ -14,7 +14,7 @@ use Rattle.numbers.proofs.Order.{ratio, sub-mul}
 use Rattle.bounds.proofs.Exponential.{quotient, E-at}
 use Rattle.bounds.proofs.Tail.{belowTest, below}
 use Rattle.bounds.proofs.Table.{both, both-left, both-right, every, at}
-use Rattle.bounds.specs.Weights.{weights, w, oneWay, apart, weightExponent, Nearest, NearestTheorem, RoundTheDay}
+use Rattle.bounds.specs.Weights.{weights, w, oneWay, apart, ahead, weightExponent, Nearest, NearestTheorem, RoundTheDay}
 
 -- the denominator of the exponents
 abbrev parts : ℕ
@@ -121,6 +121,14 @@ nearerTest k unused = eqb (apart (4 + k)) (apart (4 + k + 1) + 1)
 nearer : (k : ℕ) → k < 24 → apart (4 + k) ≡ apart (4 + k + 1) + 1
 unfolding apart oneWay nearerTest
 nearer k h = eqb→eq _ _ (at nearerTest (replicate 24 0) tt k h)
+
+-- marks as far from 14:00 have one weight
+alikeTest : ℕ → ℕ → Bool
+alikeTest i unused = eqb (w (ahead (apart i))) (w i)
+
+pub apart-alike : (i : ℕ) → i < 48 → w (ahead (apart i)) ≡ w i
+unfolding weights apart oneWay alikeTest
+apart-alike i h = eqb→eq _ _ (at alikeTest (replicate 48 0) tt i h)
 
 -- so the weights fall once round the day, over midnight,
 fallTest : ℕ → ℕ → Bool

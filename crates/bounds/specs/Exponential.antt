@@ -5,6 +5,7 @@ use mathlib.Core.List.{List, [], _∷_, _++_}
 use Prim.Native.Nat.{ℕ, _+_, _*_, _/_, _%_, _^_}
 use lib.ListN.{getD}
 use Rattle.numbers.specs.Fraction.{Fraction, ten-pos}
+use Rattle.numbers.specs.Lists.{tab}
 
 -- z = x·10⁻¹⁴ − 16
 abbrev pub exponent : ℕ → Fraction
@@ -91,9 +92,9 @@ middle =
     1165860984406 ∷ 1166145653184 ∷ 1166430391469 ∷ 1166715199279 ∷ 1167000076630 ∷ 1167285023541 ∷ 1167570040026 ∷ 1167855126105 ∷
     1168140281793 ∷ 1168425507108 ∷ 1168710802066 ∷ 1168996166685 ∷ 1169281600981 ∷ 1169567104972 ∷ 1169852678675 ∷ 1170138322106 ∷ []
 
--- both, as the program holds them
-unfoldable pub entries : List ℕ
-entries = coarse ++ middle
+-- both
+unfoldable pub constants : List ℕ
+constants = coarse ++ middle
 
 -- ρ in 2⁻⁴⁰, for the rest r = ρ·10¹⁴ below 10¹⁴/4096: 2⁴⁰/10¹⁴ is 2²⁶/5¹⁴
 unfoldable pub rest : ℕ → ℕ
@@ -106,6 +107,18 @@ quadratic r = 2 ^ 40 + rest r + rest r * rest r / 2 ^ 41
 -- E(m/4096 + ρ), for d below 10¹⁴/16
 unfoldable pub fine : ℕ → ℕ
 fine d = getD middle (d / 24414062500) 0 * quadratic (d % 24414062500) / 2 ^ 40
+
+-- The same values in fewer bits, for the short exponential: just below 2²⁷·E((h − 256)/16), for h from 0 to 304,
+unfoldable pub high : ℕ → ℕ
+high h = getD coarse h 0 / 2 ^ 13
+
+-- and just below 2³⁰·E(j/16384), for j from 0 to 1023: 5¹⁴ is 10¹⁴/16384
+unfoldable pub finest : ℕ → ℕ
+finest j = fine (j * 6103515625) / 2 ^ 10
+
+-- all four tables, as the program holds them
+unfoldable pub entries : List ℕ
+entries = constants ++ (tab high 305 ++ tab finest 1024)
 
 -- E(z)
 unfoldable pub exponential : ℕ → ℕ

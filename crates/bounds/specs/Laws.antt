@@ -1,4 +1,4 @@
--- What the crates above this one may take from it of the series, the computed exponential, T^2.5 and the weights: "of which the inventory
+-- What the crates above this one may take from it of the series, the two computed exponentials, T^2.5 and the weights: "of which the inventory
 -- uses the stated bounds alone". Proved as `laws` in proofs/Laws. Definitions only.
 use mathlib.Core.Bool.{_&&_}
 use mathlib.Core.Path.{_≡_}
@@ -8,8 +8,9 @@ use Rattle.numbers.specs.Fraction.{Fraction, _≤ᶠ_, _<ᶠ_, _≈ᶠ_, _+ᶠ_
 use Rattle.bounds.specs.Series.{E, cutRoot, power2·5, multiple, CutRootTheorem}
 use Rattle.bounds.specs.Enclosure.{WithinAll}
 use Rattle.bounds.specs.Exponential.{exponent, exponentLimit, exponential, exponentialError}
+use Rattle.bounds.specs.Short.{shortExponent, short, shortLimit, shortError}
 use Rattle.bounds.specs.Power.{degrees, degreesLimit, power, powerError}
-use Rattle.bounds.specs.Weights.{w, NearestTheorem}
+use Rattle.bounds.specs.Weights.{w, apart, ahead, NearestTheorem}
 
 -- E for every n
 pub record SeriesLaws : Type 0 where
@@ -52,6 +53,15 @@ pub record ExponentialLaws : Type 0 where
   pub at-0 : exponential (16 * 10 ^ 14) ≡ 2 ^ 40
   pub at-1·41 : 4 * 2 ^ 40 ≤ exponential (16 * 10 ^ 14 + 2 ^ 47)
 
+-- the short exponential, in units of 2⁻³⁶, of the exponent x·2⁻⁵³ − 16
+pub record ShortLaws : Type 0 where
+  -- it encloses E for every n from 40 upward, within an error that grows and has these bounds up to 0 and at the end; and it fits
+  pub encloses : (x : ℕ) → x < shortLimit → WithinAll (2 ^ 36) (short x) (shortError x) (λ n. E n (shortExponent x))
+  pub error-grows : {x y : ℕ} → x ≤ y → y < shortLimit → shortError x ≤ shortError y
+  pub error-0 : (x : ℕ) → x ≤ 16 * 2 ^ 53 → shortError x ≤ 1047
+  pub error-3 : (x : ℕ) → x < shortLimit → shortError x ≤ 5797
+  pub fits : (x : ℕ) → x < shortLimit → short x < 2 ^ 41
+
 -- T^2.5 and its root
 pub record PowerLaws : Type 0 where
   pub encloses : (θ : ℕ) → θ ≤ degreesLimit → WithinAll (2 ^ 24) (power θ) powerError (λ n. power2·5 n (degrees θ))
@@ -62,15 +72,19 @@ pub record PowerLaws : Type 0 where
   pub root-is : CutRootTheorem
   pub root-multiple : (n : ℕ) (x : Fraction) → cutRoot n x ≡ multiple n ((cutRoot n x) .up)
 
--- the hourly weights: each is the nearest; they are at most 1, and from a mark to the next they rise from 2:00 to 14:00 and fall else
+-- the hourly weights: each is the nearest; they are at most 1, and from a mark to the next they rise from 2:00 to 14:00 and fall else; no mark
+-- is further from 14:00 than 12 hours, and as far from it they are equal
 pub record WeightLaws : Type 0 where
   pub nearest : NearestTheorem
   pub most : (i : ℕ) → w i ≤ 10 ^ 9
   pub rises : (i : ℕ) → i < 48 → leb (w i) (w ((i + 1) % 48)) ≡ (leb 4 i && ltb i 28)
+  pub near : (i : ℕ) → apart i ≤ 24
+  pub alike : (i : ℕ) → i < 48 → w (ahead (apart i)) ≡ w i
 
 pub record Laws : Type 0 where
   pub series : SeriesLaws
   pub ends : EndLaws
   pub exponential : ExponentialLaws
+  pub short : ShortLaws
   pub power : PowerLaws
   pub weights : WeightLaws

@@ -4,3 +4,4 @@ pub mod Exponential
 pub mod Power
 pub mod Weights
 pub mod Laws
+pub mod Short

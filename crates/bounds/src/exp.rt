@@ -1,11 +1,12 @@
 // The exponential, in units of 2^-40. An exponent z is held as x = (z + 16) * 10^14. With z = (h - 256) / 16 + m / 4096 + p and
 // p below 1 / 4096, E(z) is close to the product of two table entries, at h and at m, and of 1 + p + p^2 / 2. Every step cuts downwards.
-use crate::fixed::mul_shift;
+use crate::fixed::mul_above;
 ghost use mathlib.Core.Path.{_≡_};
-ghost use Prim.Native.Nat.{_*_, _^_, _<_, _≤_};
+ghost use Prim.Native.Nat.{_*_, _^_, _<_, _≤_, _/_};
 ghost use Rattle.bounds.specs.Series.{E};
 ghost use Rattle.bounds.specs.Enclosure.{WithinAll};
-ghost use Rattle.bounds.specs.Exponential.{exponent, entries, rest, quadratic, fine, exponential, exponentLimit, exponentialError};
+ghost use lib.ListN.{getD};
+ghost use Rattle.bounds.specs.Exponential.{exponent, middle, constants, entries, rest, quadratic, fine, exponential, exponentLimit, exponentialError};
 
 // 1 / 16, the step of the first table, in units of 10^-14
 const COARSE_STEP: u64 = 6250000000000;
@@ -15,6 +16,15 @@ const FINE_STEP: u64 = 24414062500;
 
 // Where the second table starts.
 const MIDDLE: usize = 322;
+
+// Where the two tables of the short exponential start, and from units of 2^-40 to their units of 2^-27 and 2^-30
+pub const HIGH: usize = 578;
+
+pub const FINEST: usize = 883;
+
+const TWO_13: u64 = 8192;
+
+const TWO_10: u64 = 1024;
 
 // 2^26 and 5^14: 2^40 / 10^14 is 2^26 / 5^14
 const TWO_26: u64 = 67108864;
@@ -40,32 +50,33 @@ fn rest(r: u64) -> u64
 // 1 + p + p^2 / 2
 fn quadratic(r: u64) -> u64
     requires { ⌜ r < 24414062500 ⌝ }
-    ensures { λ q. ⌜ (q ≡ quadratic r) × (q < 11 * 10 ^ 11) ⌝ }
+    ensures { λ q. ⌜ (q ≡ quadratic r) × (2 ^ 40 ≤ q) × (q < 11 * 10 ^ 11) ⌝ }
 {
     let p = rest(r);
     ONE + p + p * p / TWO
 }
 
-// E(m / 4096 + p), for d = (m / 4096 + p) * 10^14 below 10^14 / 16
-fn fine(tables: &[u64; 578], d: u64) -> u64
-    requires { ⌜ (now tables ≡ entries) × (d < 6250000000000) ⌝ }
-    ensures { λ f. ⌜ (f ≡ fine d) × (f < 12 * 10 ^ 11) ⌝ }
+// E(m / 4096 + p), for d = (m / 4096 + p) * 10^14 below 10^14 / 16 and the entry at m
+fn fine(entry: u64, d: u64) -> u64
+    requires { ⌜ (entry ≡ getD middle (d / 24414062500) 0) × (d < 6250000000000) ⌝ }
+    ensures { λ f. ⌜ (f ≡ fine d) × (2 ^ 40 ≤ f) × (f < 12 * 10 ^ 11) ⌝ }
 {
-    let m = (d / FINE_STEP) as usize;
-    mul_shift(tables[MIDDLE + m], quadratic(d % FINE_STEP))
+    mul_above(entry, quadratic(d % FINE_STEP))
 }
 
 // E(z) for z below 4.1. The tables are those that `tables` gives.
-pub fn exponential(tables: &[u64; 578], x: u64) -> u64
+pub fn exponential(tables: &[u64; 1907], x: u64) -> u64
     requires { ⌜ (now tables ≡ entries) × (x < exponentLimit) ⌝ }
     ensures { λ r. ⌜ (r ≡ exponential x) × (r < 2 ^ 46) × WithinAll (2 ^ 40) r (exponentialError x) (λ n. E n (exponent x)) ⌝ }
 {
     let h = (x / COARSE_STEP) as usize;
-    mul_shift(tables[h], fine(tables, x % COARSE_STEP))
+    let d = x % COARSE_STEP;
+    let m = (d / FINE_STEP) as usize;
+    mul_above(tables[h], fine(tables[MIDDLE + m], d))
 }
 
 // How far 2^40 E(z) can be above what `exponential` gives for the same x
-pub fn exponential_error(tables: &[u64; 578], x: u64) -> u64
+pub fn exponential_error(tables: &[u64; 1907], x: u64) -> u64
     requires { ⌜ (now tables ≡ entries) × (x < exponentLimit) ⌝ }
     ensures { λ r. ⌜ (r ≡ exponentialError x) × (r ≤ 475) ⌝ }
 {
@@ -73,11 +84,34 @@ pub fn exponential_error(tables: &[u64; 578], x: u64) -> u64
     8 * (tables[h] / ONE + 1) + 3
 }
 
-// The two tables as one value. A caller makes it once and lends it: the constant itself would be built anew wherever it is read.
-pub fn tables() -> [u64; 578]
+// The entry at a place of all four tables: a constant, or one of the short exponential, which is made of the constants.
+fn entry(table: &[u64; 578], place: usize) -> u64
+    requires { ⌜ (now table ≡ constants) × (place < 1907) ⌝ }
+    ensures { λ r. ⌜ r ≡ getD entries place 0 ⌝ }
+{
+    if place < HIGH {
+        return table[place];
+    }
+    if place < FINEST {
+        return table[place - HIGH] / TWO_13;
+    }
+    let d = (place - FINEST) as u64 * FIVE_14;
+    let m = (d / FINE_STEP) as usize;
+    fine(table[MIDDLE + m], d) / TWO_10
+}
+
+// The four tables as one value. A caller makes it once and lends it: the constant itself would be built anew wherever it is read.
+pub fn tables() -> [u64; 1907]
     ensures { λ r. ⌜ r ≡ entries ⌝ }
 {
-    TABLES
+    let table = TABLES;
+    let mut out = [0u64; 1907];
+    let mut place: usize = 0;
+    while place < 1907 {
+        out[place] = entry(&table, place);
+        place += 1;
+    }
+    out
 }
 
 // just below 2^40 E((h - 256) / 16), for h from 0 to 321; then just below 2^40 E(m / 4096), for m from 0 to 255

@@ -1,6 +1,10 @@
-// The hourly weights of a day, as a constant table.
+// The hourly weights of a day, as a constant table, and how far a mark is from 14:00, by which they go.
 ghost use mathlib.Core.Path.{_≡_};
-ghost use Rattle.bounds.specs.Weights.{weights};
+ghost use Prim.Native.Nat.{_<_, _≤_};
+ghost use Rattle.bounds.specs.Weights.{weights, oneWay, apart};
+
+// The mark of 14:00.
+pub const WARMEST: usize = 28;
 
 // "The hourly weights are a constant table of 48 billionths", at marks 0 to 47.
 const WEIGHTS: [u64; 48] = [
@@ -59,4 +63,25 @@ pub fn weights_table() -> [u64; 48]
     ensures { λ r. ⌜ r ≡ weights ⌝ }
 {
     WEIGHTS
+}
+
+// How far a mark is from 14:00, by mark or back, in half-hours.
+fn one_way(mark: usize) -> usize
+    requires { ⌜ mark < 48 ⌝ }
+    ensures { λ r. ⌜ (r ≡ oneWay mark) × (r ≤ 28) ⌝ }
+{
+    if mark < WARMEST {
+        WARMEST - mark
+    } else {
+        mark - WARMEST
+    }
+}
+
+// The same the shorter way round the day.
+pub fn apart(mark: usize) -> usize
+    requires { ⌜ mark < 48 ⌝ }
+    ensures { λ r. ⌜ (r ≡ apart mark) × (r ≤ 24) ⌝ }
+{
+    let way = one_way(mark);
+    if way < 24 { way } else { 48 - way }
 }

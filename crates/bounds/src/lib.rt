@@ -4,3 +4,4 @@ pub mod fixed;
 pub mod hours;
 pub mod order;
 pub mod power;
+pub mod short;

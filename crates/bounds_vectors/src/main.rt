@@ -82,7 +82,7 @@ fn verdict_of(low: u64, error: u64, v: Vector) -> Verdict
 }
 
 // A tally with one exponent more, where it lies in the range
-fn with_exponent(tables: &[u64; 578], first: u64, limit: u64, v: Vector, tally: Tally) -> Tally
+fn with_exponent(tables: &[u64; 1907], first: u64, limit: u64, v: Vector, tally: Tally) -> Tally
     requires { ⌜ (now tables ≡ entries) × (limit ≤ exponentLimit) ⌝ }
 {
     let x = v.held;
@@ -98,7 +98,7 @@ fn with_exponent(tables: &[u64; 578], first: u64, limit: u64, v: Vector, tally: 
 }
 
 // The exponents from the first on that are below the limit
-fn exponentials(tables: &[u64; 578], first: u64, limit: u64, s: &[u8]) -> Tally
+fn exponentials(tables: &[u64; 1907], first: u64, limit: u64, s: &[u8]) -> Tally
     requires { ⌜ (now tables ≡ entries) × (limit ≤ exponentLimit) ⌝ }
 {
     let mut tally = Tally::none();

@@ -1,80 +1,188 @@
--- A row's canister in a season: its curves stay in the exponential's range, and what breaks through is that of the definition.
+-- A row's canister in a season: its exponents stay in the short exponential's range, and what breaks through is that of the definition.
 use mathlib.Core.List.{List}
-use mathlib.Core.Path.{_≡_}
-use Prim.Native.Nat.{ℕ, _+_, _*_, _/_, _^_, _≤_, _<_, min}
+use mathlib.Core.Path.{_≡_, refl, _∙_, ap}
+use lib.ListN.{replicate}
+use Prim.Native.Nat.{ℕ, _+_, _*_, _-_, _/_, _^_, _≤_, _<_, min}
 use native.Mathlib.Omega.{arith}
+use native.Mathlib.Decide.{decLe}
+use native.Mathlib.Nat.{mul-le-mul, mul-le-mul-left, mul-le-mul-right, le-dest}
 use Rattle.numbers.specs.Lists.{tab, at}
-use Rattle.numbers.proofs.Lists.{getD-tab, tab-ext}
+use Rattle.numbers.proofs.Lists.{getD-tab, tab-ext, tab-constant, tab-at-most}
+use Rattle.bounds.specs.Weights.{apart, ahead}
+use Rattle.bounds.specs.Short.{short, binary, lineOf, lineExponent, reach}
+use Rattle.bounds.proofs.ShortBound.{short-size}
+use Rattle.bounds.proofs.ShortLine.{reach-is, reach-most, lineExponent-is, lineExponent-mono}
 use Rattle.exact.specs.declared.Season.{Season}
 use Rattle.exact.specs.declared.Row.{Row}
 use Rattle.sheet.specs.Range.{markWarmth, SeasonInRange, halves, RowInRange}
-use Rattle.factors.specs.Escape.{tenthGrams, loss, breakUnits}
-use Rattle.factors.specs.Units.{baseAt, growthAt, gain, vapourUnits, throughUnits}
+use Rattle.factors.specs.Escape.{tenthGrams, loss, drivenError, risenLoss, breakUnits}
+use Rattle.factors.specs.Units.{rowStart, baseAt, growthAt, gain, lossError, throughUnits}
 use Rattle.factors.proofs.Gain.{gain-most}
-use Rattle.factors.proofs.Sizes.{growth-size, saturation-size, start-below, loss-exponent-most, driven-exponent-most}
-use Rattle.factors.proofs.Canister.{saturation-most, growth-most}
-use Rattle.sheet.proofs.Temperature.{warmth-most}
+use Rattle.factors.proofs.Sizes.{saturation-size, full-exponent-most, driven-exponent-most}
+use Rattle.factors.proofs.Starts.{start-below}
+use Rattle.factors.proofs.Canister.{saturation-most, base-most, growth-most}
+use Rattle.sheet.proofs.Temperature.{warmth-most, warmth-alike}
+use Rattle.breakthrough.specs.declared.curve.Curve.{Curve}
 use Rattle.breakthrough.specs.declared.curves.Curves.{Curves}
-use Rattle.breakthrough.specs.Through.{CurvesReady, curveAt, through}
-use Rattle.breakthrough.specs.Curves.{LoadsReady, startAt, firstAt, CurvesOf}
+use Rattle.breakthrough.specs.Through.{CurveReady, CurvesReady, curveAt, through}
+use Rattle.breakthrough.specs.Curves.{LoadsReady, basesOf, growthsOf, startsOf, CurvesBy, CurvesFit, CurvesOf}
 
--- the losses at parking start, from lists of a, of 2·b·s and of the loads
-pub losses-tab : (a b l : ℕ → ℕ) {saturation error σ e : ℕ} {bases growths loads : List ℕ} → bases ≡ tab a 48 → growths ≡ tab b 48 → loads ≡ tab l 48
-    → saturation ≡ σ → error ≡ e
-    → tab (λ (mark : ℕ). loss (at bases mark) (at growths mark) saturation (at loads mark) + error) 48
-    ≡ tab (λ (mark : ℕ). loss (a mark) (b mark) σ (l mark) + e) 48
-losses-tab a b l eb eg el es ee =
-    tab-ext 48 (λ mark h. rw (eb, eg, el, es, ee, getD-tab a 48 mark h, getD-tab b 48 mark h, getD-tab l 48 mark h))
+-- what breaks through of at most 36 g for a rise of 1 and a rise of at most 72 is below 2¹⁴ g
+pub through-most : (c : Curve) (rise : ℕ) → CurveReady c → rise ≤ 72 * 2 ^ 40 → through c rise ≤ 2 ^ 54
+unfolding through
+through-most c rise r h =
+    let x : ℕ = min (c .exponent + c .reach * rise / 2 ^ 23) (c .last) in
+    omega (arith, mul-le-mul (r .gain-most) h, short-size x (omega (arith, r .last-below)))
 
--- min(m, m) = m
-min-self : (m : ℕ) → min m m ≡ m
-min-self m = omega arith
+-- vapour above the room that is left brings the exponent up to that of the saturating load, but for the cuts: over bare numbers
+past-room : (a k g r m D : ℕ) → r ≤ 72 * 2 ^ 40 → (D + 2) * 2 ^ 40 ≤ g * r
+    → (a + k * (m + D) / 2 ^ 41) * 2 ^ 9 ≤ (a + k * m / 2 ^ 41) * 2 ^ 9 + k * g / 2 ^ 49 * r / 2 ^ 23 + 2 ^ 24
+past-room a k g r m D l h =
+    let q : ℕ = k * g / 2 ^ 49 in
+    let most : k * g ≤ (q + 1) * 2 ^ 49 = omega arith in
+    omega (arith, mul-le-mul-right r most, mul-le-mul-left k h)
+
+-- so where the exponent stays below it by more than these, the vapour fits into the room
+room-left : (A K σ m g r : ℕ) → m ≤ σ → r ≤ 72 * 2 ^ 40 → lineExponent A K m + reach K g * r / 2 ^ 23 + 2 ^ 24 < lineExponent A K σ
+    → g * r / 2 ^ 40 ≤ σ + 1 - m
+room-left A K σ m g r h l e =
+    let (D, same) = le-dest h in
+    let held = rw (lineExponent-is A K m, lineExponent-is A K σ, reach-is K g) at e in
+    elim (decLe (g * r / 2 ^ 40) (σ + 1 - m)) [
+      | yes fits ↦ fits
+      | no over ↦
+          let enough : (D + 2) * 2 ^ 40 ≤ g * r = omega arith in
+          absurd (omega (arith, rw same at (past-room (binary A) (binary K) g r m D l enough)))
+    ]
+
+-- lists of equal values make equal canisters
+pub curves-by : {A A' K K' m m' : ℕ → ℕ} {σ σ' g g' e e' : ℕ} {c : Curves} → ((i : ℕ) → i < 25 → A i ≡ A' i) → ((i : ℕ) → i < 25 → K i ≡ K' i)
+    → ((i : ℕ) → i < 25 → m i ≡ m' i) → σ ≡ σ' → g ≡ g' → e ≡ e' → CurvesBy A K m σ g e c → CurvesBy A' K' m' σ' g' e' c
+curves-by a k l s v x b = record {
+  exponents-are = b .exponents-are ∙ tab-ext 25 (λ i h. rw (a i h, k i h, l i h));
+  lasts-are = b .lasts-are ∙ tab-ext 25 (λ i h. rw (a i h, k i h, s));
+  reaches-are = b .reaches-are ∙ tab-ext 25 (λ i h. rw (k i h, v));
+  rooms-are = b .rooms-are ∙ tab-ext 25 (λ i h. rw (l i h, s));
+  firsts-are = b .firsts-are ∙ tab-ext 25 (λ i h. rw (a i h, k i h, l i h, x));
+  gain-is = b .gain-is ∙ v;
+}
+
+-- The lists of a canister, from those of a and of 2·b·s in units of 2⁻⁴⁴.
+module _ (A K : ℕ → ℕ) {a k : List ℕ} (ea : a ≡ tab (λ (i : ℕ). binary (A i)) 25) (ek : k ≡ tab (λ (i : ℕ). binary (K i)) 25) where
+  pub lines-are : (m : ℕ → ℕ) {xs : List ℕ} → xs ≡ tab (λ (i : ℕ). lineOf (at a i) (at k i) (m i)) 25
+      → xs ≡ tab (λ (i : ℕ). lineExponent (A i) (K i) (m i)) 25
+  lines-are m e =
+      e ∙ tab-ext 25 (λ i h. rw (ea, ek, getD-tab (λ (i : ℕ). binary (A i)) 25 i h, getD-tab (λ (i : ℕ). binary (K i)) 25 i h, lineExponent-is (A i) (K i) (m i)))
+
+  pub reaches-are : (g : ℕ) {xs : List ℕ} → xs ≡ tab (λ (i : ℕ). at k i * g / 2 ^ 49) 25 → xs ≡ tab (λ (i : ℕ). reach (K i) g) 25
+  reaches-are g e = e ∙ tab-ext 25 (λ i h. rw (ek, getD-tab (λ (i : ℕ). binary (K i)) 25 i h, reach-is (K i) g))
+
+  pub firsts-are : (m : ℕ → ℕ) (error : ℕ) {x xs : List ℕ} → x ≡ tab (λ (i : ℕ). lineExponent (A i) (K i) (m i)) 25
+      → xs ≡ tab (λ (i : ℕ). short (at x i) * 2 ^ 4 + error) 25 → xs ≡ tab (λ (i : ℕ). loss (A i) (K i) (m i) + error) 25
+  unfolding loss
+  firsts-are m error ex e = e ∙ tab-ext 25 (λ i h. rw (ex, getD-tab (λ (i : ℕ). lineExponent (A i) (K i) (m i)) 25 i h))
+
+-- one value at every distance
+pub same-at : (σ i : ℕ) → i < 25 → at (replicate 25 σ) i ≡ σ
+same-at σ i h = ap (λ (xs : List ℕ). at xs i) (tab-constant {f = λ (k : ℕ). σ} 25 σ (λ k l. refl)) ∙ getD-tab (λ (k : ℕ). σ) 25 i h
 
 module _ {season : Season} {row : Row} (s : SeasonInRange season) (r : RowInRange season row) (p : 0 < halves (row .canister)) where
-  at-saturation : (i : ℕ) → baseAt season row i + growthAt season row i * tenthGrams (row .saturation) / 2 ^ 41 ≤ 19 * 10 ^ 14
-  at-saturation i =
-      rw (min-self (tenthGrams (row .saturation))) at (loss-exponent-most s r i (tenthGrams (row .saturation)))
-
   -- the starting loads can be found
-  pub loads-ready : {bases growths : List ℕ} → bases ≡ tab (baseAt season row) 48 → growths ≡ tab (growthAt season row) 48 → LoadsReady row bases growths
+  pub loads-ready : {bases growths : List ℕ} → bases ≡ tab (basesOf season row) 25 → growths ≡ tab (growthsOf season row) 25 → LoadsReady row bases growths
   loads-ready eb eg = record {
     saturation-most = saturation-most s r p;
     load-most = r .load-most;
-    mileage-most = r .mileage-most;
     canister-there = p;
     balanced = λ km net h. record {
-      ready = λ mark l.
-          rw (eb, eg, getD-tab (baseAt season row) 48 mark l, getD-tab (growthAt season row) 48 mark l) (record {
-            growth-most = growth-most (row .canister) (season .vp) (markWarmth season mark) (warmth-most mark s);
+      ready = λ d l.
+          rw (eb, eg, getD-tab (basesOf season row) 25 d l, getD-tab (growthsOf season row) 25 d l) (record {
+            growth-most = growth-most (row .canister) (season .vp) (markWarmth season (ahead d)) (warmth-most (ahead d) s);
             saturation-below = omega (arith, saturation-size s r p);
             net-below = h;
-            exponent-most = driven-exponent-most s r mark (omega arith);
+            exponent-most = driven-exponent-most s r (ahead d) (omega arith);
           });
     };
   }
 
-  -- with any losses at parking start
-  pub fitted-ready : {c : Curves} → c .bases ≡ tab (baseAt season row) 48 → c .growths ≡ tab (growthAt season row) 48
-      → c .loads ≡ tab (startAt season row) 48 → c .saturation ≡ tenthGrams (row .saturation) → c .gain ≡ gain season row → CurvesReady c
-  fitted-ready {c} eb eg el es ev = record {
-    ready = λ mark first h.
-        let base : at (c .bases) mark ≡ baseAt season row mark = rw eb (getD-tab (baseAt season row) 48 mark h) in
-        let growth : at (c .growths) mark ≡ growthAt season row mark = rw eg (getD-tab (growthAt season row) 48 mark h) in
+  -- m_sat ≤ 368.5 g
+  full-most : tenthGrams (row .saturation) ≤ 369 * 2 ^ 40
+  unfolding tenthGrams
+  full-most = omega (arith, saturation-most s r p)
+
+  -- the values are in range
+  pub curves-fit : {bases growths loads : List ℕ} {σ g e : ℕ} → bases ≡ tab (basesOf season row) 25 → growths ≡ tab (growthsOf season row) 25
+      → loads ≡ tab (startsOf season row) 25 → σ ≡ tenthGrams (row .saturation) → g ≡ gain season row → e ≤ drivenError
+      → CurvesFit bases growths loads σ g e
+  curves-fit eb eg el es ev h = record {
+    bases-most = tab-at-most _ 25 eb (λ d _. omega (arith, base-most s r (ahead d)));
+    growths-most = tab-at-most _ 25 eg (λ d _. growth-most (row .canister) (season .vp) (markWarmth season (ahead d)) (warmth-most (ahead d) s));
+    loads-most = rw es (tab-at-most _ 25 el (λ d _. start-below row (r .load-most) _ _));
+    saturation-most = rw es full-most;
+    exponents-most = λ d l.
+        rw (eb, eg, es, getD-tab (basesOf season row) 25 d l, getD-tab (growthsOf season row) 25 d l) (full-exponent-most s r (ahead d));
+    gain-most = rw ev (gain-most s r);
+    error-most = h;
+  }
+
+  -- every distance's values are ready
+  pub curves-ready : {c : Curves} → CurvesOf season row c → CurvesReady c
+  curves-ready {c} f = record {
+    ready = λ d h.
+        let A : ℕ = basesOf season row d in
+        let K : ℕ = growthsOf season row d in
+        let σ : ℕ = tenthGrams (row .saturation) in
+        let load = start-below row (r .load-most) A K in
+        let exponent : at (c .exponents) d ≡ lineExponent A K (startsOf season row d)
+        = ap (λ (xs : List ℕ). at xs d) (f .by .exponents-are) ∙ getD-tab (λ (i : ℕ). lineExponent (basesOf season row i) (growthsOf season row i) (startsOf season row i)) 25 d h in
+        let last : at (c .lasts) d ≡ lineExponent A K σ
+        = ap (λ (xs : List ℕ). at xs d) (f .by .lasts-are) ∙ getD-tab (λ (i : ℕ). lineExponent (basesOf season row i) (growthsOf season row i) σ) 25 d h in
+        let by : at (c .reaches) d ≡ reach K (gain season row)
+        = ap (λ (xs : List ℕ). at xs d) (f .by .reaches-are) ∙ getD-tab (λ (i : ℕ). reach (growthsOf season row i) (gain season row)) 25 d h in
+        let room : at (c .rooms) d ≡ σ + 1 - startsOf season row d
+        = ap (λ (xs : List ℕ). at xs d) (f .by .rooms-are) ∙ getD-tab (λ (i : ℕ). σ + 1 - startsOf season row i) 25 d h in
         record {
-          saturation-below = omega (arith, es, saturation-size s r p);
-          growth-below = omega (arith, growth, growth-size s r mark);
-          exponent-below = rw (base, growth, es) (omega (arith, at-saturation mark));
-          load-most = rw (es, el, getD-tab (startAt season row) 48 mark h) (start-below s r _ _);
-          gain-most = rw ev (gain-most s r);
+          exponent-below = rw exponent (omega (arith, lineExponent-mono A K load, full-exponent-most s r (ahead d)));
+          last-below = rw last (omega (arith, full-exponent-most s r (ahead d)));
+          reach-most =
+              rw by
+              (reach-most _ _ (growth-most (row .canister) (season .vp) (markWarmth season (ahead d)) (warmth-most (ahead d) s)) (gain-most s r));
+          gain-most = rw (f .by .gain-is) (gain-most s r);
+          room-left = λ rise small below.
+              rw (f .by .gain-is, room)
+              (room-left A K σ (startsOf season row d) (gain season row) rise load small (rw (exponent, by, last) at below));
         };
   }
 
-  pub curves-ready : {c : Curves} → CurvesOf season row c → CurvesReady c
-  curves-ready f = fitted-ready (f .bases-are) (f .growths-are) (f .loads-are) (f .saturation-is) (f .gain-is)
+-- what overflows, by the room that is left: m1 + v − (σ + 1) = v − (σ + 1 − m1)
+overflow-is : (m1 v σ : ℕ) → m1 ≤ σ → v - (σ + 1 - m1) ≡ m1 + v - (σ + 1)
+overflow-is m1 v σ h = omega arith
 
--- what breaks through, from the canister's values at a mark
-pub through-is : {season : Season} {row : Row} {c : Curves} → CurvesOf season row c → (mark rise : ℕ) → mark < 48
-    → through (curveAt c mark) rise ≡ throughUnits season row mark rise
-unfolding through throughUnits breakUnits vapourUnits
-through-is {season} {row} f mark rise h =
-    rw (f .saturation-is, f .gain-is, f .bases-are, f .growths-are, f .loads-are, f .firsts-are, getD-tab (baseAt season row) 48 mark h, getD-tab (growthAt season row) 48 mark h, getD-tab (startAt season row) 48 mark h, getD-tab (firstAt season row) 48 mark h)
+-- what breaks through, from the canister's values at a distance: that of the mark so far before 14:00
+pub through-is : {season : Season} {row : Row} {c : Curves} → row .load ≤ row .saturation → CurvesOf season row c → (d rise : ℕ) → d < 25
+    → through (curveAt c d) rise ≡ throughUnits season row (ahead d) rise
+unfolding through throughUnits breakUnits risenLoss
+through-is {season} {row} {c} l f d rise h =
+    let σ : ℕ = tenthGrams (row .saturation) in
+    let first = getD-tab (λ (d : ℕ). loss (basesOf season row d) (growthsOf season row d) (startsOf season row d) + lossError row) 25 d h in
+    let exponent = getD-tab (λ (d : ℕ). lineExponent (basesOf season row d) (growthsOf season row d) (startsOf season row d)) 25 d h in
+    let last = getD-tab (λ (d : ℕ). lineExponent (basesOf season row d) (growthsOf season row d) σ) 25 d h in
+    let by = getD-tab (λ (d : ℕ). reach (growthsOf season row d) (gain season row)) 25 d h in
+    let room = getD-tab (λ (d : ℕ). σ + 1 - startsOf season row d) 25 d h in
+    let over = overflow-is (startsOf season row d) (gain season row * rise / 2 ^ 40) σ (start-below row l _ _) in
+    rw (f .by .exponents-are, f .by .lasts-are, f .by .reaches-are, f .by .rooms-are, f .by .firsts-are, f .by .gain-is, exponent, last, by, room, first, over)
+
+-- of no rise nothing breaks through
+pub through-none : (season : Season) (row : Row) (i : ℕ) → row .load ≤ row .saturation → throughUnits season row i 0 ≡ 0
+unfolding throughUnits breakUnits risenLoss loss
+through-none season row i l =
+    let A : ℕ = baseAt season row i in
+    let K : ℕ = growthAt season row i in
+    let below = start-below row l A K in
+    let same : min (lineExponent A K (rowStart row A K) + reach K (gain season row) * 0 / 2 ^ 23) (lineExponent A K (tenthGrams (row .saturation))) ≡ lineExponent A K (rowStart row A K)
+    = omega (arith, lineExponent-mono A K below) in
+    rw same (omega (arith, below))
+
+-- and so that of each mark that is as far from it
+pub through-alike : (season : Season) (row : Row) (i rise : ℕ) → i < 48 → throughUnits season row (ahead (apart i)) rise ≡ throughUnits season row i rise
+unfolding throughUnits
+through-alike season row i rise h = rw (warmth-alike season i h)

@@ -1,2 +1,2 @@
-pub mod Exponents
 pub mod Fitted
+pub mod Listed

@@ -1,44 +1,71 @@
 -- What the values of a row's canister in a season are. Definitions only.
 use mathlib.Core.List.{List}
 use mathlib.Core.Path.{_≡_}
-use Prim.Native.Nat.{ℕ, _+_, _^_, _≤_, _<_}
-use Rattle.numbers.specs.Lists.{tab}
+use Prim.Native.Nat.{ℕ, _+_, _*_, _-_, _^_, _≤_, _<_}
+use Rattle.numbers.specs.Lists.{tab, at, AllAtMost}
+use Rattle.bounds.specs.Short.{lineExponent, reach}
+use Rattle.bounds.specs.Weights.{ahead}
 use Rattle.exact.specs.declared.Season.{Season}
 use Rattle.exact.specs.declared.Row.{Row}
-use Rattle.sheet.specs.Limits.{mileageLimit}
 use Rattle.sheet.specs.Range.{SeasonInRange, markWarmth, halves, RowInRange}
+use Rattle.starting_loads.specs.Net.{netOf}
 use Rattle.starting_loads.specs.Balance.{BalancesReady}
-use Rattle.factors.specs.Escape.{tenthGrams, loss}
+use Rattle.factors.specs.Escape.{tenthGrams, loss, drivenError}
 use Rattle.factors.specs.Units.{rowStart, lossError, baseAt, growthAt, gain}
 use Rattle.breakthrough.specs.declared.curves.Curves.{Curves}
+
+-- what a row's canister keeps of its load, from the mileage alone: no season changes it
+pub record KeptOf (row : Row) (kept : ℕ) : Type 0 where
+  pub kept-is : 17 ≤ row .mileage → 0 < halves (row .canister) → kept ≡ netOf (halves (row .canister)) (row .mileage)
+  pub kept-below : kept < 2 ^ 50
 
 -- what the starting loads are found from: with a mileage every exponent up to m_sat is at most 0
 pub record LoadsReady (row : Row) (bases growths : List ℕ) : Type 0 where
   pub saturation-most : row .saturation ≤ 3685
   pub load-most : row .load ≤ row .saturation
-  pub mileage-most : row .mileage ≤ mileageLimit
   pub canister-there : 0 < halves (row .canister)
   pub balanced : 17 ≤ row .mileage → (net : ℕ) → net < 2 ^ 50 → BalancesReady bases growths (tenthGrams (row .saturation)) net
 
-module _ (season : Season) (row : Row) where
-  abbrev pub startAt : ℕ → ℕ
-  startAt i = rowStart row (baseAt season row i) (growthAt season row i)
+-- Values by distance from 14:00 are those of the mark so far before it.
 
-  abbrev pub firstAt : ℕ → ℕ
-  firstAt i = loss (baseAt season row i) (growthAt season row i) (tenthGrams (row .saturation)) (startAt i) + lossError row
+-- the canister whose a, 2·b·s and load at parking start are these
+pub record CurvesBy (A K load : ℕ → ℕ) (saturation gain error : ℕ) (c : Curves) : Type 0 where
+  pub exponents-are : c .exponents ≡ tab (λ (d : ℕ). lineExponent (A d) (K d) (load d)) 25
+  pub lasts-are : c .lasts ≡ tab (λ (d : ℕ). lineExponent (A d) (K d) saturation) 25
+  pub reaches-are : c .reaches ≡ tab (λ (d : ℕ). reach (K d) gain) 25
+  pub rooms-are : c .rooms ≡ tab (λ (d : ℕ). saturation + 1 - load d) 25
+  pub firsts-are : c .firsts ≡ tab (λ (d : ℕ). loss (A d) (K d) (load d) + error) 25
+  pub gain-is : c .gain ≡ gain
+
+-- they are in range: every exponent up to m_sat is at most 3
+pub record CurvesFit (bases growths loads : List ℕ) (saturation gain error : ℕ) : Type 0 where
+  pub bases-most : AllAtMost (10 ^ 15) bases
+  pub growths-most : AllAtMost (22 * 2 ^ 41) growths
+  pub loads-most : AllAtMost saturation loads
+  pub saturation-most : saturation ≤ 369 * 2 ^ 40
+  pub exponents-most : (d : ℕ) → d < 25 → lineExponent (at bases d) (at growths d) saturation ≤ 19 * 2 ^ 53
+  pub gain-most : gain ≤ 36 * 2 ^ 40
+  pub error-most : error ≤ drivenError
+
+module _ (season : Season) (row : Row) where
+  abbrev pub basesOf : ℕ → ℕ
+  basesOf d = baseAt season row (ahead d)
+
+  abbrev pub growthsOf : ℕ → ℕ
+  growthsOf d = growthAt season row (ahead d)
+
+  abbrev pub startsOf : ℕ → ℕ
+  startsOf d = rowStart row (basesOf d) (growthsOf d)
 
   -- what a canister is fitted from
-  pub record FitReady (warmths : List ℕ) (vapour : ℕ) : Type 0 where
+  pub record FitReady (warmths : List ℕ) (vapour kept : ℕ) : Type 0 where
     pub season-in : SeasonInRange season
     pub row-in : RowInRange season row
     pub canister-there : 0 < halves (row .canister)
-    pub warmths-are : warmths ≡ tab (markWarmth season) 48
+    pub warmths-are : warmths ≡ tab (λ (d : ℕ). markWarmth season (ahead d)) 25
     pub vapour-is : vapour ≡ gain season row
+    pub kept-of : KeptOf row kept
 
+  -- that of a row in a season
   pub record CurvesOf (c : Curves) : Type 0 where
-    pub bases-are : c .bases ≡ tab (baseAt season row) 48
-    pub growths-are : c .growths ≡ tab (growthAt season row) 48
-    pub loads-are : c .loads ≡ tab startAt 48
-    pub firsts-are : c .firsts ≡ tab firstAt 48
-    pub saturation-is : c .saturation ≡ tenthGrams (row .saturation)
-    pub gain-is : c .gain ≡ gain season row
+    pub by : CurvesBy basesOf growthsOf startsOf (tenthGrams (row .saturation)) (gain season row) (lossError row) c

@@ -1,41 +1,38 @@
--- What breaks through a canister, from its values at the marks. Definitions only.
-use Prim.Native.Nat.{ℕ, _+_, _*_, _-_, _/_, _^_, _<_, _≤_}
+-- What breaks through a canister, from its values by distance from 14:00. Definitions only.
+use Prim.Native.Nat.{ℕ, _+_, _*_, _-_, _/_, _^_, _<_, _≤_, min}
 use Rattle.numbers.specs.Lists.{at}
-use Rattle.bounds.specs.Exponential.{exponentLimit}
-use Rattle.factors.specs.Escape.{loss}
+use Rattle.bounds.specs.Short.{short, shortLimit}
 use Rattle.breakthrough.specs.declared.curve.Curve.{Curve}
 use Rattle.breakthrough.specs.declared.curves.Curves.{Curves}
 
--- of the vapour of a rise, at one mark
-unfoldable pub through : Curve → ℕ → ℕ
-through c rise = loss (c .base) (c .growth) (c .saturation) (c .load + c .gain * rise / 2 ^ 40) - c .first
+-- the exponent of a rise, at one temperature: up to that of the saturating load
+abbrev pub exponentOf : Curve → ℕ → ℕ
+exponentOf c rise = min (c .exponent + c .reach * rise / 2 ^ 23) (c .last)
 
--- the canister's values at a mark
+-- of the vapour of a rise
+unfoldable pub through : Curve → ℕ → ℕ
+through c rise = short (exponentOf c rise) * 2 ^ 4 + (c .gain * rise / 2 ^ 40 - c .room) - c .first
+
+-- the canister's values at a distance from 14:00
 abbrev pub curveAt : Curves → ℕ → Curve
-curveAt c mark = record {
-  base = at (c .bases) mark;
-  growth = at (c .growths) mark;
-  saturation = c .saturation;
-  load = at (c .loads) mark;
-  first = at (c .firsts) mark;
+curveAt c d = record {
+  exponent = at (c .exponents) d;
+  last = at (c .lasts) d;
+  reach = at (c .reaches) d;
+  room = at (c .rooms) d;
+  first = at (c .firsts) d;
   gain = c .gain;
 }
 
--- every exponent that can arise below saturation is one that the exponential takes, and the products fit
+-- every exponent that can arise below saturation is one that the exponential takes, and the products fit; where the exponent stays below
+-- saturation by more than the cuts, nothing overflows
 pub record CurveReady (c : Curve) : Type 0 where
-  pub saturation-below : c .saturation < 2 ^ 50
-  pub growth-below : c .growth < 2 ^ 50
-  pub exponent-below : c .base + c .growth * c .saturation / 2 ^ 41 < exponentLimit
-  pub load-most : c .load ≤ c .saturation
+  pub exponent-below : c .exponent < 2 ^ 62
+  pub last-below : c .last < shortLimit
+  pub reach-most : c .reach ≤ 9 * 2 ^ 36
   pub gain-most : c .gain ≤ 36 * 2 ^ 40
+  pub room-left : (rise : ℕ) → rise ≤ 72 * 2 ^ 40 → c .exponent + c .reach * rise / 2 ^ 23 + 2 ^ 24 < c .last → c .gain * rise / 2 ^ 40 ≤ c .room
 
--- at every mark, whatever is lost there when a parking starts
+-- at every distance
 pub record CurvesReady (c : Curves) : Type 0 where
-  pub ready : (mark first : ℕ) → mark < 48 → CurveReady (record {
-    base = at (c .bases) mark;
-    growth = at (c .growths) mark;
-    saturation = c .saturation;
-    load = at (c .loads) mark;
-    first = first;
-    gain = c .gain;
-  })
+  pub ready : (d : ℕ) → d < 25 → CurveReady (curveAt c d)

@@ -1,29 +1,32 @@
-// The canister that a row has, in a season: its curve at each mark, and what it has lost when a parking starts.
-use crate::curve::Curve;
-use crate::curve::loss;
+// The canister that a row has, in a season: its curve at each temperature of a day, and what it has lost when a parking starts. A day
+// has 25 temperatures, by a mark's distance from 14:00.
 use crate::loads::loss_error;
 use crate::loads::start_loads;
 use crate::loads::tenth_grams;
+use bounds::fixed::mul_shift;
+use bounds::short::binary;
+use bounds::short::line;
+use bounds::short::short;
 use classes::halves;
 use exact::Row;
 use exact::Season;
 ghost use mathlib.Core.Path.{_≡_};
-ghost use Prim.Native.Nat.{ℕ, _+_, _*_, _-_, _^_, _≤_};
+ghost use Prim.Native.Nat.{ℕ, _+_, _*_, _-_, _/_, _^_, _≤_};
 ghost use Rattle.bounds.specs.Exponential.{entries};
 ghost use Rattle.numbers.specs.Lists.{tab, at, AllAtMost};
 ghost use Rattle.sheet.specs.Limits.{vpLimit};
 ghost use Rattle.sheet.specs.Range.{halves};
-ghost use Rattle.factors.specs.Escape.{base, loss, drivenError};
-ghost use Rattle.breakthrough.specs.Through.{CurvesReady};
-ghost use Rattle.breakthrough.specs.Curves.{FitReady, CurvesOf};
+ghost use Rattle.bounds.specs.Short.{short, binary, lineOf};
+ghost use Rattle.factors.specs.Escape.{base, drivenError};
+ghost use Rattle.breakthrough.specs.Curves.{CurvesFit, CurvesBy, FitReady, CurvesOf};
 
-// The values of `Curve` at every mark; what no mark changes stands once.
+// The values of `Curve` by distance from 14:00; what no temperature changes stands once.
 pub struct Curves {
-    pub bases: [u64; 48],
-    pub growths: [u64; 48],
-    pub loads: [u64; 48],
-    pub firsts: [u64; 48],
-    pub saturation: u64,
+    pub exponents: [u64; 25],
+    pub lasts: [u64; 25],
+    pub reaches: [u64; 25],
+    pub rooms: [u64; 25],
+    pub firsts: [u64; 25],
     pub gain: u64,
 }
 
@@ -39,89 +42,161 @@ const GROWTH: u64 = 11200000000000;
 
 const GROWTH_BY_PRESSURE: u64 = 1500000000;
 
-// a at each mark.
-fn bases(warmths: &[u64; 48], vp: u64) -> [u64; 48]
+// From units of 2^-36 g to units of 2^-40 g, and from units of 2^-45 to units of 2^-36.
+const TWO_4: u64 = 16;
+
+const TWO_9: u64 = 512;
+
+// a at each distance.
+fn bases(warmths: &[u64; 25], vp: u64) -> [u64; 25]
     requires { ⌜ AllAtMost (80 * 10 ^ 10) (now warmths) × (vp ≤ vpLimit) ⌝ }
-    ensures { λ r. ⌜ r ≡ tab (λ (mark : ℕ). base vp (at (now (warmths .entry)) mark)) 48 ⌝ }
+    ensures { λ r. ⌜ r ≡ tab (λ (d : ℕ). base vp (at (now (warmths .entry)) d)) 25 ⌝ }
 {
-    let mut out = [0u64; 48];
-    let mut mark: usize = 0;
-    while mark < 48 {
-        out[mark] = BASE + BASE_BY_WARMTH * warmths[mark] - BASE_BY_PRESSURE * vp;
-        mark += 1;
+    let mut out = [0u64; 25];
+    let mut d: usize = 0;
+    while d < 25 {
+        out[d] = BASE + BASE_BY_WARMTH * warmths[d] - BASE_BY_PRESSURE * vp;
+        d += 1;
     }
     out
 }
 
-// 2 b s at each mark, for 2 s = times.
-fn growths(warmths: &[u64; 48], vp: u64, times: u64) -> [u64; 48]
+// 2 b s at each distance, for 2 s = times.
+fn growths(warmths: &[u64; 25], vp: u64, times: u64) -> [u64; 25]
     requires { ⌜ AllAtMost (80 * 10 ^ 10) (now warmths) × (vp ≤ vpLimit) × (times ≤ 4) ⌝ }
-    ensures { λ r. ⌜ r ≡ tab (λ (mark : ℕ). (112 * 10 ^ 11 + at (now (warmths .entry)) mark - 15 * 10 ^ 8 * vp) * times) 48 ⌝ }
+    ensures { λ r. ⌜ r ≡ tab (λ (d : ℕ). (112 * 10 ^ 11 + at (now (warmths .entry)) d - 15 * 10 ^ 8 * vp) * times) 25 ⌝ }
 {
-    let mut out = [0u64; 48];
-    let mut mark: usize = 0;
-    while mark < 48 {
-        out[mark] = (GROWTH + warmths[mark] - GROWTH_BY_PRESSURE * vp) * times;
-        mark += 1;
+    let mut out = [0u64; 25];
+    let mut d: usize = 0;
+    while d < 25 {
+        out[d] = (GROWTH + warmths[d] - GROWTH_BY_PRESSURE * vp) * times;
+        d += 1;
     }
     out
 }
 
-// What is lost at each mark at the load at parking start, and as much more as it can be off.
-fn first_losses(tables: &[u64; 578], c: Curves, error: u64) -> [u64; 48]
-    requires { ⌜ (now tables ≡ entries) × CurvesReady c × (error ≤ drivenError) ⌝ }
-    ensures { λ r. ⌜ r ≡ tab (λ (mark : ℕ). loss (at (c .bases) mark) (at (c .growths) mark) (c .saturation) (at (c .loads) mark) + error) 48 ⌝ }
+// Units of 10^-14 in units of 2^-44, at each distance.
+fn binaries(xs: &[u64; 25]) -> [u64; 25]
+    requires { ⌜ AllAtMost (10 ^ 15) (now xs) ⌝ }
+    ensures { λ r. ⌜ r ≡ tab (λ (d : ℕ). binary (at (now (xs .entry)) d)) 25 ⌝ }
 {
-    let mut out = [0u64; 48];
-    let mut mark: usize = 0;
-    while mark < 48 {
-        let load = c.loads[mark];
-        let curve = Curve {
-            base: c.bases[mark],
-            growth: c.growths[mark],
-            saturation: c.saturation,
-            load,
-            first: 0,
-            gain: c.gain,
-        };
-        out[mark] = loss(tables, curve, load) + error;
-        mark += 1;
+    let mut out = [0u64; 25];
+    let mut d: usize = 0;
+    while d < 25 {
+        out[d] = binary(xs[d]);
+        d += 1;
     }
     out
 }
 
-// A row's canister in a season whose marks have these warmths, and the vapour in its tank for a rise of 1.
+// a + b s m at each distance, for a + 16 and 2 b s in units of 2^-44 and m in units of 2^-40 g.
+fn lines(bases: &[u64; 25], growths: &[u64; 25], loads: &[u64; 25]) -> [u64; 25]
+    requires { ⌜ AllAtMost (3 * 2 ^ 46) (now bases) × AllAtMost (2 ^ 43) (now growths) × AllAtMost (369 * 2 ^ 40) (now loads) ⌝ }
+    ensures { λ r. ⌜ r ≡ tab (λ (d : ℕ). lineOf (at (now (bases .entry)) d) (at (now (growths .entry)) d) (at (now (loads .entry)) d)) 25 ⌝ }
+{
+    let mut out = [0u64; 25];
+    let mut d: usize = 0;
+    while d < 25 {
+        out[d] = line(bases[d], growths[d], loads[d]);
+        d += 1;
+    }
+    out
+}
+
+// b s times the gain at each distance, for 2 b s in units of 2^-44, in units of 2^-36.
+fn reaches(growths: &[u64; 25], gain: u64) -> [u64; 25]
+    requires { ⌜ AllAtMost (2 ^ 43) (now growths) × (gain ≤ 36 * 2 ^ 40) ⌝ }
+    ensures { λ r. ⌜ r ≡ tab (λ (d : ℕ). at (now (growths .entry)) d * gain / 2 ^ 49) 25 ⌝ }
+{
+    let mut out = [0u64; 25];
+    let mut d: usize = 0;
+    while d < 25 {
+        out[d] = mul_shift(growths[d], gain) / TWO_9;
+        d += 1;
+    }
+    out
+}
+
+// What the canister can take up at each distance before it overflows, and one more for what is cut.
+fn rooms(loads: &[u64; 25], saturation: u64) -> [u64; 25]
+    requires { ⌜ AllAtMost saturation (now loads) × (saturation ≤ 369 * 2 ^ 40) ⌝ }
+    ensures { λ r. ⌜ r ≡ tab (λ (d : ℕ). saturation + 1 - at (now (loads .entry)) d) 25 ⌝ }
+{
+    let mut out = [0u64; 25];
+    let mut d: usize = 0;
+    while d < 25 {
+        out[d] = saturation + 1 - loads[d];
+        d += 1;
+    }
+    out
+}
+
+// What is lost at each distance at the load at parking start, and as much more as it can be off.
+fn first_losses(tables: &[u64; 1907], exponents: &[u64; 25], error: u64) -> [u64; 25]
+    requires { ⌜ (now tables ≡ entries) × AllAtMost (19 * 2 ^ 53) (now exponents) × (error ≤ drivenError) ⌝ }
+    ensures { λ r. ⌜ r ≡ tab (λ (d : ℕ). short (at (now (exponents .entry)) d) * 2 ^ 4 + error) 25 ⌝ }
+{
+    let mut out = [0u64; 25];
+    let mut d: usize = 0;
+    while d < 25 {
+        out[d] = short(tables, exponents[d]) * TWO_4 + error;
+        d += 1;
+    }
+    out
+}
+
+// The canister whose a, 2 b s and load at parking start are these.
+fn curves_of(
+    tables: &[u64; 1907],
+    bases: &[u64; 25],
+    growths: &[u64; 25],
+    loads: &[u64; 25],
+    saturation: u64,
+    gain: u64,
+    error: u64,
+) -> Curves
+    requires { ⌜ (now tables ≡ entries) × CurvesFit (now bases) (now growths) (now loads) saturation gain error ⌝ }
+    ensures { λ r. ⌜ CurvesBy (at (now (bases .entry))) (at (now (growths .entry))) (at (now (loads .entry))) saturation gain error r ⌝ }
+{
+    let a = binaries(bases);
+    let k = binaries(growths);
+    let exponents = lines(&a, &k, loads);
+    let full = [saturation; 25];
+    Curves {
+        exponents,
+        lasts: lines(&a, &k, &full),
+        reaches: reaches(&k, gain),
+        rooms: rooms(loads, saturation),
+        firsts: first_losses(tables, &exponents, error),
+        gain,
+    }
+}
+
+// A row's canister in a season that has these warmths by distance, the vapour in its tank for a rise of 1, and what it keeps of
+// its load.
 pub fn fit(
-    tables: &[u64; 578],
+    tables: &[u64; 1907],
     season: Season,
-    warmths: &[u64; 48],
+    warmths: &[u64; 25],
     row: Row,
     vapour: u64,
+    kept: u64,
 ) -> Curves
-    requires { ⌜ (now tables ≡ entries) × FitReady season row (now warmths) vapour ⌝ }
+    requires { ⌜ (now tables ≡ entries) × FitReady season row (now warmths) vapour kept ⌝ }
     ensures { λ r. ⌜ CurvesOf season row r ⌝ }
 {
     let bases = bases(warmths, season.vp);
     let canister = row.canister;
     let growths = growths(warmths, season.vp, halves(canister));
-    let loads = start_loads(tables, row, &bases, &growths);
+    let loads = start_loads(tables, row, kept, &bases, &growths);
     let saturation = tenth_grams(row.saturation);
-    let none = [0u64; 48];
-    let unlost = Curves {
-        bases,
-        growths,
-        loads,
-        firsts: none,
+    curves_of(
+        tables,
+        &bases,
+        &growths,
+        &loads,
         saturation,
-        gain: vapour,
-    };
-    let firsts = first_losses(tables, unlost, loss_error(row));
-    Curves {
-        bases,
-        growths,
-        loads,
-        firsts,
-        saturation,
-        gain: vapour,
-    }
+        vapour,
+        loss_error(row),
+    )
 }

@@ -1,5 +1,5 @@
 // What breaks through the carbon canister of a row.
 pub mod curve;
 pub mod curves;
-mod loads;
+pub mod loads;
 pub mod losses;

@@ -8,17 +8,18 @@ ghost use mathlib.Core.Path.{_≡_};
 ghost use Prim.Native.Nat.{ℕ, _≤_};
 ghost use Rattle.bounds.specs.Exponential.{entries};
 ghost use Rattle.numbers.specs.Lists.{tab, at};
+ghost use Rattle.sheet.specs.Limits.{mileageLimit};
 ghost use Rattle.factors.specs.Escape.{tenthGrams, drivenError};
 ghost use Rattle.factors.specs.Units.{rowStart, lossError};
-ghost use Rattle.breakthrough.specs.Curves.{LoadsReady};
+ghost use Rattle.breakthrough.specs.Curves.{KeptOf, LoadsReady};
 
 // From this mileage on a canister is not empty.
 const FIRST_KILOMETRES: u64 = 17;
 
 // How far a loss can be above the computed one, in units of 2^-40 g: at a written load, and at one that is found.
-const WRITTEN_ERROR: u64 = 179;
+const WRITTEN_ERROR: u64 = 93010;
 
-const DRIVEN_ERROR: u64 = 161733;
+const DRIVEN_ERROR: u64 = 178491;
 
 // Tenths of a gram in units of 2^-40 g, cut.
 pub fn tenth_grams(m: u64) -> u64
@@ -39,20 +40,35 @@ pub fn loss_error(row: Row) -> u64
     }
 }
 
-// The load at each mark: found from the mileage, or written. (Up to 16 km both are 0.)
+// What a row's canister keeps of its load, which its mileage says and no season changes; of no account up to 16 km and without canister.
+pub fn kept_of(tables: &[u64; 1907], row: Row) -> u64
+    requires { ⌜ (now tables ≡ entries) × (row .mileage ≤ mileageLimit) ⌝ }
+    ensures { λ r. ⌜ KeptOf row r ⌝ }
+{
+    let canister = row.canister;
+    let halves = halves(canister);
+    if halves == 0 {
+        return 0;
+    }
+    if row.mileage < FIRST_KILOMETRES {
+        return 0;
+    }
+    net(tables, row.mileage, halves)
+}
+
+// The load at each distance from 14:00: found from the mileage, or written. (Up to 16 km both are 0.)
 pub fn start_loads(
-    tables: &[u64; 578],
+    tables: &[u64; 1907],
     row: Row,
-    bases: &[u64; 48],
-    growths: &[u64; 48],
-) -> [u64; 48]
-    requires { ⌜ (now tables ≡ entries) × LoadsReady row (now bases) (now growths) ⌝ }
-    ensures { λ r. ⌜ r ≡ tab (λ (mark : ℕ). rowStart row (at (now (bases .entry)) mark) (at (now (growths .entry)) mark)) 48 ⌝ }
+    kept: u64,
+    bases: &[u64; 25],
+    growths: &[u64; 25],
+) -> [u64; 25]
+    requires { ⌜ (now tables ≡ entries) × LoadsReady row (now bases) (now growths) × KeptOf row kept ⌝ }
+    ensures { λ r. ⌜ r ≡ tab (λ (d : ℕ). rowStart row (at (now (bases .entry)) d) (at (now (growths .entry)) d)) 25 ⌝ }
 {
     if FIRST_KILOMETRES <= row.mileage {
-        let canister = row.canister;
-        let kept = net(tables, row.mileage, halves(canister));
         return starts(tables, bases, growths, tenth_grams(row.saturation), kept);
     }
-    [tenth_grams(row.load); 48]
+    [tenth_grams(row.load); 25]
 }

@@ -8,14 +8,14 @@ ghost use Rattle.exponentials.specs.Total.{served, total};
 // The first exponent that is not served
 const LIMIT: u64 = 2010000000000000;
 
-fn served(tables: &[u64; 578], x: u64) -> u64
+fn served(tables: &[u64; 1907], x: u64) -> u64
     requires { ⌜ now tables ≡ entries ⌝ }
     ensures { λ r. ⌜ r ≡ served x ⌝ }
 {
     if x < LIMIT { exponential(tables, x) } else { 0 }
 }
 
-fn total(tables: &[u64; 578], xs: &[u64]) -> u64
+fn total(tables: &[u64; 1907], xs: &[u64]) -> u64
     requires { ⌜ now tables ≡ entries ⌝ }
     ensures { λ r. ⌜ r ≡ total (now (xs .entry)) ⌝ }
 {

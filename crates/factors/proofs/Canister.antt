@@ -12,9 +12,10 @@ use Rattle.numbers.specs.Fraction.{Fraction, _≤ᶠ_, _≈ᶠ_, _+ᶠ_, negᶠ
 use Rattle.bounds.specs.Enclosure.{Within}
 use Rattle.bounds.specs.Exponential.{exponent}
 use Rattle.bounds.specs.Power.{degrees}
-use Rattle.numbers.proofs.Order.{≈-refl, ≈-trans, +-cong, *-cong, ratio}
+use Rattle.numbers.proofs.Order.{NonNegative, nonNegative-up, ≈-refl, ≈-trans, ≈→≥, +-cong, *-cong, ratio, ratio-nonNegative}
 use Rattle.bounds.proofs.Within.{decimal-cut}
-use Rattle.bounds.proofs.Line.{slopeTo0, slopeTo3, rising, along, along-≤}
+use Rattle.bounds.proofs.Line.{double-unit-pos, rising, along, along-≤}
+use Rattle.bounds.proofs.ShortLine.{shortTo0, shortTo3}
 use Rattle.exact.specs.declared.Canister.{Canister}
 use Rattle.exact.specs.declared.Canister.the-variants.{None, Small, Medium, Large}
 use Rattle.exact.specs.declared.Season.{Season}
@@ -29,9 +30,10 @@ use Rattle.sheet.specs.Limits.{vpLimit}
 use Rattle.sheet.specs.Range.{warmth, markWarmth, halves, SeasonInRange, RowInRange}
 use Rattle.sheet.proofs.Temperature.{warmth-below-highest, warmth-most}
 use Rattle.factors.specs.Escape.{tenthGrams, base, growth, writtenError, drivenError, breakUnits}
-use Rattle.factors.specs.Units.{rowStart, lossError, baseAt, growthAt}
+use Rattle.factors.specs.Units.{rowStart, lossError, baseAt, growthAt, gain}
 use Rattle.factors.proofs.Breakthrough.{breakWidth, break-within}
-use Rattle.factors.proofs.Starts.{start-driven, start-written, error-driven, error-written}
+use Rattle.factors.proofs.Starts.{start-driven, start-written, error-driven, error-written, start-below}
+use Rattle.factors.proofs.Gain.{exactGain, gain-within, gain-most}
 
 -- s in halves
 pub size-is : (c : Canister) → size c ≈ᶠ ratio (halves c) 2 halves-pos
@@ -55,7 +57,7 @@ unfolding a base whole _/10^_ negᶠ _-ᶠ_ _+ᶠ_ _*ᶠ_
 base-at vp θ v = omega arith
 
 -- b at a held temperature
-slope-at : (vp θ : ℕ) → vp ≤ vpLimit → b (vp /10^ 1) (degrees θ) ≈ᶠ ratio (112 * 10 ^ 11 + θ - 15 * 10 ^ 8 * vp) (10 ^ 14) (ten-pos 14)
+pub slope-at : (vp θ : ℕ) → vp ≤ vpLimit → b (vp /10^ 1) (degrees θ) ≈ᶠ ratio (112 * 10 ^ 11 + θ - 15 * 10 ^ 8 * vp) (10 ^ 14) (ten-pos 14)
 unfolding b ratio _/10^_ negᶠ _-ᶠ_ _+ᶠ_ _*ᶠ_
 slope-at vp θ v = omega arith
 
@@ -108,10 +110,11 @@ saturation-≤ k vp h m v p e =
           absurd (omega (arith, mul-le-mul-left (112000 + 10 * h - 15 * vp) g))
     ]
 
--- how far what breaks through can be above the computed one, by whether the load is found from the mileage, for a vapour within w
-abbrev pub throughWidth : Bool → ℕ → ℕ
-throughWidth true w = breakWidth slopeTo0 drivenError startError w
-throughWidth false w = breakWidth slopeTo3 writtenError 1 w
+-- how far what breaks through can be above the computed one, by whether the load is found from the mileage, for a rise of at most R
+-- that is known within w
+abbrev pub throughWidth : Bool → ℕ → ℕ → ℕ
+throughWidth true R w = breakWidth shortTo0 drivenError startError R w
+throughWidth false R w = breakWidth shortTo3 writtenError 1 R w
 
 module _ {season : Season} {row : Row} (s : SeasonInRange season) (r : RowInRange season row) where
   -- a + b·s·m_sat at every mark is at most what it is at the season's highest temperature,
@@ -138,7 +141,7 @@ module _ {season : Season} {row : Row} (s : SeasonInRange season) (r : RowInRang
   saturation-most p = saturation-≤ (halves (row .canister)) (season .vp) _ (row .saturation) (s .vp-most) p (r .exponent-most)
 
   -- a ≤ −7.75
-  base-most : (i : ℕ) → baseAt season row i ≤ 825 * 10 ^ 12
+  pub base-most : (i : ℕ) → baseAt season row i ≤ 825 * 10 ^ 12
   unfolding base
   base-most i = omega (arith, warmth-most i s)
 
@@ -149,6 +152,10 @@ module _ {season : Season} {row : Row} (s : SeasonInRange season) (r : RowInRang
 
     b-is : {z : Fraction} → z ≈ᶠ ratio (halves (row .canister)) 2 halves-pos → b (season .vp /10^ 1) T *ᶠ z ≈ᶠ rising (growthAt season row i)
     b-is e = growth-is (season .vp) (markWarmth season i) (s .vp-most) here (row .canister) e
+
+    -- b·s is 0 or more
+    pub b-nonNegative : {z : Fraction} → z ≈ᶠ ratio (halves (row .canister)) 2 halves-pos → NonNegative (b (season .vp /10^ 1) T *ᶠ z)
+    b-nonNegative e = nonNegative-up (≈→≥ (b-is e)) (ratio-nonNegative _ double-unit-pos)
 
     gentle : growthAt season row i ≤ 22 * 2 ^ 41
     gentle = growth-most (row .canister) (season .vp) (markWarmth season i) (warmth-most i s)
@@ -176,24 +183,36 @@ module _ {season : Season} {row : Row} (s : SeasonInRange season) (r : RowInRang
           | no none ↦ rw (load-written n season row T (omega arith)) (tenthGrams-within (row .load))
         ]
 
-    -- what breaks through of a vapour that is known within w, through a canister of size z
-    module _ {z : Fraction} (sized : z ≈ᶠ ratio (halves (row .canister)) 2 halves-pos) {v w : ℕ} {x : Fraction} (vapour : Within (2 ^ 40) v w x) where
-      through-by : (byMileage : Bool) → leb 17 (row .mileage) ≡ byMileage
-          → Within (2 ^ 40)
-          (breakUnits (baseAt season row i) (growthAt season row i) (tenthGrams (row .saturation)) (lossError row) (rowStart row (baseAt season row i) (growthAt season row i)) v)
-          (throughWidth byMileage w) (breakthrough n (season .vp /10^ 1) z (row .saturation /10^ 1) T (rowLoad n season row T) x)
-      through-by true e =
-          let km : 17 ≤ row .mileage = leb-true 17 (row .mileage) e in
-          rw (error-driven row km, start-driven row (baseAt season row i) (growthAt season row i) km)
-          (break-within slopeTo0 n _ _ (season .vp /10^ 1) z (row .saturation /10^ 1) T n40 a-is (b-is sized) gentle (unsaturated i (omega arith))
-          (tenthGrams-within (row .saturation)) drivenError (omega arith) (omega arith) (driven-load km) vapour)
-      through-by false e =
-          let few : row .mileage < 17 = leb-false 17 (row .mileage) e in
-          rw (error-written row few, start-written row (baseAt season row i) (growthAt season row i) few)
-          (break-within slopeTo3 n _ _ (season .vp /10^ 1) z (row .saturation /10^ 1) T n40 a-is (b-is sized) gentle (saturated i)
-          (tenthGrams-within (row .saturation)) writtenError (omega arith) (omega arith) (written-load few) vapour)
+    -- m_sat where there is a canister
+    full-most : 0 < halves (row .canister) → tenthGrams (row .saturation) ≤ 369 * 2 ^ 40
+    unfolding tenthGrams
+    full-most h = omega (arith, saturation-most h)
 
-      pub through-within : Within (2 ^ 40)
-          (breakUnits (baseAt season row i) (growthAt season row i) (tenthGrams (row .saturation)) (lossError row) (rowStart row (baseAt season row i) (growthAt season row i)) v)
-          (throughWidth (leb 17 (row .mileage)) w) (breakthrough n (season .vp /10^ 1) z (row .saturation /10^ 1) T (rowLoad n season row T) x)
-      through-within = through-by (leb 17 (row .mileage)) refl
+    -- what breaks through a canister of size z of the vapour g·r, for a rise r of at most R that is known within w
+    module _ {z : Fraction} (sized : z ≈ᶠ ratio (halves (row .canister)) 2 halves-pos) (there : 0 < halves (row .canister)) {rise w : ℕ} (R : ℕ) {ρ : Fraction}
+        (small : rise ≤ R * 2 ^ 40) (known : Within (2 ^ 40) rise w ρ)
+      where
+        through-by : (byMileage : Bool) → leb 17 (row .mileage) ≡ byMileage
+            → Within (2 ^ 40)
+            (breakUnits (baseAt season row i) (growthAt season row i) (tenthGrams (row .saturation)) (lossError row) (rowStart row (baseAt season row i) (growthAt season row i)) (gain season row) rise)
+            (throughWidth byMileage R w) (breakthrough n (season .vp /10^ 1) z (row .saturation /10^ 1) T (rowLoad n season row T) (exactGain season row n *ᶠ ρ))
+        through-by true e =
+            let km : 17 ≤ row .mileage = leb-true 17 (row .mileage) e in
+            let below = rw (start-driven row (baseAt season row i) (growthAt season row i) km) at (start-below row (r .load-most) (baseAt season row i) (growthAt season row i)) in
+            rw (error-driven row km, start-driven row (baseAt season row i) (growthAt season row i) km)
+            (break-within shortTo0 n _ _ (season .vp /10^ 1) z (row .saturation /10^ 1) T n40 a-is (b-is sized) gentle (full-most there) (unsaturated i (omega arith))
+            (tenthGrams-within (row .saturation)) R (omega arith) (omega arith) below (gain-most s r) small (driven-load km) (gain-within s r .at n n40) known
+            drivenError (omega arith))
+        through-by false e =
+            let few : row .mileage < 17 = leb-false 17 (row .mileage) e in
+            let below = rw (start-written row (baseAt season row i) (growthAt season row i) few) at (start-below row (r .load-most) (baseAt season row i) (growthAt season row i)) in
+            rw (error-written row few, start-written row (baseAt season row i) (growthAt season row i) few)
+            (break-within shortTo3 n _ _ (season .vp /10^ 1) z (row .saturation /10^ 1) T n40 a-is (b-is sized) gentle (full-most there) (saturated i)
+            (tenthGrams-within (row .saturation)) R (omega arith) (omega arith) below (gain-most s r) small (written-load few) (gain-within s r .at n n40) known
+            writtenError (omega arith))
+
+        pub through-within : Within (2 ^ 40)
+            (breakUnits (baseAt season row i) (growthAt season row i) (tenthGrams (row .saturation)) (lossError row) (rowStart row (baseAt season row i) (growthAt season row i)) (gain season row) rise)
+            (throughWidth (leb 17 (row .mileage)) R w)
+            (breakthrough n (season .vp /10^ 1) z (row .saturation /10^ 1) T (rowLoad n season row T) (exactGain season row n *ᶠ ρ))
+        through-within = through-by (leb 17 (row .mileage)) refl

@@ -26,7 +26,8 @@ use Rattle.sheet.specs.Range.{halves}
 use Rattle.factors.specs.Units.{gain, vapourUnits, throughUnits, escapeUnits}
 use Rattle.factors.proofs.Gain.{exactGain, gain-within, gain-most}
 use Rattle.starting_loads.proofs.Start.{halves-pos}
-use Rattle.factors.proofs.Canister.{size-is, throughWidth, through-within}
+use Rattle.factors.proofs.Breakthrough.{breakthrough-cong}
+use Rattle.factors.proofs.Canister.{size-is, throughWidth, b-nonNegative, through-within}
 use Rattle.factors.proofs.Mean.{mean-cong, mean-*, mean-within, meanUnits-most}
 
 module _ {season : Season} {row : Row} (s : SeasonInRange season) (r : RowInRange season row) where
@@ -55,29 +56,30 @@ module _ {season : Season} {row : Row} (s : SeasonInRange season) (r : RowInRang
       }
 
       -- with a canister of size z: the mean of what breaks through
-      through-mean : {z : Fraction} → z ≈ᶠ ratio (halves (row .canister)) 2 halves-pos
+      through-mean : {z : Fraction} → z ≈ᶠ ratio (halves (row .canister)) 2 halves-pos → 0 < halves (row .canister)
           → WithinAll (2 ^ 28) (meanUnits counts (λ (cell : ℕ). throughUnits season row (mark cell) (rise cell)))
-          (throughWidth (leb 17 (row .mileage)) ((R * 2 ^ 40 * 313 + 36 * 2 ^ 40 * w + w * 313) / 2 ^ 40 + 2) / 2 ^ 12 + 3)
+          (throughWidth (leb 17 (row .mileage)) R w / 2 ^ 12 + 3)
           (λ n. mean (λ (cell : ℕ). breakthrough n (season .vp /10^ 1) z (row .saturation /10^ 1) (T cell) (rowLoad n season row (T cell)) (y n cell)) counts)
       unfolding throughUnits
-      through-mean {z} e =
+      through-mean {z} e there =
           mean-within counts p _
           (λ n cell. breakthrough n (season .vp /10^ 1) z (row .saturation /10^ 1) (T cell) (rowLoad n season row (T cell)) (y n cell))
           (λ cell.
           record {
             at = λ n n40.
-                through-within s r n (mark cell) n40 (here cell) e
-                (within-≈ (≈-sym (driven n cell)) (vapour-within n (R * 2 ^ 40) n40 (small cell) (known cell .at n n40)));
+                within-≈ (breakthrough-cong n (season .vp /10^ 1) z (row .saturation /10^ 1) (T cell) (rowLoad n season row (T cell)) (b-nonNegative s r n (mark cell) n40 (here cell) e)
+                (≈-sym (driven n cell)))
+                (through-within s r n (mark cell) n40 (here cell) e there R (small cell) (known cell .at n n40));
           })
 
       -- the mean escape of the row's canister
       pub escape-within : (c : Canister) → row .canister ≡ c → (W : ℕ)
           → (R * 2 ^ 28 * 313 + 36 * 2 ^ 40 * (w / 2 ^ 12 + 3) + (w / 2 ^ 12 + 3) * 313) / 2 ^ 40 + 2 ≤ W
-          → ((byMileage : Bool) → throughWidth byMileage ((R * 2 ^ 40 * 313 + 36 * 2 ^ 40 * w + w * 313) / 2 ^ 40 + 2) / 2 ^ 12 + 3 ≤ W)
+          → ((byMileage : Bool) → throughWidth byMileage R w / 2 ^ 12 + 3 ≤ W)
           → WithinAll (2 ^ 28) (escapeUnits season row counts c mark rise) W
           (λ n. mean (λ (cell : ℕ). escape n (season .vp /10^ 1) (row .saturation /10^ 1) (rowLoad n season row (T cell)) (T cell) c (y n cell)) counts)
-      unfolding escapeUnits escape
+      unfolding escapeUnits escape halves
       escape-within None e W o t = all-map (λ n a. widen a o) open-within
-      escape-within Small e W o t = all-map (λ n a. widen a (t (leb 17 (row .mileage)))) (through-mean (rw e (size-is Small)))
-      escape-within Medium e W o t = all-map (λ n a. widen a (t (leb 17 (row .mileage)))) (through-mean (rw e (size-is Medium)))
-      escape-within Large e W o t = all-map (λ n a. widen a (t (leb 17 (row .mileage)))) (through-mean (rw e (size-is Large)))
+      escape-within Small e W o t = all-map (λ n a. widen a (t (leb 17 (row .mileage)))) (through-mean (rw e (size-is Small)) (rw e (omega arith)))
+      escape-within Medium e W o t = all-map (λ n a. widen a (t (leb 17 (row .mileage)))) (through-mean (rw e (size-is Medium)) (rw e (omega arith)))
+      escape-within Large e W o t = all-map (λ n a. widen a (t (leb 17 (row .mileage)))) (through-mean (rw e (size-is Large)) (rw e (omega arith)))

@@ -5,10 +5,11 @@ use Prim.Native.Nat.{ℕ, _+_, _-_, _≤_, _<_, min}
 use native.Mathlib.Omega.{arith}
 use native.Mathlib.Decide.{decLe}
 use native.Mathlib.Nat.{mul-le-mul-right}
-use Rattle.numbers.specs.Fraction.{Fraction, _≤ᶠ_, _≤?_, _-ᶠ_, whole}
+use Rattle.numbers.specs.Fraction.{Fraction, _≤ᶠ_, _≈ᶠ_, _≤?_, _+ᶠ_, _-ᶠ_, whole}
 use Rattle.bounds.specs.Enclosure.{Within}
-use Rattle.numbers.proofs.Order.{nonNegative→≤, test-cases, not-≤→<, <→≤, ≤-refl, ≤-trans, ≈→≥, +-zero, sub-mono, sub-nonNegative, ≤-sub, ratio-≤}
-use Rattle.bounds.proofs.Within.{weaken, within-above, within-below, within-from, within-cross, whole-within, sub-within}
+use Rattle.numbers.proofs.Order.{nonNegative→≤, test-cases, not-≤→<, <→≤, ≤-refl, ≤-trans, ≤-antisym, ≈→≥, +-mono, +-zero, sub-mono, sub-nonNegative, ≤-sub, ratio-≤}
+use Rattle.bounds.proofs.ShortLine.{Held}
+use Rattle.bounds.proofs.Within.{weaken, within-≈, within-above, within-below, within-from, within-cross, whole-within, sub-within}
 
 -- min(x, y)
 unfoldable pub lesser : Fraction → Fraction → Fraction
@@ -59,6 +60,22 @@ pub excess-mono : {x x' : Fraction} (y : Fraction) → x ≤ᶠ x' → excess x 
 excess-mono {x} {x'} y h =
     excess-least x y (excess-nonNegative x' y) (≤-trans (sub-mono h (≤-refl y)) (excess-above x' y))
 
+-- min(x + k, y + k) = min(x, y) + k
+lesser-plus : (x y k : Fraction) → lesser (x +ᶠ k) (y +ᶠ k) ≈ᶠ lesser x y +ᶠ k
+unfolding lesser
+lesser-plus x y k =
+    ≤-antisym
+    (test-cases (λ (c : Bool). lesser (x +ᶠ k) (y +ᶠ k) ≤ᶠ (elim c [ true ↦ x | false ↦ y ]) +ᶠ k) x y
+    (λ _. lesser-left (x +ᶠ k) (y +ᶠ k)) (λ _. lesser-right (x +ᶠ k) (y +ᶠ k)))
+    (lesser-greatest (+-mono (lesser-left x y) (≤-refl k)) (+-mono (lesser-right x y) (≤-refl k)))
+
+-- min(f(x), f(y)) = f(min(x, y)) where f grows
+pub lesser-map : (f : Fraction → Fraction) (x y : Fraction) → ((u v : Fraction) → u ≤ᶠ v → f u ≤ᶠ f v) → f (lesser x y) ≈ᶠ lesser (f x) (f y)
+unfolding lesser
+lesser-map f x y grows =
+    ≤-antisym (lesser-greatest (grows (lesser x y) x (lesser-left x y)) (grows (lesser x y) y (lesser-right x y)))
+    (test-cases (λ (c : Bool). lesser (f x) (f y) ≤ᶠ f (elim c [ true ↦ x | false ↦ y ])) x y (λ _. lesser-left (f x) (f y)) (λ _. lesser-right (f x) (f y)))
+
 -- Enclosures.
 
 -- min(x, y)
@@ -72,6 +89,12 @@ lesser-within {s} {l} {w} {m} {v} {u} {x} {y} p a b h =
       | yes k ↦ ≤-trans (lesser-left x y) (≤-trans (within-below p a) (ratio-≤ _ _ p p (mul-le-mul-right s (omega arith))))
       | no k ↦ ≤-trans (lesser-right x y) (≤-trans (within-below p b) (ratio-≤ _ _ p p (mul-le-mul-right s (omega arith))))
     ])
+
+-- the lesser of two held exponents
+pub lesser-held : {x w t v : ℕ} (u : ℕ) {z τ : Fraction} → w ≤ u → v ≤ u → Held x w z → Held t v τ → Held (min x t) u (lesser z τ)
+lesser-held u {z} {τ} hw hv hz hτ = record {
+  raised = within-≈ (lesser-plus z τ (whole 16)) (lesser-within (omega arith) (hz .raised) (hτ .raised) (omega arith));
+}
 
 -- max(0, x − y)
 pub excess-within : {s l w m v : ℕ} {x y : Fraction} → Within s l w x → Within s m v y → Within s (l - m - v) (w + v) (excess x y)

@@ -20,7 +20,7 @@ use Rattle.marks.proofs.MarkTemperatures.{temperature-tenths, temperature-whole
 use Rattle.sheet.specs.Range.{RowInRange}
 use Rattle.factors.specs.Units.{startOf, endOf, escapeOverUnits, openUnits, diurnalUnits, soakUnits, runningUnits, carUnits, twoWheelerUnits, factorUnits, factorError, lowMicrograms, highMicrograms}
 use Rattle.factors.proofs.Mean.{mean-+}
-use Rattle.factors.proofs.Losses.{raiseError, parking-escape-within, over-within, opened-within, rate-mean, parking-permeation-within, hourly-within}
+use Rattle.factors.proofs.Losses.{raiseError, openError, parking-escape-within, over-within, opened-within, rate-mean, parking-permeation-within, hourly-within}
 
 -- the mean of a sum from the means of its parts
 sum-within : {u w v z : ℕ} {W : ℕ} (counts : List ℕ) (f g : ℕ → ℕ → Fraction) → WithinAll (2 ^ 28) u w (λ n. mean (f n) counts)
@@ -63,7 +63,7 @@ module _ {season : Season} {row : Row} (s : SeasonInRange season) (r : RowInRang
 
   -- "plus without canister the vapour from T2 to T2 + 1 or T2 + 5"
   vapour-whole-within : (k : ℕ) → k ≤ 6
-      → WithinAll (2 ^ 28) (openUnits season row counts (row .canister) (tenths (10 * k))) raiseError
+      → WithinAll (2 ^ 28) (openUnits season row counts (row .canister) (tenths (10 * k))) openError
       (λ n. mean (λ (cell : ℕ). openVapour n season row (row .canister) (temperature season (endOf cell)) (whole k)) counts)
   vapour-whole-within k h = opened-within s r counts p (whole k) (10 * k) (omega arith) (λ i. temperature-whole i s k) (row .canister)
 

@@ -43,15 +43,18 @@ pub duration-most : (cell : ℕ) → duration cell ≤ 24
 unfolding duration
 duration-most cell = omega arith
 
--- how far the mean of what escapes can be above the computed one, in units of 2⁻²⁸ g: in a parking, and over a raise
+-- how far the mean of what escapes can be above the computed one, in units of 2⁻²⁸ g: in a parking, over a raise, and over one without canister
 abbrev pub parkingError : ℕ
-parkingError = 115
+parkingError = 149
 
 abbrev pub raiseError : ℕ
-raiseError = 114
+raiseError = 129
+
+abbrev pub openError : ℕ
+openError = 114
 
 -- nothing, at every cell
-nothing : (counts : List ℕ) → WithinAll (2 ^ 28) 0 raiseError (λ n. mean (λ (cell : ℕ). whole 0) counts)
+nothing : (counts : List ℕ) → WithinAll (2 ^ 28) 0 openError (λ n. mean (λ (cell : ℕ). whole 0) counts)
 nothing counts = all-constant (within-≈ (≈-sym (mean-zero counts)) (weaken (whole-within (2 ^ 28) 0) (omega arith) (omega arith)))
 
 hour-pos : 0 < 60
@@ -64,12 +67,12 @@ hours-is n season row = omega arith
 
 -- the width of the mean of what breaks through
 parking-fits : (byMileage : Bool)
-    → throughWidth byMileage ((72 * 2 ^ 40 * 313 + 36 * 2 ^ 40 * (2 * riseError) + 2 * riseError * 313) / 2 ^ 40 + 2) / 2 ^ 12 + 3 ≤ parkingError
+    → throughWidth byMileage 72 (2 * riseError) / 2 ^ 12 + 3 ≤ parkingError
 parking-fits true = omega arith
 parking-fits false = omega arith
 
 raise-fits : (byMileage : Bool)
-    → throughWidth byMileage ((56 * 2 ^ 40 * 313 + 36 * 2 ^ 40 * (2 * raisedError) + 2 * raisedError * 313) / 2 ^ 40 + 2) / 2 ^ 12 + 3 ≤ raiseError
+    → throughWidth byMileage 56 (2 * raisedError) / 2 ^ 12 + 3 ≤ raiseError
 raise-fits true = omega arith
 raise-fits false = omega arith
 
@@ -132,7 +135,7 @@ module _ {season : Season} {row : Row} (s : SeasonInRange season) (r : RowInRang
   -- "without canister the vapour from T2 to T2 + 1 or T2 + 5", from the end of the parking
   pub opened-within : (amount : Fraction) (k : ℕ) → k ≤ 60 → ((i : ℕ) → temperature season i +ᶠ amount ≈ᶠ degrees (markWarmth season i + tenths k))
       → (c : Canister)
-      → WithinAll (2 ^ 28) (openUnits season row counts c (tenths k)) raiseError
+      → WithinAll (2 ^ 28) (openUnits season row counts c (tenths k)) openError
       (λ n. mean (λ (cell : ℕ). openVapour n season row c (temperature season (endOf cell)) amount) counts)
   unfolding openUnits openVapour
   opened-within amount k h raised None =

@@ -7,12 +7,11 @@ use Prim.Native.Nat.{ℕ, _+_, _*_, _^_, _/_, _≤_, _<_, min}
 use native.Mathlib.Omega.{arith}
 use native.Mathlib.Nat.{mul-le-mul, div-le-of-le-mul, le-of-lt}
 use lib.Dec.{leb}
-use borrow.Author.Tests.{leb-true, leb-false}
 use Rattle.numbers.specs.Fraction.{_≤ᶠ_, whole, _/10^_}
-use Rattle.bounds.specs.Exponential.{exponential, exponent}
-use Rattle.bounds.proofs.ExponentialBound.{exponential-within}
-use Rattle.bounds.proofs.Line.{slopeTo0, slopeTo3, steep-3, along-most, exponent-most}
-use Rattle.starting_loads.proofs.Newton.{steps-most}
+use Rattle.bounds.specs.Short.{shortExponent, short, lineExponent, reach}
+use Rattle.bounds.proofs.ShortBound.{short-within}
+use Rattle.bounds.proofs.ShortLine.{shortTo3, line-cut, held-most}
+use Rattle.bounds.proofs.Line.{slopeTo0, steep-3, along-most}
 use Rattle.exact.specs.declared.Canister.{Canister}
 use Rattle.exact.specs.declared.Canister.the-variants.{None, Small, Medium, Large}
 use Rattle.exact.specs.declared.Season.{Season}
@@ -29,11 +28,11 @@ use Rattle.marks.proofs.Permeation.{rate-most, rates-most}
 use Rattle.sheet.specs.Range.{RowInRange}
 use Rattle.factors.specs.Means.{meanUnits}
 use Rattle.sheet.specs.Range.{halves}
-use Rattle.factors.specs.Escape.{tenthGrams, growth, loss, breakUnits}
+use Rattle.factors.specs.Escape.{tenthGrams, risenLoss, breakUnits}
 use Rattle.factors.specs.Units.{startOf, endOf, parkingRise, parkingRates, rowStart, baseAt, growthAt, vapourUnits, throughUnits, escapeUnits, escapeOverUnits, openUnits, diurnalUnits, soakUnits, runningUnits, carUnits, twoWheelerUnits, factorUnits, highMicrograms}
 use Rattle.factors.proofs.Gain.{gain-most}
-use Rattle.factors.proofs.Starts.{start-driven, start-written}
-use Rattle.factors.proofs.Canister.{saturated, unsaturated, saturation-most, growth-most, tenthGrams-within}
+use Rattle.factors.proofs.Starts.{start-below}
+use Rattle.factors.proofs.Canister.{saturated, unsaturated, saturation-most, tenthGrams-within}
 use Rattle.factors.proofs.Mean.{meanUnits-most}
 use Rattle.factors.proofs.Losses.{duration-most}
 
@@ -47,50 +46,34 @@ gramsLimit F5 = 2500
 gramsLimit F6 = 2500
 gramsLimit F7 = 2500
 
--- exponents up to 3
-exponent-≤ : (x : ℕ) → x ≤ 19 * 10 ^ 14 → exponent x ≤ᶠ whole 3
+-- held exponents up to 3
+exponent-≤ : (x : ℕ) → x ≤ 19 * 2 ^ 53 → shortExponent x ≤ᶠ whole 3
 unfolding whole
 exponent-≤ x h = omega arith
 
 -- E(3) ≤ 20.1
-exponential-3 : (x : ℕ) → x ≤ 19 * 10 ^ 14 → exponential x ≤ 21 * 2 ^ 40
-exponential-3 x h =
+short-3 : (x : ℕ) → x ≤ 19 * 2 ^ 53 → short x ≤ 21 * 2 ^ 36
+short-3 x h =
     let n40 : 40 ≤ 40 = omega arith in
-    omega (arith, within-most 201 1 (exponential-within x (omega arith) .at 40 n40) (steep-3 40 n40 (exponent-≤ x h)))
-
--- tenths of a gram keep their order
-tenthGrams-mono : {j k : ℕ} → j ≤ k → tenthGrams j ≤ tenthGrams k
-unfolding tenthGrams
-tenthGrams-mono h = omega arith
+    omega (arith, within-most 201 1 (short-within x (omega arith) .at 40 n40) (steep-3 40 n40 (exponent-≤ x h)))
 
 -- what breaks through is at most the vapour and the curve's end, from a load of at most m_sat
-break-most : (A K σ error p v : ℕ) → p ≤ σ → A + K * min (p + v) σ / 2 ^ 41 ≤ 19 * 10 ^ 14 → breakUnits A K σ error p v ≤ 21 * 2 ^ 40 + v
-unfolding breakUnits loss
-break-most A K σ error p v h e = omega (arith, exponential-3 (A + K * min (p + v) σ / 2 ^ 41) e)
+break-most : (A K σ error p g rise : ℕ) → p ≤ σ → lineExponent A K σ ≤ 19 * 2 ^ 53 → breakUnits A K σ error p g rise ≤ 21 * 2 ^ 40 + g * rise / 2 ^ 40
+unfolding breakUnits risenLoss
+break-most A K σ error p g rise h e =
+    omega (arith, short-3 (min (lineExponent A K p + reach K g * rise / 2 ^ 23) (lineExponent A K σ)) (omega arith))
 
 module _ {season : Season} {row : Row} (s : SeasonInRange season) (r : RowInRange season row) where
-  -- 2·b·s in units of 10⁻¹⁴
-  pub growth-size : (i : ℕ) → growth (row .canister) (season .vp) (markWarmth season i) < 2 ^ 46
-  growth-size i = omega (arith, growth-most (row .canister) (season .vp) (markWarmth season i) (warmth-most i s))
-
   -- m_sat of a canister, in units of 2⁻⁴⁰ g
   pub saturation-size : 0 < halves (row .canister) → tenthGrams (row .saturation) < 2 ^ 49
   unfolding tenthGrams
   saturation-size h = omega (arith, saturation-most s r h)
 
-  -- the load at parking start is at most m_sat
-  start-by : (byMileage : Bool) (A K : ℕ) → leb 17 (row .mileage) ≡ byMileage → rowStart row A K ≤ tenthGrams (row .saturation)
-  start-by true A K e = rw (start-driven row A K (leb-true 17 (row .mileage) e)) (steps-most _ _ _ _ _)
-  start-by false A K e = rw (start-written row A K (leb-false 17 (row .mileage) e)) (tenthGrams-mono (r .load-most))
+  -- the exponent of a loss at m_sat is at most 3, at every mark
+  pub full-exponent-most : (i : ℕ) → lineExponent (baseAt season row i) (growthAt season row i) (tenthGrams (row .saturation)) ≤ 19 * 2 ^ 53
+  full-exponent-most i = held-most (line-cut _ _ (tenthGrams-within (row .saturation))) shortTo3 (saturated s r i)
 
-  pub start-below : (A K : ℕ) → rowStart row A K ≤ tenthGrams (row .saturation)
-  start-below A K = start-by (leb 17 (row .mileage)) A K refl
-
-  -- the exponent of a loss is at most 3, at every mark and load,
-  pub loss-exponent-most : (i m : ℕ) → baseAt season row i + growthAt season row i * min m (tenthGrams (row .saturation)) / 2 ^ 41 ≤ 19 * 10 ^ 14
-  loss-exponent-most i m = exponent-most slopeTo3 _ _ (row .saturation /10^ 1) (tenthGrams-within (row .saturation)) (saturated s r i) m
-
-  -- and with a mileage at most 0
+  -- with a mileage it is at most 0, as the steps to the load hold it
   pub driven-exponent-most : (i : ℕ) → 1 ≤ row .mileage → baseAt season row i + growthAt season row i * tenthGrams (row .saturation) / 2 ^ 41 ≤ 16 * 10 ^ 14
   driven-exponent-most i km =
       along-most _ _ (row .saturation /10^ 1) (tenthGrams-within (row .saturation)) slopeTo0 (unsaturated s r i km)
@@ -102,8 +85,8 @@ module _ {season : Season} {row : Row} (s : SeasonInRange season) (r : RowInRang
 
   -- what breaks through is at most the vapour and 21 g
   pub throughUnits-most : (i rise : ℕ) → throughUnits season row i rise ≤ 21 * 2 ^ 40 + vapourUnits season row rise
-  unfolding throughUnits
-  throughUnits-most i rise = break-most _ _ _ _ _ _ (start-below _ _) (loss-exponent-most i _)
+  unfolding throughUnits vapourUnits
+  throughUnits-most i rise = break-most _ _ _ _ _ _ _ (start-below row (r .load-most) _ _) (full-exponent-most i)
 
   -- the rise over a cell's parking
   pub parking-rise-most : (cell : ℕ) → parkingRise season cell ≤ 72 * 2 ^ 40

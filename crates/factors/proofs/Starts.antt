@@ -1,8 +1,12 @@
 -- The load at parking start and its error, by whether they come from the mileage.
 -- Assumes nothing.
+use mathlib.Core.Bool.{Bool, true, false}
 use mathlib.Core.Path.{_≡_, refl}
-use Prim.Native.Nat.{ℕ, _≤_, _<_}
-use borrow.Author.Tests.{le-leb, lt-leb}
+use Prim.Native.Nat.{ℕ, _*_, _/_, _^_, _≤_, _<_}
+use native.Mathlib.Omega.{arith}
+use lib.Dec.{leb}
+use borrow.Author.Tests.{le-leb, lt-leb, leb-true, leb-false}
+use Rattle.starting_loads.proofs.Newton.{steps-most}
 use Rattle.exact.specs.declared.Row.{Row}
 use Rattle.starting_loads.specs.Net.{startUnits}
 use Rattle.sheet.specs.Range.{halves}
@@ -26,3 +30,17 @@ module _ (row : Row) where
   pub error-written : row .mileage < 17 → lossError row ≡ writtenError
   unfolding lossError
   error-written h = rw (lossError, lt-leb 17 (row .mileage) h) refl
+
+-- tenths of a gram keep their order
+tenthGrams-mono : {j k : ℕ} → j ≤ k → tenthGrams j ≤ tenthGrams k
+unfolding tenthGrams
+tenthGrams-mono h = omega arith
+
+module _ (row : Row) (h : row .load ≤ row .saturation) where
+  start-by : (byMileage : Bool) (A K : ℕ) → leb 17 (row .mileage) ≡ byMileage → rowStart row A K ≤ tenthGrams (row .saturation)
+  start-by true A K e = rw (start-driven row A K (leb-true 17 (row .mileage) e)) (steps-most _ _ _ _ _)
+  start-by false A K e = rw (start-written row A K (leb-false 17 (row .mileage) e)) (tenthGrams-mono h)
+
+  -- the load at parking start is at most m_sat
+  pub start-below : (A K : ℕ) → rowStart row A K ≤ tenthGrams (row .saturation)
+  start-below A K = start-by (leb 17 (row .mileage)) A K refl

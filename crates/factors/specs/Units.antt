@@ -62,7 +62,7 @@ module _ (season : Season) (row : Row) where
   -- what breaks through of the vapour of such a rise, from mark i
   unfoldable pub throughUnits : ℕ → ℕ → ℕ
   throughUnits i rise =
-      breakUnits (baseAt i) (growthAt i) (tenthGrams (row .saturation)) (lossError row) (rowStart row (baseAt i) (growthAt i)) (vapourUnits rise)
+      breakUnits (baseAt i) (growthAt i) (tenthGrams (row .saturation)) (lossError row) (rowStart row (baseAt i) (growthAt i)) (gain season row) rise
 
   module _ (counts : List ℕ) where
     -- the mean escape of a rise that each cell has, from the mark that each cell names: without canister the rise is

@@ -88,7 +88,7 @@ fn season_temperatures(season: Season) -> [u64; 48]
 }
 
 // E(0.0716 T), up to 56 °C.
-fn heat_at(tables: &[u64; 578], warmth: u64) -> u64
+fn heat_at(tables: &[u64; 1907], warmth: u64) -> u64
     requires { ⌜ (now tables ≡ entries) × (warmth ≤ 86 * 10 ^ 10) ⌝ }
     ensures { λ r. ⌜ (r ≡ heat warmth) × (r ≤ 56 * 2 ^ 40) ⌝ }
 {
@@ -96,7 +96,7 @@ fn heat_at(tables: &[u64; 578], warmth: u64) -> u64
 }
 
 // E(0.0716 T) at the marks.
-fn heats(tables: &[u64; 578], warmths: [u64; 48]) -> [u64; 48]
+fn heats(tables: &[u64; 1907], warmths: [u64; 48]) -> [u64; 48]
     requires { ⌜ (now tables ≡ entries) × AllAtMost (80 * 10 ^ 10) warmths ⌝ }
     ensures { λ r. ⌜ (r ≡ tab (λ (i : ℕ). heat (getD warmths i 0)) 48) × AllAtMost (56 * 2 ^ 40) r ⌝ }
 {
@@ -131,7 +131,7 @@ fn steps(heats: [u64; 48]) -> [u64; 48]
 }
 
 // The rise of E(0.0716 T) at each mark when T is raised.
-fn raises(tables: &[u64; 578], warmths: [u64; 48], heats: [u64; 48], raise: u64) -> [u64; 48]
+fn raises(tables: &[u64; 1907], warmths: [u64; 48], heats: [u64; 48], raise: u64) -> [u64; 48]
     requires { ⌜ (now tables ≡ entries) × AllAtMost (80 * 10 ^ 10) warmths × AllAtMost (56 * 2 ^ 40) heats × (raise ≤ 6 * 10 ^ 10) ⌝ }
     ensures { λ r. ⌜ r ≡ tab (λ (i : ℕ). heat (getD warmths i 0 + raise) - (getD heats i 0 + raisedError)) 48 ⌝ }
 {
@@ -145,7 +145,7 @@ fn raises(tables: &[u64; 578], warmths: [u64; 48], heats: [u64; 48], raise: u64)
 }
 
 // E(0.004 vp), vp in tenths of kPa.
-fn pressure_factor(tables: &[u64; 578], vp: u64) -> u64
+fn pressure_factor(tables: &[u64; 1907], vp: u64) -> u64
     requires { ⌜ (now tables ≡ entries) × (vp ≤ vpLimit) ⌝ }
     ensures { λ r. ⌜ (r ≡ pressureFactor vp) × (r < 2 ^ 46) ⌝ }
 {
@@ -178,7 +178,7 @@ fn rates(pressure: u64, warmths: [u64; 48], raise: u64) -> [u64; 48]
 }
 
 // The values of a season at its marks. The tables are those that `tables` of `bounds` gives.
-pub fn at_marks(tables: &[u64; 578], season: Season) -> Marks
+pub fn at_marks(tables: &[u64; 1907], season: Season) -> Marks
     requires { ⌜ (now tables ≡ entries) × SeasonInRange season ⌝ }
     ensures { λ r. ⌜ AtMarks season r ⌝ }
 {

@@ -8,6 +8,7 @@ ghost use mathlib.Core.Path.{_≡_};
 ghost use Prim.Native.Nat.{_*_, _^_, _<_, _≤_};
 ghost use Rattle.sheet.specs.Range.{RowInRange};
 ghost use Rattle.parking.specs.Grid.{cellsIn};
+ghost use Rattle.breakthrough.specs.Curves.{KeptOf};
 ghost use Rattle.row_factors.specs.Season.{Lent};
 ghost use Rattle.masses.specs.Figures.{blended};
 ghost use Rattle.masses.specs.Day.{UnitsInRange, MicrogramsInRange, UseInRange, tripLimit};
@@ -75,14 +76,15 @@ pub fn six_figures(units: [u64; 7], row: Row) -> [u64; 6]
 
 // A row in a season: what one of its vehicles loses on one day.
 pub fn row_figures(
-    tables: &[u64; 578],
-    grid: &[u64; 673],
-    rises: &[u64; 576],
+    tables: &[u64; 1907],
+    grid: &[u64; 627],
+    list: &[u64; 1732],
     at: AtSeason,
     row: Row,
+    kept: u64,
 ) -> [u64; 6]
-    requires { ⌜ Lent (now tables) (now grid) (now rises) at × RowInRange (at .season) row × UseInRange row ⌝ }
+    requires { ⌜ Lent (now tables) (now grid) (now list) at × RowInRange (at .season) row × UseInRange row × KeptOf row kept ⌝ }
     ensures { λ r. ⌜ r ≡ dayFigures (cellsIn (now (grid .entry))) (at .season) row ⌝ }
 {
-    six_figures(row_units(tables, grid, rises, at, row), row)
+    six_figures(row_units(tables, grid, list, at, row, kept), row)
 }

@@ -6,3 +6,4 @@ pub mod Passed
 pub mod Parts
 pub mod Walked
 pub mod Carried
+pub mod Counted

@@ -1,9 +1,10 @@
 -- Sums over a list of counts: taken from the front, in parts, by the places of the list; and how large they are.
 use mathlib.Core.Path.{_≡_, refl, sym, _∙_, ap}
 use mathlib.Core.List.{List, [], _∷_}
+use mathlib.Core.Logic.{⊎-elim}
 use Prim.Native.Nat.{ℕ, zero, suc, _+_, _*_, _≤_, _<_, zero-le}
 use native.Mathlib.Omega.{arith}
-use native.Mathlib.Nat.{le-dest}
+use native.Mathlib.Nat.{le-dest, eq-or-lt-of-le}
 use lib.ListN.{length}
 use Rattle.numbers.specs.Lists.{at, sum}
 use Rattle.numbers.proofs.Lists.{sum-ext}
@@ -40,6 +41,28 @@ sum-within f {k} {n} h = omega (arith, sum-next f k, sum-part f {k = suc k} {n =
 -- so where the whole sum is below a limit, each step of adding it up is
 pub sum-fits : (f : ℕ → ℕ) {k n s r limit : ℕ} → k < n → sum f n < limit → s ≡ sum f k → r ≡ f k → s + r < limit
 sum-fits f l h e g = omega (arith, sum-within f l)
+
+-- where two differ at one place, so do their sums
+pub sum-but-one : (g g' : ℕ → ℕ) (a n : ℕ) → a < n → ((k : ℕ) → (k ≡ a → ⊥) → g' k ≡ g k) → sum g' n + g a ≡ sum g n + g' a
+unfolding sum
+sum-but-one g g' a zero h e = absurd (omega arith)
+sum-but-one g g' a (suc n) h e =
+    let le : a ≤ n = omega arith in
+    ⊎-elim
+    (λ (q : a ≡ n).
+    let before : sum g' n ≡ sum g n = sum-ext n (λ k l. e k (λ z. omega arith)) in
+    rw (← q) (omega (arith, rw (← q) at before)))
+    (λ (q : a < n). omega (arith, sum-but-one g g' a n q e, e n (λ z. omega arith)))
+    (eq-or-lt-of-le le)
+
+-- parts that are 0 add nothing
+pub sum-short : (g : ℕ → ℕ) (a n : ℕ) → a ≤ n → ((k : ℕ) → a ≤ k → k < n → g k ≡ 0) → sum g n ≡ sum g a
+unfolding sum
+sum-short g a zero h e = ap (sum g) {x = 0} {y = a} (omega arith)
+sum-short g a (suc n) h e =
+    ⊎-elim (λ (q : a ≡ suc n). rw q refl)
+    (λ (q : a < suc n). omega (arith, e n (omega arith) (omega arith), sum-short g a n (omega arith) (λ k l m. e k l (omega arith))))
+    (eq-or-lt-of-le h)
 
 -- `weighted` is a sum over the places of the list
 pub weighted-is : (value : ℕ → ℕ) (first : ℕ) (counts : List ℕ)

@@ -1,4 +1,4 @@
--- The sums that the program adds up, by cell and by mark, give the means of the definitions, and fit 64 bits.
+-- The sums that the program adds up, by cell and by distance from 14:00, give the means of the definitions, and fit 64 bits.
 use mathlib.Core.Bool.{Bool}
 use mathlib.Core.List.{List}
 use mathlib.Core.Path.{_≡_, sym, _∙_, ap, ap₂}
@@ -7,12 +7,13 @@ use native.Mathlib.Omega.{arith}
 use lib.ListN.{length}
 use Rattle.numbers.specs.Lists.{tab, at, sum}
 use Rattle.numbers.proofs.Lists.{sum-ext, getD-tab}
+use Rattle.bounds.specs.Weights.{apart, ahead}
 use Rattle.exact.specs.Factors.{total}
 use Rattle.factors.specs.Means.{weighted, meanUnits}
 use Rattle.factors.proofs.Mean.{weighted-most}
-use Rattle.parking.specs.Grid.{markOf, cellsIn, marksPlace, sumPlace, GridReady}
+use Rattle.parking.specs.Grid.{markOf, apartOf, cellsIn, apartPlace, sumPlace, GridReady}
 use Rattle.parking.proofs.Sums.{weighted-is, weighted-ext}
-use Rattle.parking.proofs.Tally.{markOf-below, by-mark}
+use Rattle.parking.proofs.Tally.{markOf-below, apartOf-below, by-place}
 
 module _ {grid : List ℕ} (r : GridReady grid) (value : ℕ → ℕ) where
   -- what is added up over the places of the list is the weighted sum
@@ -32,6 +33,10 @@ module _ {grid : List ℕ} (r : GridReady grid) (value : ℕ → ℕ) where
   unfolding meanUnits
   mean-is e = ap₂ (λ (x y : ℕ). x / y) e (r .sum-is)
 
+  -- by cell, of the counts alone
+  pub cells-mean : {x : ℕ} → x ≡ sum (λ (cell : ℕ). at (cellsIn grid) cell * (value cell / 2 ^ 12)) 576 → x / at grid sumPlace ≡ meanUnits (cellsIn grid) value
+  cells-mean e = mean-is (e ∙ counted)
+
   -- by cell
   by-cell : sum (λ (cell : ℕ). at grid cell * (value cell / 2 ^ 12)) 576 ≡ weighted (λ (cell : ℕ). value cell / 2 ^ 12) 0 (cellsIn grid)
   by-cell = sum-ext 576 (λ cell h. ap (λ (count : ℕ). count * (value cell / 2 ^ 12)) (r .cells-are cell h)) ∙ counted
@@ -43,19 +48,22 @@ module _ {grid : List ℕ} (r : GridReady grid) (value : ℕ → ℕ) where
   cell-mean e = mean-is (e ∙ by-cell)
 
 module _ {grid : List ℕ} (r : GridReady grid) (ends : Bool) (value : ℕ → ℕ) where
-  -- by mark
-  added-by-mark : sum (λ (mark : ℕ). at grid (marksPlace ends + mark) * (value mark / 2 ^ 12)) 48 ≡ weighted (λ (cell : ℕ). value (markOf ends cell) / 2 ^ 12) 0 (cellsIn grid)
-  added-by-mark =
-      sum-ext 48 (λ mark h. ap (λ (count : ℕ). count * (value mark / 2 ^ 12)) (r .marks-are ends mark h)) ∙
-      by-mark (markOf ends) (cellsIn grid) (markOf-below ends) (λ (mark : ℕ). value mark / 2 ^ 12) 576 ∙
-      counted r (λ (cell : ℕ). value (markOf ends cell))
+  -- by distance from 14:00
+  abbrev part : ℕ → ℕ
+  part d = at grid (apartPlace ends + d) * (value d / 2 ^ 12)
 
-  pub mark-fits : ((mark : ℕ) → value mark ≤ 2 ^ 54) → sum (λ (mark : ℕ). at grid (marksPlace ends + mark) * (value mark / 2 ^ 12)) 48 < 2 ^ 64
-  mark-fits h = fits r (λ (cell : ℕ). value (markOf ends cell)) added-by-mark (λ cell. h (markOf ends cell))
+  added-by-distance : sum part 25 ≡ weighted (λ (cell : ℕ). value (apartOf ends cell) / 2 ^ 12) 0 (cellsIn grid)
+  added-by-distance =
+      sum-ext 25 (λ d h. ap (λ (count : ℕ). count * (value d / 2 ^ 12)) (r .apart-are ends d h)) ∙
+      by-place 25 (apartOf ends) (cellsIn grid) (apartOf-below ends) (λ (d : ℕ). value d / 2 ^ 12) 576 ∙
+      counted r (λ (cell : ℕ). value (apartOf ends cell))
 
-  pub mark-mean : {x : ℕ} → x ≡ sum (λ (mark : ℕ). at grid (marksPlace ends + mark) * (value mark / 2 ^ 12)) 48
-      → x / at grid sumPlace ≡ meanUnits (cellsIn grid) (λ (cell : ℕ). value (markOf ends cell))
-  mark-mean e = mean-is r (λ (cell : ℕ). value (markOf ends cell)) (e ∙ added-by-mark)
+  pub distance-fits : ((d : ℕ) → value d ≤ 2 ^ 54) → sum (λ (d : ℕ). at grid (apartPlace ends + d) * (value d / 2 ^ 12)) 25 < 2 ^ 64
+  distance-fits h = fits r (λ (cell : ℕ). value (apartOf ends cell)) added-by-distance (λ cell. h (apartOf ends cell))
+
+  pub distance-mean : {x : ℕ} → x ≡ sum (λ (d : ℕ). at grid (apartPlace ends + d) * (value d / 2 ^ 12)) 25
+      → x / at grid sumPlace ≡ meanUnits (cellsIn grid) (λ (cell : ℕ). value (apartOf ends cell))
+  distance-mean e = mean-is r (λ (cell : ℕ). value (apartOf ends cell)) (e ∙ added-by-distance)
 
 -- the same values in all cells, the same mean
 pub mean-below : (cells : List ℕ) {f g : ℕ → ℕ} → length cells ≡ 576 → ((cell : ℕ) → cell < 576 → f cell ≡ g cell) → meanUnits cells f ≡ meanUnits cells g
@@ -67,10 +75,18 @@ pub mean-ext : (cells : List ℕ) {f g : ℕ → ℕ} → ((cell : ℕ) → f ce
 unfolding meanUnits
 mean-ext cells e = ap (λ (x : ℕ). x / total cells) (weighted-ext cells (λ cell _. ap (λ (x : ℕ). x / 2 ^ 12) (e cell)))
 
--- values that stand in a list of 576, or at the marks in a list of 48
-pub mean-tab : (cells : List ℕ) {values : List ℕ} (f : ℕ → ℕ) → length cells ≡ 576 → values ≡ tab f 576 → meanUnits cells (at values) ≡ meanUnits cells f
+-- values that stand in a list of 576; by distance in a list of 25; and by mark in a list of 48, where they are those of the mark as far
+-- from 14:00
+pub mean-tab : (cells : List ℕ) {values : List ℕ} (f : ℕ → ℕ) → length cells ≡ 576 → values ≡ tab f 576
+    → meanUnits cells (at values) ≡ meanUnits cells f
 mean-tab cells f l e = mean-below cells l (λ cell h. rw e (getD-tab f 576 cell h))
 
-pub mean-marks : (cells : List ℕ) {values : List ℕ} (ends : Bool) (f : ℕ → ℕ) → values ≡ tab f 48
-    → meanUnits cells (λ (cell : ℕ). at values (markOf ends cell)) ≡ meanUnits cells (λ (cell : ℕ). f (markOf ends cell))
-mean-marks cells ends f e = mean-ext cells (λ cell. rw e (getD-tab f 48 (markOf ends cell) (markOf-below ends cell)))
+pub mean-distances : (cells : List ℕ) {values : List ℕ} (ends : Bool) (f : ℕ → ℕ) → values ≡ tab f 25
+    → meanUnits cells (λ (cell : ℕ). at values (apartOf ends cell)) ≡ meanUnits cells (λ (cell : ℕ). f (apartOf ends cell))
+mean-distances cells ends f e = mean-ext cells (λ cell. rw e (getD-tab f 25 (apartOf ends cell) (apartOf-below ends cell)))
+
+pub mean-marks : (cells : List ℕ) {values : List ℕ} (ends : Bool) (f : ℕ → ℕ) → ((i : ℕ) → i < 48 → f (ahead (apart i)) ≡ f i)
+    → values ≡ tab f 48
+    → meanUnits cells (λ (cell : ℕ). at values (ahead (apartOf ends cell))) ≡ meanUnits cells (λ (cell : ℕ). f (markOf ends cell))
+mean-marks cells ends f alike e =
+    mean-ext cells (λ cell. rw e (getD-tab f 48 (ahead (apartOf ends cell)) (omega arith)) ∙ alike (markOf ends cell) (markOf-below ends cell))

@@ -1,3 +1,4 @@
 pub mod Grid
+pub mod SeasonList
 pub mod Walk
 pub mod Carried

@@ -1,10 +1,11 @@
 // The cells of the grid, end hour 1 first, its 24 durations in a row: what they hold, and at which marks their parkings start and end.
+use bounds::hours::apart;
 ghost use mathlib.Core.Path.{_≡_};
 ghost use Prim.Native.Nat.{_<_, _≤_};
 ghost use lib.ListN.{length};
 ghost use Rattle.exact.specs.Day.{startMark};
 ghost use Rattle.exact.specs.Factors.{total, products};
-ghost use Rattle.parking.specs.Grid.{markOf};
+ghost use Rattle.parking.specs.Grid.{markOf, apartOf};
 
 // The products of two lists of counts.
 pub fn products(durations: [u64; 24], hours: [u64; 24]) -> [u64; 576]
@@ -38,4 +39,12 @@ pub fn mark_of(cell: usize, ends: bool) -> usize
     } else {
         start_mark(cell / 24 + 1, cell % 24 + 1)
     }
+}
+
+// Of the mark at which the parking of a cell ends, or starts.
+pub fn apart_of(cell: usize, ends: bool) -> usize
+    requires { ⌜ cell < 576 ⌝ }
+    ensures { λ r. ⌜ (r ≡ apartOf ends cell) × (r ≤ 24) ⌝ }
+{
+    apart(mark_of(cell, ends))
 }

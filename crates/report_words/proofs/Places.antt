@@ -10,7 +10,7 @@ use Rattle.sheet.specs.declared.Check.the-variants.{Pass}
 use Rattle.sheet.specs.Versions.{hasGrid}
 use Rattle.sheet.specs.Bytes.{seasonsOf, rowsOf, seasonPlace, rowPlace}
 use Rattle.sheet.specs.Sheet.{sheetCheck}
-use Rattle.sheet.proofs.Versions.{start-grid, start-between}
+use Rattle.sheet.proofs.Versions.{start-grid, start-between, rows-limit}
 use Rattle.sheet.proofs.Accepted.{accepted}
 
 module _ (s : List ℕ) (h : sheetCheck s ≡ Pass) where
@@ -21,6 +21,10 @@ module _ (s : List ℕ) (h : sheetCheck s ≡ Pass) where
   -- a whole grid
   pub grid-there : hasGrid s ≡ true → 1160 ≤ length s
   grid-there g = omega (arith, accepted s h .length-is, start-grid s g)
+
+  -- as many rows as there are places for
+  pub rows-fit : rowsOf s ≤ 1000
+  rows-fit = omega (arith, accepted s h .rows-most, rows-limit s)
 
   -- season j
   pub season-there : {j : ℕ} → j < seasonsOf s → seasonPlace s j + 8 ≤ length s

@@ -9,6 +9,7 @@ use Rattle.bounds.specs.Exponential.{entries}
 use Rattle.exact.specs.declared.Season.{Season}
 use Rattle.sheet.specs.Range.{RowInRange}
 use Rattle.parking.specs.Grid.{cellsIn, GridReady}
+use Rattle.breakthrough.specs.Curves.{KeptOf}
 use Rattle.row_factors.specs.declared.season.AtSeason.{AtSeason}
 use Rattle.row_factors.specs.Season.{Lent}
 use Rattle.masses.specs.Day.{dayFigures}
@@ -24,10 +25,14 @@ pub record SheetLent (s tables grid : List ℕ) : Type 0 where
   pub grid-ready : GridReady grid
   pub cells-are : cellsIn grid ≡ cellsOf s
 
+-- what the canister of each of its rows keeps of its load
+pub record RowsKept (s kept : List ℕ) : Type 0 where
+  pub kept-of : (i : ℕ) → i < rowsOf s → KeptOf (rowAt s i) (getD kept i 0)
+
 -- with one of its seasons, for all its rows
-pub record SeasonLent (s tables grid rises : List ℕ) (at : AtSeason) : Type 0 where
+pub record SeasonLent (s tables grid list : List ℕ) (at : AtSeason) : Type 0 where
   pub sheet : SheetLent s tables grid
-  pub lent : Lent tables grid rises at
+  pub lent : Lent tables grid list at
   pub rows-in : (i : ℕ) → i < rowsOf s → RowInRange (at .season) (rowAt s i)
 
 -- figure m of row i in season j, over its days

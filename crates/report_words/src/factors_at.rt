@@ -1,14 +1,17 @@
 // The seven factors of a season and a row of an accepted sheet.
+use crate::kept::row_kept;
 use crate::parkings::sheet_grid;
 use bounds::exp::tables;
 use fields::row_at;
 use fields::season_at;
 use marks::at_marks;
+use parking::season_list::list_of;
 use parking::walk::rises;
 use row_factors::season::at_season;
 use row_factors::units::row_units;
 ghost use mathlib.Core.Path.{_≡_};
 ghost use Prim.Native.Nat.{_<_};
+ghost use Rattle.breakthrough.specs.Curves.{KeptOf};
 ghost use Rattle.masses.specs.Day.{UnitsInRange};
 ghost use Rattle.row_factors.specs.Seven.{sevenUnits};
 ghost use Rattle.sheet.specs.declared.Check.the-variants.{Pass};
@@ -16,22 +19,25 @@ ghost use Rattle.sheet.specs.Bytes.{seasonsOf, rowsOf, cellsOf, seasonAt, rowAt
 ghost use Rattle.sheet.specs.Sheet.{sheetCheck};
 ghost use Rattle.report_words.specs.Years.{SheetLent};
 
-// With the tables and the grid, in units of 2^-28 g.
+// With the tables, the grid and what the row's canister keeps of its load, in units of 2^-28 g.
 pub fn units_with(
-    tables: &[u64; 578],
-    grid: &[u64; 673],
+    tables: &[u64; 1907],
+    grid: &[u64; 627],
     s: &[u8],
     season: usize,
     row: usize,
+    kept: u64,
 ) -> [u64; 7]
-    requires { ⌜ SheetLent (now s) (now tables) (now grid) × (season < seasonsOf (now s)) × (row < rowsOf (now s)) ⌝ }
+    requires { ⌜ SheetLent (now s) (now tables) (now grid) × (season < seasonsOf (now s)) × (row < rowsOf (now s))
+        × KeptOf (rowAt (now s) row) kept ⌝ }
     ensures { λ r. ⌜ (r ≡ sevenUnits (seasonAt (now (s .entry)) season) (rowAt (now (s .entry)) row) (cellsOf (now (s .entry)))) × UnitsInRange r ⌝ }
 {
     let season = season_at(s, season);
     let marks = at_marks(tables, season);
     let rises = rises(&marks.step);
+    let list = list_of(grid, &rises);
     let at = at_season(grid, &rises, season, marks);
-    row_units(tables, grid, &rises, at, row_at(s, row))
+    row_units(tables, grid, &list, at, row_at(s, row), kept)
 }
 
 // The same from the sheet alone.
@@ -41,5 +47,6 @@ pub fn factors_at(s: &[u8], season: usize, row: usize) -> [u64; 7]
 {
     let tables = tables();
     let grid = sheet_grid(s);
-    units_with(&tables, &grid, s, season, row)
+    let kept = row_kept(&tables, s, row);
+    units_with(&tables, &grid, s, season, row, kept)
 }

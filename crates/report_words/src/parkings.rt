@@ -24,7 +24,7 @@ fn cells_of(s: &[u8]) -> [u64; 576]
 }
 
 // Its grid.
-pub fn sheet_grid(s: &[u8]) -> [u64; 673]
+pub fn sheet_grid(s: &[u8]) -> [u64; 627]
     requires { ⌜ sheetCheck (now s) ≡ Pass ⌝ }
     ensures { λ r. ⌜ GridReady r × (cellsIn r ≡ cellsOf (now (s .entry))) ⌝ }
 {

@@ -1,4 +1,5 @@
 // The figures of a year, added up season by season in the six words of each row.
+use crate::kept::rows_kept;
 use crate::parkings::sheet_grid;
 use bounds::exp::tables;
 use fields::row_at;
@@ -7,6 +8,7 @@ use fields::season_at;
 use fields::seasons_of;
 use marks::at_marks;
 use masses::figures::row_figures;
+use parking::season_list::list_of;
 use parking::walk::rises;
 use row_factors::season::AtSeason;
 use row_factors::season::at_season;
@@ -18,7 +20,8 @@ ghost use Rattle.numbers.specs.Lists.{tab};
 ghost use Rattle.sheet.specs.declared.Check.the-variants.{Pass};
 ghost use Rattle.sheet.specs.Bytes.{seasonsOf, rowsOf};
 ghost use Rattle.sheet.specs.Sheet.{sheetCheck};
-ghost use Rattle.report_words.specs.Years.{SheetLent, SeasonLent, RowsHold, SeasonFits, SumsFit, daysAdded, seasonAdded, yearWord, filled};
+ghost use Rattle.report_words.specs.Years.{SheetLent, RowsKept, SeasonLent, RowsHold, SeasonFits, SumsFit};
+ghost use Rattle.report_words.specs.Years.{daysAdded, seasonAdded, yearWord, filled};
 
 // The first n words are set to 0.
 pub fn clear(words: &mut [u64], n: usize)
@@ -46,15 +49,16 @@ pub fn add_days(words: &mut [u64], at: usize, days: u64, figures: [u64; 6])
 
 // A season in all rows: what one vehicle of a row loses on its days is added to the row's six words.
 fn add_rows(
-    tables: &[u64; 578],
-    grid: &[u64; 673],
-    rises: &[u64; 576],
+    tables: &[u64; 1907],
+    grid: &[u64; 627],
+    list: &[u64; 1732],
+    kept: &[u64; 1000],
     at: AtSeason,
     s: &[u8],
     words: &mut [u64],
 )
-    requires { ⌜ SeasonLent (now s) (now tables) (now grid) (now rises) at
-        × (6 * rowsOf (now s) ≤ length (now words)) × SeasonFits (now s) (at .season) (now words) ⌝ }
+    requires { ⌜ SeasonLent (now s) (now tables) (now grid) (now list) at
+        × (6 * rowsOf (now s) ≤ length (now words)) × SeasonFits (now s) (at .season) (now words) × RowsKept (now s) (now kept) ⌝ }
     ensures { λ _. ⌜ now (words .exit)
         ≡ filled (seasonAdded (now (s .entry)) (at .season) (now (words .entry))) (6 * rowsOf (now (s .entry))) (now (words .entry)) ⌝ }
 {
@@ -62,39 +66,54 @@ fn add_rows(
     let rows = rows_of(s);
     let mut i: usize = 0;
     while i < rows {
-        let figures = row_figures(tables, grid, rises, at, row_at(s, i));
+        let figures = row_figures(tables, grid, list, at, row_at(s, i), kept[i]);
         add_days(words, 6 * i, season.days, figures);
         i += 1;
     }
 }
 
-// Season j: its values at the marks, its rises and its means are made once, for all rows.
-fn add_season(tables: &[u64; 578], grid: &[u64; 673], s: &[u8], j: usize, words: &mut [u64])
-    requires { ⌜ SheetLent (now s) (now tables) (now grid) × (j < seasonsOf (now s)) × RowsHold (yearWord (now s) j) (now s) (now words) ⌝ }
+// Season j: its values at the marks, its rises, their list and its means are made once, for all rows.
+fn add_season(
+    tables: &[u64; 1907],
+    grid: &[u64; 627],
+    kept: &[u64; 1000],
+    s: &[u8],
+    j: usize,
+    words: &mut [u64],
+)
+    requires { ⌜ SheetLent (now s) (now tables) (now grid) × (j < seasonsOf (now s)) × RowsHold (yearWord (now s) j) (now s) (now words)
+        × RowsKept (now s) (now kept) ⌝ }
     ensures { λ _. ⌜ now (words .exit) ≡ filled (yearWord (now (s .entry)) (j + 1)) (6 * rowsOf (now (s .entry))) (now (words .entry)) ⌝ }
 {
     let season = season_at(s, j);
     let marks = at_marks(tables, season);
     let rises = rises(&marks.step);
+    let list = list_of(grid, &rises);
     let at = at_season(grid, &rises, season, marks);
-    add_rows(tables, grid, &rises, at, s, words);
+    add_rows(tables, grid, &list, kept, at, s, words);
 }
 
 // All seasons.
-fn add_seasons(tables: &[u64; 578], grid: &[u64; 673], s: &[u8], words: &mut [u64])
-    requires { ⌜ SheetLent (now s) (now tables) (now grid) × RowsHold (yearWord (now s) 0) (now s) (now words) ⌝ }
+fn add_seasons(
+    tables: &[u64; 1907],
+    grid: &[u64; 627],
+    kept: &[u64; 1000],
+    s: &[u8],
+    words: &mut [u64],
+)
+    requires { ⌜ SheetLent (now s) (now tables) (now grid) × RowsHold (yearWord (now s) 0) (now s) (now words) × RowsKept (now s) (now kept) ⌝ }
     ensures { λ _. ⌜ now (words .exit)
         ≡ filled (yearWord (now (s .entry)) (seasonsOf (now (s .entry)))) (6 * rowsOf (now (s .entry))) (now (words .entry)) ⌝ }
 {
     let seasons = seasons_of(s);
     let mut j: usize = 0;
     while j < seasons {
-        add_season(tables, grid, s, j, words);
+        add_season(tables, grid, kept, s, j, words);
         j += 1;
     }
 }
 
-// The whole year of an accepted sheet is added to words that are 0. The tables and the grid are made once.
+// The whole year of an accepted sheet is added to words that are 0. The tables, the grid and what the rows' canisters keep are made once.
 pub fn add_year(s: &[u8], words: &mut [u64])
     requires { ⌜ (sheetCheck (now s) ≡ Pass) × RowsHold (yearWord (now s) 0) (now s) (now words) ⌝ }
     ensures { λ _. ⌜ now (words .exit)
@@ -102,5 +121,6 @@ pub fn add_year(s: &[u8], words: &mut [u64])
 {
     let tables = tables();
     let grid = sheet_grid(s);
-    add_seasons(&tables, &grid, s, words);
+    let kept = rows_kept(&tables, s);
+    add_seasons(&tables, &grid, &kept, s, words);
 }

@@ -20,7 +20,7 @@ use Rattle.marks.specs.AtMarks.{AtMarks, raisesBy, ratesAt}
 use Rattle.marks.proofs.Heat.{raise-most}
 use Rattle.marks.proofs.Permeation.{rate-most}
 use Rattle.marks.proofs.Curve.{season-rise-most}
-use Rattle.sheet.proofs.Temperature.{warmth-most}
+use Rattle.sheet.proofs.Temperature.{warmth-most, warmth-alike}
 use Rattle.factors.proofs.Losses.{duration-most}
 use Rattle.sheet.specs.Range.{SeasonInRange}
 use Rattle.sheet.specs.Range.{halves}
@@ -30,17 +30,19 @@ use Rattle.factors.proofs.Gain.{gain-most}
 use Rattle.factors.proofs.Mean.{meanUnits-most}
 use Rattle.factors.proofs.Sizes.{parking-rise-most, raise-rise-most}
 use Rattle.bounds.specs.Exponential.{entries}
-use Rattle.parking.specs.Grid.{markOf, passedIn, cellsIn, GridReady}
+use Rattle.bounds.specs.Weights.{apart, ahead}
+use Rattle.parking.specs.Grid.{markOf, apartOf, passedIn, cellsIn, sumPlace, GridReady}
+use Rattle.parking.specs.SeasonList.{ListFits}
 use Rattle.parking.proofs.Passed.{passedIn-tab}
-use Rattle.parking.proofs.Tally.{markOf-below}
-use Rattle.parking.proofs.Weighted.{mean-ext, mean-below}
+use Rattle.parking.proofs.Tally.{markOf-below, apartOf-below}
+use Rattle.parking.proofs.Weighted.{mean-ext, mean-below, cells-mean}
 use Rattle.breakthrough.specs.declared.curves.Curves.{Curves}
-use Rattle.breakthrough.specs.Curves.{CurvesOf}
-use Rattle.breakthrough.specs.Through.{CurvesReady}
-use Rattle.breakthrough.proofs.Fitted.{curves-ready, through-is}
+use Rattle.breakthrough.specs.Curves.{FitReady, CurvesOf}
+use Rattle.breakthrough.specs.Through.{CurvesReady, curveAt, through}
+use Rattle.breakthrough.proofs.Fitted.{curves-ready, through-is, through-none, through-alike}
 use Rattle.row_factors.specs.declared.season.AtSeason.{AtSeason}
 use Rattle.row_factors.specs.declared.escapes.Escapes.{Escapes}
-use Rattle.row_factors.specs.Season.{meanAt, MarksReady, RowLent}
+use Rattle.row_factors.specs.Season.{meanAt, MarksReady, risesOf, RowLent}
 use Rattle.row_factors.specs.Seven.{parkingThrough, raiseThrough, parkingEscape, VapourOf, CarEscapes, TwoWheelerEscapes}
 
 module _ (season : Season) (row : Row) (counts : List ℕ) where
@@ -79,6 +81,13 @@ module _ (season : Season) (row : Row) (counts : List ℕ) where
   open-open Medium e raised = absurd (omega arith)
   open-open Large e raised = absurd (omega arith)
 
+-- Marks as far from 14:00 have the same raises and the same permeation.
+pub raises-alike : (season : Season) (k i : ℕ) → i < 48 → raisesBy season k (ahead (apart i)) ≡ raisesBy season k i
+raises-alike season k i h = ap (raise (tenths k)) (warmth-alike season i h)
+
+pub rates-alike : (season : Season) (k i : ℕ) → i < 48 → ratesAt season k (ahead (apart i)) ≡ ratesAt season k i
+rates-alike season k i h = ap (λ (θ : ℕ). rate (season .vp) (θ + tenths k)) (warmth-alike season i h)
+
 -- How large the values at the marks are.
 module _ {season : Season} (s : SeasonInRange season) where
   raise-list-most : (k : ℕ) {xs : List ℕ} → k ≤ 60 → xs ≡ tab (raisesBy season k) 48 → AllAtMost (56 * 2 ^ 40) xs
@@ -109,11 +118,17 @@ module _ {season : Season} (s : SeasonInRange season) where
   rises-most e = tab-at-most _ 576 e (λ cell _. omega (arith, season-rise-most s (endHour cell) (duration cell) (duration-most cell)))
 
 -- A row with a canister, whose values at the marks these are.
-module _ {season : Season} {row : Row} {c : Curves} (f : CurvesOf season row c) (p : 0 < halves (row .canister)) (cells : List ℕ) where
+module _ {season : Season} {row : Row} {c : Curves} (f : CurvesOf season row c) (l : row .load ≤ row .saturation) (p : 0 < halves (row .canister)) (cells : List ℕ) where
+  -- from the end, or the start, of a cell's parking
+  through-from : (ends : Bool) (cell rise : ℕ) → through (curveAt c (apartOf ends cell)) rise ≡ throughUnits season row (markOf ends cell) rise
+  through-from ends cell rise =
+      through-is l f (apartOf ends cell) rise (apartOf-below ends cell) ∙ through-alike season row (markOf ends cell) rise (markOf-below ends cell)
+
   -- in a parking
-  parking-escape : {rises : List ℕ} → length cells ≡ 576 → rises ≡ tab (parkingRise season) 576 → parkingThrough cells rises c ≡ parkingEscape season row cells
-  parking-escape l e =
-      mean-below cells l (λ cell h. rw (e, getD-tab (parkingRise season) 576 cell h) (through-is f (startOf cell) _ (markOf-below false cell))) ∙
+  parking-escape : length cells ≡ 576
+      → meanUnits cells (λ (cell : ℕ). through (curveAt c (apartOf false cell)) (at (risesOf season) cell)) ≡ parkingEscape season row cells
+  parking-escape e =
+      mean-below cells e (λ cell h. rw (getD-tab (parkingRise season) 576 cell h) (through-from false cell _)) ∙
       escape-through season row cells (row .canister) p startOf (parkingRise season)
 
   -- over a raise by so many tenths of °C
@@ -122,7 +137,9 @@ module _ {season : Season} {row : Row} {c : Curves} (f : CurvesOf season row c) 
   unfolding escapeOverUnits
   raise-escape ends k e =
       mean-ext cells
-      (λ cell. rw (e, getD-tab (raisesBy season k) 48 (markOf ends cell) (markOf-below ends cell)) (through-is f (markOf ends cell) _ (markOf-below ends cell))) ∙
+      (λ cell.
+      let raised = getD-tab (raisesBy season k) 48 (ahead (apartOf ends cell)) (omega arith) in
+      rw (e, raised, raises-alike season k (markOf ends cell) (markOf-below ends cell)) (through-from ends cell _)) ∙
       escape-through season row cells (row .canister) p (markOf ends) (λ (cell : ℕ). raisesBy season k (markOf ends cell))
 
 -- five rises
@@ -137,20 +154,48 @@ five-most {a} {b} {c} {d} {e} {bound} p q r s t = record { at-most = each }
     each (suc (suc (suc (suc zero)))) = t
     each (suc (suc (suc (suc (suc k))))) = omega arith
 
+-- A row with a canister, from the warmths of its season by distance from 14:00.
+pub fit-needs : {tables grid list warmths : List ℕ} {given : AtSeason} {row : Row} {vapour kept : ℕ}
+    → RowLent tables grid list given row vapour kept × (0 < halves (row .canister))
+    → warmths ≡ tab (λ (d : ℕ). at (given .marks .warmth) (ahead d)) 25 → (tables ≡ entries) × FitReady (given .season) row warmths vapour kept
+fit-needs {given = given} q e =
+    let m = q .0 .lent .marks-ready in
+    let warm : (d : ℕ) → d < 25 → at (given .marks .warmth) (ahead d) ≡ markWarmth (given .season) (ahead d)
+    = (λ d h. rw (m .marks-are .warmth-is) (getD-tab (markWarmth (given .season)) 48 (ahead d) (omega arith))) in (
+      q .0 .lent .tables-are,
+      record {
+        season-in = m .season-in;
+        row-in = q .0 .row-in;
+        canister-there = q .1;
+        warmths-are = e ∙ tab-ext 25 warm;
+        vapour-is = q .0 .vapour-is;
+        kept-of = q .0 .kept-of;
+      },
+    )
+
 -- A row with a canister, and what is lent to its functions: what they need, and that each mean is its escape.
-module _ {tables grid rises : List ℕ} {given : AtSeason} {row : Row} {vapour : ℕ}
-    (q : RowLent tables grid rises given row vapour × (0 < halves (row .canister))) {c : Curves} (f : CurvesOf (given .season) row c) where
-  marks-of : MarksReady (given .season) (given .marks) rises
+module _ {tables grid list : List ℕ} {given : AtSeason} {row : Row} {vapour kept : ℕ}
+    (q : RowLent tables grid list given row vapour kept × (0 < halves (row .canister))) {c : Curves} (f : CurvesOf (given .season) row c) where
+  marks-of : MarksReady (given .season) (given .marks)
   marks-of = q .0 .lent .marks-ready
 
   fitted : CurvesReady c
   fitted = curves-ready (marks-of .season-in) (q .0 .row-in) (q .1) f
 
-  pub parking-needs : (tables ≡ entries) × GridReady grid × CurvesReady c × AllAtMost (72 * 2 ^ 40) rises
-  parking-needs = (q .0 .lent .tables-are, q .0 .lent .grid-ready, fitted, rises-most (marks-of .season-in) (marks-of .rises-are))
+  pub parking-needs : (tables ≡ entries) × GridReady grid × CurvesReady c × ListFits (72 * 2 ^ 40) list
+  parking-needs =
+      (q .0 .lent .tables-are, q .0 .lent .grid-ready, fitted, q .0 .lent .list-ready .fits (72 * 2 ^ 40) (rises-most (marks-of .season-in) refl))
 
-  pub parking-right : {x : ℕ} → x ≡ parkingThrough (cellsIn grid) rises c → x ≡ parkingEscape (given .season) row (cellsIn grid)
-  parking-right e = e ∙ parking-escape f (q .1) _ (q .0 .lent .grid-ready .cells-in .length-is) (marks-of .rises-are)
+  -- nothing breaks through where nothing rises
+  still : (start : ℕ) → start < 25 → through (curveAt c start) 0 / 2 ^ 12 ≡ 0
+  still start h = rw (through-is (q .0 .row-in .load-most) f start 0 h, through-none (given .season) row (ahead start) (q .0 .row-in .load-most)) (omega arith)
+
+  pub parking-right : {x : ℕ} → x ≡ parkingThrough list (at grid sumPlace) c → x ≡ parkingEscape (given .season) row (cellsIn grid)
+  parking-right e =
+      e ∙
+      cells-mean (q .0 .lent .grid-ready) (λ (cell : ℕ). through (curveAt c (apartOf false cell)) (at (risesOf (given .season)) cell))
+      (q .0 .lent .list-ready .sum-is (λ (start : ℕ) (rise : ℕ). through (curveAt c start) rise / 2 ^ 12) still) ∙
+      parking-escape f (q .0 .row-in .load-most) (q .1) _ (q .0 .lent .grid-ready .cells-in .length-is)
 
   -- over a raise, whose list at the marks is one of the season's
   module _ (k : ℕ) {raises : List ℕ} (pick : AtMarks (given .season) (given .marks) → raises ≡ tab (raisesBy (given .season) k) 48) where
@@ -159,10 +204,10 @@ module _ {tables grid rises : List ℕ} {given : AtSeason} {row : Row} {vapour :
 
     pub raise-right : (ends : Bool) {x : ℕ} → x ≡ raiseThrough (cellsIn grid) ends raises c
         → x ≡ escapeOverUnits (given .season) row (cellsIn grid) (markOf ends) (tenths k)
-    raise-right ends e = e ∙ raise-escape f (q .1) _ ends k (pick (marks-of .marks-are))
+    raise-right ends e = e ∙ raise-escape f (q .0 .row-in .load-most) (q .1) _ ends k (pick (marks-of .marks-are))
 
 -- A row without canister, and what is lent to its functions: how large the mean rises are, and that the vapour of each is its escape.
-module _ {tables grid rises : List ℕ} {given : AtSeason} {row : Row} {vapour : ℕ} (r : RowLent tables grid rises given row vapour) where
+module _ {tables grid list : List ℕ} {given : AtSeason} {row : Row} {vapour kept : ℕ} (r : RowLent tables grid list given row vapour kept) where
   season-ok : SeasonInRange (given .season)
   season-ok = r .lent .marks-ready .season-in
 

@@ -13,6 +13,8 @@ use Rattle.sheet.specs.Range.{RowInRange}
 use Rattle.factors.specs.Means.{meanUnits}
 use Rattle.factors.specs.Units.{startOf, endOf, parkingRise, parkingRates, gain}
 use Rattle.parking.specs.Grid.{cellsIn, GridReady}
+use Rattle.parking.specs.SeasonList.{ListReady}
+use Rattle.breakthrough.specs.Curves.{KeptOf}
 use Rattle.row_factors.specs.declared.season.Means.{Means}
 use Rattle.row_factors.specs.declared.season.AtSeason.{AtSeason}
 
@@ -33,11 +35,14 @@ pub record MeansOf (season : Season) (counts : List ℕ) (m : Means) : Type 0 wh
   pub end50-is : m .end50 ≡ meanAt counts endOf (raisesBy season 50)
   pub start60-is : m .start60 ≡ meanAt counts startOf (raisesBy season 60)
 
--- a season in range, its values at the marks and the rises of its parkings
-pub record MarksReady (season : Season) (marks : Marks) (rises : List ℕ) : Type 0 where
+-- a season in range, and its values at the marks
+pub record MarksReady (season : Season) (marks : Marks) : Type 0 where
   pub season-in : SeasonInRange season
   pub marks-are : AtMarks season marks
-  pub rises-are : rises ≡ tab (parkingRise season) 576
+
+-- the rises of its parkings
+abbrev pub risesOf : Season → List ℕ
+risesOf season = tab (parkingRise season) 576
 
 -- the season, its values at the marks, and its means
 pub record AtSeasonOf (season : Season) (marks : Marks) (counts : List ℕ) (at : AtSeason) : Type 0 where
@@ -45,15 +50,17 @@ pub record AtSeasonOf (season : Season) (marks : Marks) (counts : List ℕ) (at 
   pub marks-are : at .marks ≡ marks
   pub means-are : MeansOf season counts (at .means)
 
--- what is lent to the functions of a row: the tables of E, the grid, the rises of the parkings; and what its season gives
-pub record Lent (tables grid rises : List ℕ) (at : AtSeason) : Type 0 where
+-- what is lent to the functions of a row: the tables of E, the grid, the list of the season's parkings; and what its season gives
+pub record Lent (tables grid list : List ℕ) (at : AtSeason) : Type 0 where
   pub tables-are : tables ≡ entries
   pub grid-ready : GridReady grid
-  pub marks-ready : MarksReady (at .season) (at .marks) rises
+  pub marks-ready : MarksReady (at .season) (at .marks)
+  pub list-ready : ListReady (cellsIn grid) (risesOf (at .season)) list
   pub means-are : MeansOf (at .season) (cellsIn grid) (at .means)
 
--- with a row in range, and the vapour in its tank for a rise of 1
-pub record RowLent (tables grid rises : List ℕ) (at : AtSeason) (row : Row) (vapour : ℕ) : Type 0 where
-  pub lent : Lent tables grid rises at
+-- with a row in range, the vapour in its tank for a rise of 1, and what its canister keeps of its load
+pub record RowLent (tables grid list : List ℕ) (at : AtSeason) (row : Row) (vapour kept : ℕ) : Type 0 where
+  pub lent : Lent tables grid list at
   pub row-in : RowInRange (at .season) row
   pub vapour-is : vapour ≡ gain (at .season) row
+  pub kept-of : KeptOf row kept

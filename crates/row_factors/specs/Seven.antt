@@ -4,25 +4,28 @@ use mathlib.Core.List.{List, [], _∷_}
 use mathlib.Core.Path.{_≡_}
 use Prim.Native.Nat.{ℕ, _+_, _*_, _/_, _^_, _<_}
 use Rattle.numbers.specs.Lists.{at}
+use Rattle.bounds.specs.Weights.{ahead}
 use Rattle.exact.specs.declared.Season.{Season}
 use Rattle.exact.specs.declared.Row.{Row}
 use Rattle.exact.specs.Factors.{F1, F2, F3, F4, F5, F6, F7}
 use Rattle.marks.specs.Marks.{tenths}
 use Rattle.factors.specs.Means.{meanUnits}
 use Rattle.factors.specs.Units.{startOf, endOf, parkingRise, escapeUnits, escapeOverUnits, openUnits, factorUnits}
-use Rattle.parking.specs.Grid.{markOf}
+use Rattle.parking.specs.Grid.{apartOf}
+use Rattle.parking.specs.SeasonList.{byEntry}
 use Rattle.breakthrough.specs.declared.curves.Curves.{Curves}
 use Rattle.breakthrough.specs.Through.{curveAt, through}
 use Rattle.row_factors.specs.declared.season.Means.{Means}
 use Rattle.row_factors.specs.declared.escapes.Escapes.{Escapes}
 
--- the mean of what breaks through: in a parking, and over a raise at the end, or the start, of one
-abbrev pub parkingThrough : List ℕ → List ℕ → Curves → ℕ
-parkingThrough cells rises c = meanUnits cells (λ (cell : ℕ). through (curveAt c (startOf cell)) (at rises cell))
+-- the mean of what breaks through: in a parking, from the list of a season, for a sum of all counts
+abbrev pub parkingThrough : List ℕ → ℕ → Curves → ℕ
+parkingThrough list total c = byEntry list (λ (start : ℕ) (rise : ℕ). through (curveAt c start) rise / 2 ^ 12) / total
 
+-- and over a raise at the end, or the start, of one, of raises by mark: each is that of the mark as far before 14:00
 abbrev pub raiseThrough : List ℕ → Bool → List ℕ → Curves → ℕ
 raiseThrough cells ends raises c =
-    meanUnits cells (λ (cell : ℕ). through (curveAt c (markOf ends cell)) (at raises (markOf ends cell)))
+    meanUnits cells (λ (cell : ℕ). through (curveAt c (apartOf ends cell)) (at raises (ahead (apartOf ends cell))))
 
 -- without canister: the vapour of five mean rises
 pub record VapourOf (gain : ℕ) (rises : List ℕ) (e : Escapes) : Type 0 where

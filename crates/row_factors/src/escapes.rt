@@ -3,18 +3,20 @@ use crate::season::AtSeason;
 use bounds::fixed::mul_shift;
 use breakthrough::curves::Curves;
 use breakthrough::curves::fit;
-use breakthrough::losses::through_cells;
-use breakthrough::losses::through_marks;
+use breakthrough::losses::through_list;
+use breakthrough::losses::through_raises;
 use classes::halves;
 use exact::Row;
-use parking::means::mean_by_cell;
-use parking::means::mean_by_mark;
+use parking::grid::SUM;
+use parking::means::by_distance;
+use parking::means::mean_by_distance;
 ghost use mathlib.Core.Path.{_≡_};
 ghost use Prim.Native.Nat.{_*_, _^_, _<_};
-ghost use Rattle.numbers.specs.Lists.{AllAtMost};
+ghost use Rattle.numbers.specs.Lists.{at, AllAtMost};
 ghost use Rattle.bounds.specs.Exponential.{entries};
 ghost use Rattle.sheet.specs.Range.{halves};
-ghost use Rattle.parking.specs.Grid.{cellsIn, GridReady};
+ghost use Rattle.parking.specs.Grid.{cellsIn, sumPlace, GridReady};
+ghost use Rattle.parking.specs.SeasonList.{ListFits};
 ghost use Rattle.breakthrough.specs.Through.{CurvesReady};
 ghost use Rattle.row_factors.specs.Season.{RowLent};
 ghost use Rattle.row_factors.specs.Seven.{parkingThrough, raiseThrough, VapourOf, CarEscapes, TwoWheelerEscapes};
@@ -43,18 +45,17 @@ fn open_escapes(gain: u64, rises: [u64; 5]) -> Escapes
 }
 
 // What breaks through in a parking.
-fn parking_through(tables: &[u64; 578], grid: &[u64; 673], rises: &[u64; 576], c: Curves) -> u64
-    requires { ⌜ (now tables ≡ entries) × GridReady (now grid) × CurvesReady c × AllAtMost (72 * 2 ^ 40) (now rises) ⌝ }
-    ensures { λ r. ⌜ r ≡ parkingThrough (cellsIn (now (grid .entry))) (now (rises .entry)) c ⌝ }
+fn parking_through(tables: &[u64; 1907], grid: &[u64; 627], list: &[u64; 1732], c: Curves) -> u64
+    requires { ⌜ (now tables ≡ entries) × GridReady (now grid) × CurvesReady c × ListFits (72 * 2 ^ 40) (now list) ⌝ }
+    ensures { λ r. ⌜ r ≡ parkingThrough (now (list .entry)) (at (now (grid .entry)) sumPlace) c ⌝ }
 {
-    let through = through_cells(tables, rises, c);
-    mean_by_cell(grid, &through)
+    through_list(tables, list, c) / grid[SUM]
 }
 
 // What breaks through over a raise at the end, or the start, of a parking.
 fn raise_through(
-    tables: &[u64; 578],
-    grid: &[u64; 673],
+    tables: &[u64; 1907],
+    grid: &[u64; 627],
     ends: bool,
     raises: &[u64; 48],
     c: Curves,
@@ -62,26 +63,29 @@ fn raise_through(
     requires { ⌜ (now tables ≡ entries) × GridReady (now grid) × CurvesReady c × AllAtMost (56 * 2 ^ 40) (now raises) ⌝ }
     ensures { λ r. ⌜ r ≡ raiseThrough (cellsIn (now (grid .entry))) ends (now (raises .entry)) c ⌝ }
 {
-    let through = through_marks(tables, raises, c);
-    mean_by_mark(grid, ends, &through)
+    let by = by_distance(raises);
+    let through = through_raises(tables, &by, c);
+    mean_by_distance(grid, ends, &through)
 }
 
 // A car with canister, from which nothing escapes on a trip.
 fn canister_car(
-    tables: &[u64; 578],
-    grid: &[u64; 673],
-    rises: &[u64; 576],
+    tables: &[u64; 1907],
+    grid: &[u64; 627],
+    list: &[u64; 1732],
     at: AtSeason,
     row: Row,
     vapour: u64,
+    kept: u64,
 ) -> Escapes
-    requires { ⌜ RowLent (now tables) (now grid) (now rises) at row vapour × (0 < halves (row .canister)) ⌝ }
+    requires { ⌜ RowLent (now tables) (now grid) (now list) at row vapour kept × (0 < halves (row .canister)) ⌝ }
     ensures { λ r. ⌜ CarEscapes (at .season) row (cellsIn (now (grid .entry))) r ⌝ }
 {
     let marks = at.marks;
-    let c = fit(tables, at.season, &marks.warmth, row, vapour);
+    let warmths = by_distance(&marks.warmth);
+    let c = fit(tables, at.season, &warmths, row, vapour, kept);
     Escapes {
-        parking: parking_through(tables, grid, rises, c),
+        parking: parking_through(tables, grid, list, c),
         soak: raise_through(tables, grid, false, &marks.raise45, c),
         hotsoak: raise_through(tables, grid, false, &marks.raise60, c),
         trip: 0,
@@ -91,20 +95,22 @@ fn canister_car(
 
 // A two-wheeler with canister.
 fn canister_two_wheeler(
-    tables: &[u64; 578],
-    grid: &[u64; 673],
-    rises: &[u64; 576],
+    tables: &[u64; 1907],
+    grid: &[u64; 627],
+    list: &[u64; 1732],
     at: AtSeason,
     row: Row,
     vapour: u64,
+    kept: u64,
 ) -> Escapes
-    requires { ⌜ RowLent (now tables) (now grid) (now rises) at row vapour × (0 < halves (row .canister)) ⌝ }
+    requires { ⌜ RowLent (now tables) (now grid) (now list) at row vapour kept × (0 < halves (row .canister)) ⌝ }
     ensures { λ r. ⌜ TwoWheelerEscapes (at .season) row (cellsIn (now (grid .entry))) r ⌝ }
 {
     let marks = at.marks;
-    let c = fit(tables, at.season, &marks.warmth, row, vapour);
+    let warmths = by_distance(&marks.warmth);
+    let c = fit(tables, at.season, &warmths, row, vapour, kept);
     Escapes {
-        parking: parking_through(tables, grid, rises, c),
+        parking: parking_through(tables, grid, list, c),
         soak: raise_through(tables, grid, false, &marks.raise15, c),
         hotsoak: raise_through(tables, grid, false, &marks.raise35, c),
         trip: raise_through(tables, grid, true, &marks.raise10, c),
@@ -114,14 +120,15 @@ fn canister_two_wheeler(
 
 // A car, with or without canister.
 pub fn car(
-    tables: &[u64; 578],
-    grid: &[u64; 673],
-    rises: &[u64; 576],
+    tables: &[u64; 1907],
+    grid: &[u64; 627],
+    list: &[u64; 1732],
     at: AtSeason,
     row: Row,
     vapour: u64,
+    kept: u64,
 ) -> Escapes
-    requires { ⌜ RowLent (now tables) (now grid) (now rises) at row vapour ⌝ }
+    requires { ⌜ RowLent (now tables) (now grid) (now list) at row vapour kept ⌝ }
     ensures { λ r. ⌜ CarEscapes (at .season) row (cellsIn (now (grid .entry))) r ⌝ }
 {
     let canister = row.canister;
@@ -129,20 +136,21 @@ pub fn car(
         let m = at.means;
         open_escapes(vapour, [m.rise, m.start45, m.start60, m.end10, m.end50])
     } else {
-        canister_car(tables, grid, rises, at, row, vapour)
+        canister_car(tables, grid, list, at, row, vapour, kept)
     }
 }
 
 // A two-wheeler, with or without canister.
 pub fn two_wheeler(
-    tables: &[u64; 578],
-    grid: &[u64; 673],
-    rises: &[u64; 576],
+    tables: &[u64; 1907],
+    grid: &[u64; 627],
+    list: &[u64; 1732],
     at: AtSeason,
     row: Row,
     vapour: u64,
+    kept: u64,
 ) -> Escapes
-    requires { ⌜ RowLent (now tables) (now grid) (now rises) at row vapour ⌝ }
+    requires { ⌜ RowLent (now tables) (now grid) (now list) at row vapour kept ⌝ }
     ensures { λ r. ⌜ TwoWheelerEscapes (at .season) row (cellsIn (now (grid .entry))) r ⌝ }
 {
     let canister = row.canister;
@@ -150,6 +158,6 @@ pub fn two_wheeler(
         let m = at.means;
         open_escapes(vapour, [m.rise, m.start15, m.start35, m.end10, m.end25])
     } else {
-        canister_two_wheeler(tables, grid, rises, at, row, vapour)
+        canister_two_wheeler(tables, grid, list, at, row, vapour, kept)
     }
 }

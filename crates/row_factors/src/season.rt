@@ -10,7 +10,7 @@ ghost use Prim.Native.Nat.{ℕ, _/_, _^_};
 ghost use Rattle.numbers.specs.Lists.{AllAtMost};
 ghost use Rattle.factors.specs.Means.{meanUnits};
 ghost use Rattle.parking.specs.Grid.{cellsIn, GridReady, passedIn};
-ghost use Rattle.row_factors.specs.Season.{MarksReady, AtSeasonOf};
+ghost use Rattle.row_factors.specs.Season.{MarksReady, risesOf, AtSeasonOf};
 
 // Means over the cells, in units of 2^-28.
 pub struct Means {
@@ -37,7 +37,7 @@ pub struct AtSeason {
 }
 
 // The permeation in a parking: half of the hourly rates at its marks.
-fn permeation_mean(grid: &[u64; 673], rates: &[u64; 48]) -> u64
+fn permeation_mean(grid: &[u64; 627], rates: &[u64; 48]) -> u64
     requires { ⌜ GridReady (now grid) × AllAtMost (2 ^ 40) (now rates) ⌝ }
     ensures { λ r. ⌜ r ≡ meanUnits (cellsIn (now (grid .entry))) (λ (cell : ℕ). passedIn (now (rates .entry)) cell / 2) ⌝ }
 {
@@ -47,8 +47,8 @@ fn permeation_mean(grid: &[u64; 673], rates: &[u64; 48]) -> u64
 }
 
 // The means of a season, from the rises of its parkings and its values at the marks.
-pub fn at_season(grid: &[u64; 673], rises: &[u64; 576], season: Season, marks: Marks) -> AtSeason
-    requires { ⌜ GridReady (now grid) × MarksReady season marks (now rises) ⌝ }
+pub fn at_season(grid: &[u64; 627], rises: &[u64; 576], season: Season, marks: Marks) -> AtSeason
+    requires { ⌜ GridReady (now grid) × MarksReady season marks × (now rises ≡ risesOf season) ⌝ }
     ensures { λ r. ⌜ AtSeasonOf season marks (cellsIn (now (grid .entry))) r ⌝ }
 {
     let means = Means {

@@ -14,6 +14,7 @@ ghost use Rattle.bounds.specs.Exponential.{entries};
 ghost use Rattle.sheet.specs.Range.{SeasonInRange, RowInRange};
 ghost use Rattle.factors.specs.Units.{gain};
 ghost use Rattle.parking.specs.Grid.{cellsIn};
+ghost use Rattle.breakthrough.specs.Curves.{KeptOf};
 ghost use Rattle.row_factors.specs.Season.{Lent};
 ghost use Rattle.row_factors.specs.Seven.{CarFits, carSeven, twoWheelerSeven, sevenUnits};
 
@@ -21,7 +22,7 @@ ghost use Rattle.row_factors.specs.Seven.{CarFits, carSeven, twoWheelerS
 const VAPOUR_EXPONENT: u64 = 205000000000;
 
 // Grams of vapour for a rise of 1 in E(0.0716 T).
-fn gain(tables: &[u64; 578], season: Season, row: Row) -> u64
+fn gain(tables: &[u64; 1907], season: Season, row: Row) -> u64
     requires { ⌜ (now tables ≡ entries) × SeasonInRange season × RowInRange season row ⌝ }
     ensures { λ r. ⌜ (r ≡ gain season row) × (r ≤ 36 * 2 ^ 40) ⌝ }
 {
@@ -61,24 +62,25 @@ fn two_wheeler_units(e: Escapes, m: Means) -> [u64; 7]
     ]
 }
 
-// The seven factors of a row.
+// The seven factors of a row whose canister keeps so much of its load.
 pub fn row_units(
-    tables: &[u64; 578],
-    grid: &[u64; 673],
-    rises: &[u64; 576],
+    tables: &[u64; 1907],
+    grid: &[u64; 627],
+    list: &[u64; 1732],
     at: AtSeason,
     row: Row,
+    kept: u64,
 ) -> [u64; 7]
-    requires { ⌜ Lent (now tables) (now grid) (now rises) at × RowInRange (at .season) row ⌝ }
+    requires { ⌜ Lent (now tables) (now grid) (now list) at × RowInRange (at .season) row × KeptOf row kept ⌝ }
     ensures { λ r. ⌜ r ≡ sevenUnits (at .season) row (cellsIn (now (grid .entry))) ⌝ }
 {
     let vapour = gain(tables, at.season, row);
     let means = at.means;
     if row.class < 5 {
-        let e = car(tables, grid, rises, at, row, vapour);
+        let e = car(tables, grid, list, at, row, vapour, kept);
         car_units(e, means, row.minutes)
     } else {
-        let e = two_wheeler(tables, grid, rises, at, row, vapour);
+        let e = two_wheeler(tables, grid, list, at, row, vapour, kept);
         two_wheeler_units(e, means)
     }
 }

@@ -7,6 +7,7 @@ use fields::vehicles_of;
 use masses::figures::six_figures;
 use report_sums::write_sums;
 use report_words::factors_at::units_with;
+use report_words::kept::row_kept;
 use report_words::parkings::sheet_grid;
 use report_words::words::milligrams;
 use report_words::year::add_days;
@@ -18,6 +19,7 @@ ghost use Rattle.numbers.specs.Lists.{tab, at};
 ghost use Rattle.sheet.specs.declared.Check.the-variants.{Pass};
 ghost use Rattle.sheet.specs.Bytes.{seasonsOf, rowsOf, cellsOf, seasonAt, rowAt};
 ghost use Rattle.sheet.specs.Sheet.{sheetCheck};
+ghost use Rattle.breakthrough.specs.Curves.{KeptOf};
 ghost use Rattle.masses.specs.Day.{dayFigures};
 ghost use Rattle.report_words.specs.Report.{wordsOf};
 ghost use Rattle.report_words.specs.Years.{SheetLent};
@@ -28,23 +30,31 @@ ghost use Rattle.row_renewal.specs.RowYear.{rowYear};
 const CUT_UP: u64 = 999999999;
 
 // What one vehicle of row i loses on a day of season j.
-fn day_of(tables: &[u64; 578], grid: &[u64; 673], s: &[u8], j: usize, i: usize) -> [u64; 6]
-    requires { ⌜ SheetLent (now s) (now tables) (now grid) × (j < seasonsOf (now s)) × (i < rowsOf (now s)) ⌝ }
+fn day_of(
+    tables: &[u64; 1907],
+    grid: &[u64; 627],
+    s: &[u8],
+    j: usize,
+    i: usize,
+    kept: u64,
+) -> [u64; 6]
+    requires { ⌜ SheetLent (now s) (now tables) (now grid) × (j < seasonsOf (now s)) × (i < rowsOf (now s)) × KeptOf (rowAt (now s) i) kept ⌝ }
     ensures { λ r. ⌜ r ≡ dayFigures (cellsOf (now (s .entry))) (seasonAt (now (s .entry)) j) (rowAt (now (s .entry)) i) ⌝ }
 {
-    six_figures(units_with(tables, grid, s, j, i), row_at(s, i))
+    six_figures(units_with(tables, grid, s, j, i, kept), row_at(s, i))
 }
 
 // What one vehicle of row i loses in the year: its figures of a day, for the days of each season.
-fn year_of(tables: &[u64; 578], grid: &[u64; 673], s: &[u8], i: usize) -> [u64; 6]
+fn year_of(tables: &[u64; 1907], grid: &[u64; 627], s: &[u8], i: usize) -> [u64; 6]
     requires { ⌜ SheetLent (now s) (now tables) (now grid) × (i < rowsOf (now s)) ⌝ }
     ensures { λ r. ⌜ r ≡ tab (rowYear (now (s .entry)) i (seasonsOf (now (s .entry)))) 6 ⌝ }
 {
+    let kept = row_kept(tables, s, i);
     let seasons = seasons_of(s);
     let mut year = [0u64; 6];
     let mut j: usize = 0;
     while j < seasons {
-        let figures = day_of(tables, grid, s, j, i);
+        let figures = day_of(tables, grid, s, j, i, kept);
         add_days(&mut year, 0, season_at(s, j).days, figures);
         j += 1;
     }

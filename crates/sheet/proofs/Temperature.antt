@@ -9,8 +9,8 @@ use Rattle.numbers.specs.Fraction.{Fraction, _≤ᶠ_, _≈ᶠ_, _+ᶠ_, _-ᶠ_
 use Rattle.bounds.specs.Power.{degrees}
 use Rattle.numbers.proofs.Order.{≈-refl, ≈-trans, ≤-by, ≤-trans, ≈-sym, +-cong, sub-cong, *-cong}
 use Rattle.exact.specs.declared.Season.{Season}
-use Rattle.bounds.specs.Weights.{w}
-use Rattle.bounds.proofs.Weights.{w-most}
+use Rattle.bounds.specs.Weights.{w, apart, ahead}
+use Rattle.bounds.proofs.Weights.{w-most, apart-alike}
 use Rattle.exact.specs.Day.{signedTenths, temperature}
 use Rattle.sheet.specs.Limits.{coldLimit, warmLimit, vpLimit}
 use Rattle.sheet.specs.Range.{warmth, warmthLimit, markWarmth, SeasonInRange}
@@ -110,6 +110,11 @@ warmth-below-highest {season} i t =
 -- that is, at most 50 °C
 pub warmth-most : {season : Season} (i : ℕ) → SeasonInRange season → markWarmth season i ≤ 80 * 10 ^ 10
 warmth-most i t = omega (arith, warmth-below-highest i t, t .warm)
+
+-- marks as far from 14:00 have one temperature
+pub warmth-alike : (season : Season) (i : ℕ) → i < 48 → markWarmth season (ahead (apart i)) ≡ markWarmth season i
+unfolding markWarmth
+warmth-alike season i h = rw (apart-alike i h)
 
 -- θ ≤ θ' gives θ·10⁻¹⁰ − 30 ≤ θ'·10⁻¹⁰ − 30
 pub degrees-mono : {θ θ' : ℕ} → θ ≤ θ' → degrees θ ≤ᶠ degrees θ'

@@ -11,11 +11,11 @@ pub record BalanceReady (c : Balance) : Type 0 where
   pub net-below : c .net < 2 ^ 50
   pub exponent-most : c .base + c .growth * c .saturation / 2 ^ 41 ≤ 16 * 10 ^ 14
 
--- at every mark
+-- at each of the 25 temperatures of a day
 pub record BalancesReady (bases growths : List ℕ) (saturation net : ℕ) : Type 0 where
-  pub ready : (mark : ℕ) → mark < 48 → BalanceReady (record {
-    base = at bases mark;
-    growth = at growths mark;
+  pub ready : (k : ℕ) → k < 25 → BalanceReady (record {
+    base = at bases k;
+    growth = at growths k;
     saturation = saturation;
     net = net;
   })

@@ -7,6 +7,10 @@ use Rattle.starting_loads.specs.Steps.{start}
 unfoldable pub net : ℕ → ℕ → ℕ
 net h y = 2 * (813 * y - 2292 * 10 ^ 14) / h * 2 ^ 24 / 5 ^ 16
 
--- the starting load for M km from 17 upward
+-- for M km from 17 upward
+abbrev pub netOf : ℕ → ℕ → ℕ
+netOf h M = net h (short M)
+
+-- and the starting load then
 abbrev pub startUnits : ℕ → ℕ → ℕ → ℕ → ℕ → ℕ
-startUnits A K h σ M = start A K σ (net h (short M))
+startUnits A K h σ M = start A K σ (netOf h M)

@@ -37,6 +37,6 @@ stepCount = 3
 abbrev pub start : ℕ → ℕ → ℕ → ℕ → ℕ
 start A K σ G = steps A K σ G stepCount
 
--- at each mark
+-- at each of the 25 temperatures of a day
 abbrev pub startsAt : List ℕ → List ℕ → ℕ → ℕ → List ℕ
-startsAt bases growths σ G = tab (λ (mark : ℕ). start (at bases mark) (at growths mark) σ G) 48
+startsAt bases growths σ G = tab (λ (k : ℕ). start (at bases k) (at growths k) σ G) 25

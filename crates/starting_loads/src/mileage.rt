@@ -3,8 +3,7 @@ use thresholds::short;
 ghost use mathlib.Core.Path.{_≡_};
 ghost use Prim.Native.Nat.{_*_, _^_, _<_, _≤_};
 ghost use Rattle.bounds.specs.Exponential.{entries};
-ghost use Rattle.thresholds.specs.Thresholds.{short};
-ghost use Rattle.starting_loads.specs.Net.{net};
+ghost use Rattle.starting_loads.specs.Net.{net, netOf};
 
 // 22.92 in units of 10^-16.
 const OFFSET: u64 = 229200000000000000;
@@ -24,9 +23,9 @@ fn kept(y: u64, halves: u64) -> u64
 }
 
 // The load without what is lost, for a canister with 2 s = halves.
-pub fn net(tables: &[u64; 578], mileage: u64, halves: u64) -> u64
+pub fn net(tables: &[u64; 1907], mileage: u64, halves: u64) -> u64
     requires { ⌜ (now tables ≡ entries) × (17 ≤ mileage) × (mileage ≤ 10 ^ 6) × (0 < halves) ⌝ }
-    ensures { λ r. ⌜ (r ≡ net halves (short mileage)) × (r < 2 ^ 50) ⌝ }
+    ensures { λ r. ⌜ (r ≡ netOf halves mileage) × (r < 2 ^ 50) ⌝ }
 {
     kept(short(tables, mileage), halves)
 }

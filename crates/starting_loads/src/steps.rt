@@ -50,7 +50,7 @@ fn stepped(c: Balance, x: u64, load: u64) -> u64
 }
 
 // A step.
-fn step(tables: &[u64; 578], c: Balance, load: u64) -> u64
+fn step(tables: &[u64; 1907], c: Balance, load: u64) -> u64
     requires { ⌜ (now tables ≡ entries) × BalanceReady c × (min (c .saturation) (c .net) ≤ load) × (load ≤ c .saturation) ⌝ }
     ensures { λ r. ⌜ (r ≡ step (c .base) (c .growth) (c .saturation) (c .net) load) × (load ≤ r) × (r ≤ c .saturation) ⌝ }
 {
@@ -59,7 +59,7 @@ fn step(tables: &[u64; 578], c: Balance, load: u64) -> u64
 }
 
 // The load at one mark.
-fn start(tables: &[u64; 578], c: Balance) -> u64
+fn start(tables: &[u64; 1907], c: Balance) -> u64
     requires { ⌜ (now tables ≡ entries) × BalanceReady c ⌝ }
     ensures { λ r. ⌜ (r ≡ start (c .base) (c .growth) (c .saturation) (c .net)) × (r ≤ c .saturation) ⌝ }
 {
@@ -72,28 +72,28 @@ fn start(tables: &[u64; 578], c: Balance) -> u64
     load
 }
 
-// At each mark, for a canister with these values of `Balance`.
+// At each of the 25 temperatures of a day, for a canister with these values of `Balance`.
 pub fn starts(
-    tables: &[u64; 578],
-    bases: &[u64; 48],
-    growths: &[u64; 48],
+    tables: &[u64; 1907],
+    bases: &[u64; 25],
+    growths: &[u64; 25],
     saturation: u64,
     net: u64,
-) -> [u64; 48]
+) -> [u64; 25]
     requires { ⌜ (now tables ≡ entries) × BalancesReady (now bases) (now growths) saturation net ⌝ }
     ensures { λ r. ⌜ (r ≡ startsAt (now (bases .entry)) (now (growths .entry)) saturation net) × AllAtMost saturation r ⌝ }
 {
-    let mut out = [0u64; 48];
-    let mut mark: usize = 0;
-    while mark < 48 {
+    let mut out = [0u64; 25];
+    let mut k: usize = 0;
+    while k < 25 {
         let c = Balance {
-            base: bases[mark],
-            growth: growths[mark],
+            base: bases[k],
+            growth: growths[k],
             saturation,
             net,
         };
-        out[mark] = start(tables, c);
-        mark += 1;
+        out[k] = start(tables, c);
+        k += 1;
     }
     out
 }

@@ -43,7 +43,7 @@ fn far_table() -> [u64; 15]
 }
 
 // M is at most E(c - d).
-fn within(tables: &[u64; 578], fars: &[u64; 15], mileage: u64, c: usize, d: u64) -> bool
+fn within(tables: &[u64; 1907], fars: &[u64; 15], mileage: u64, c: usize, d: u64) -> bool
     requires { ⌜ (now tables ≡ entries) × (now fars ≡ far) × (mileage ≤ 10 ^ 6) × (c < 15) × (d ≤ 2 ^ 47) ⌝ }
     ensures { λ r. ⌜ r ≡ within mileage c d ⌝ }
 {
@@ -52,7 +52,7 @@ fn within(tables: &[u64; 578], fars: &[u64; 15], mileage: u64, c: usize, d: u64)
 }
 
 // d with one more binary digit, where M is still at most E(c - d).
-fn digit(tables: &[u64; 578], fars: &[u64; 15], mileage: u64, c: usize, d: u64, bit: u64) -> u64
+fn digit(tables: &[u64; 1907], fars: &[u64; 15], mileage: u64, c: usize, d: u64, bit: u64) -> u64
     requires { ⌜ (now tables ≡ entries) × (now fars ≡ far) × (mileage ≤ 10 ^ 6) × (c < 15) × (d + bit ≤ 2 ^ 47) ⌝ }
     ensures { λ r. ⌜ (r ≡ digit mileage c d bit) × (r ≤ d + bit) ⌝ }
 {
@@ -64,7 +64,7 @@ fn digit(tables: &[u64; 578], fars: &[u64; 15], mileage: u64, c: usize, d: u64, 
 }
 
 // The largest d with M at most E(c - d), digit by digit from 2^46 down.
-fn digits(tables: &[u64; 578], fars: &[u64; 15], mileage: u64, c: usize) -> u64
+fn digits(tables: &[u64; 1907], fars: &[u64; 15], mileage: u64, c: usize) -> u64
     requires { ⌜ (now tables ≡ entries) × (now fars ≡ far) × (mileage ≤ 10 ^ 6) × (c < 15) ⌝ }
     ensures { λ r. ⌜ (r ≡ digits mileage c 47 0) × (r ≤ 2 ^ 47) ⌝ }
 {
@@ -80,7 +80,7 @@ fn digits(tables: &[u64; 578], fars: &[u64; 15], mileage: u64, c: usize) -> u64
 }
 
 // The first whole exponent from 3 on with E at least M, and 14 where none before it has.
-fn whole_above(tables: &[u64; 578], fars: &[u64; 15], mileage: u64) -> usize
+fn whole_above(tables: &[u64; 1907], fars: &[u64; 15], mileage: u64) -> usize
     requires { ⌜ (now tables ≡ entries) × (now fars ≡ far) × (mileage ≤ 10 ^ 6) ⌝ }
     ensures { λ r. ⌜ (r ≡ wholeAbove mileage) × (3 ≤ r) × (r ≤ 14) ⌝ }
 {
@@ -95,7 +95,7 @@ fn whole_above(tables: &[u64; 578], fars: &[u64; 15], mileage: u64) -> usize
 }
 
 // The exponent from below: E there is below M for every n from 40 upward, and at least M a margin above it.
-pub fn short(tables: &[u64; 578], mileage: u64) -> u64
+pub fn short(tables: &[u64; 1907], mileage: u64) -> u64
     requires { ⌜ (now tables ≡ entries) × (17 ≤ mileage) × (mileage ≤ 10 ^ 6) ⌝ }
     ensures { λ r. ⌜ (r ≡ short mileage) × (282 * 10 ^ 12 ≤ r) × (r ≤ 14 * 10 ^ 14) ⌝ }
 {

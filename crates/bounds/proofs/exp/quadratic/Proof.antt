@@ -4,7 +4,7 @@ use Prim.Native.Nat.{_+_, _*_, _/_, _^_}
 use native.Mathlib.Omega.{arith}
 use borrow.Author.Needs.{needs}
 use Rattle.bounds.specs.Exponential.{quadratic}
-use Rattle.bounds.proofs.ExponentialBound.{rest-square, quadratic-size}
+use Rattle.bounds.proofs.ExponentialBound.{rest-square, quadratic-least, quadratic-size}
 use Rattle.bounds.proofs.exp.quadratic.Statement.{statement}
 use Rattle.bounds.proofs.exp.quadratic.Tie as tie
 
@@ -21,4 +21,4 @@ quadratic-spec =
     (λ c. search needs)
     (λ c. omega (arith, rest-square _ (c .rest .ensures .1)))
     (λ c. omega (arith, rest-square _ (c .rest .ensures .1)))
-    (λ c. (same c, rw (same c) (quadratic-size _ (c .before .pre)))))
+    (λ c. (same c, rw (same c) (quadratic-least _), rw (same c) (quadratic-size _ (c .before .pre)))))

@@ -1,12 +1,37 @@
--- `bounds::exp::tables` meets its contract: the constant is the list.
-use mathlib.Core.Path.{refl}
-use Rattle.bounds.specs.Exponential.{coarse, middle, entries}
+-- `bounds::exp::tables` meets its contract: the constant is the list, and the first places hold their entries.
+use mathlib.Core.Path.{_≡_, refl, _∙_}
+use Prim.Native.Nat.{ℕ, _-_}
+use native.Mathlib.Omega.{arith}
+use lib.ListN.{replicate}
+use Rattle.numbers.specs.Lists.{at}
+use Rattle.numbers.proofs.Lists.{Filled, filled-none, filled-more, filled-all, tab-at}
+use Rattle.bounds.specs.Exponential.{coarse, middle, constants, entries}
+use Rattle.bounds.proofs.Tables.{entries-length}
+use borrow.Author.Needs.{needs}
 use Rattle.bounds.proofs.exp.tables.Statement.{statement}
 use Rattle.bounds.proofs.exp.tables.Tie as tie
 
-returns : tie.Need-returns
-unfolding coarse middle entries
-returns c = refl
+abbrev Inv-loop : tie.InvT-loop
+Inv-loop table out₀ place₀ out place = Filled (at entries) 1907 place out
+
+abbrev μ-loop : tie.MeasureT-loop
+μ-loop table out₀ place₀ out place = 1907 - place
+
+entry-requires : tie.Need-entry-requires Inv-loop μ-loop
+unfolding coarse middle constants
+entry-requires c κs = (refl, omega arith)
 
 pub tables-spec : {M : Type 1} → statement M
-tables-spec = tie.close (tie.spec returns)
+tables-spec =
+    tie.close
+    (tie.spec
+    Inv-loop
+    μ-loop
+    (λ c. filled-none _ (replicate 1907 0) refl)
+    entry-requires
+    (λ c. search needs)
+    (λ c. search needs)
+    (λ c. search needs)
+    (λ c. search needs)
+    (λ c. filled-more (c .before .before .before .loop .inv) (omega arith) (c .entry .ensures))
+    (λ c. filled-all (c .before .loop .inv) (omega arith) ∙ tab-at entries entries-length))

@@ -1,4 +1,4 @@
--- `breakthrough::curve::through` meets its contract: the load with the vapour fits.
+-- `breakthrough::curve::through` meets its contract: the exponent is one that the short exponential takes.
 use mathlib.Core.Path.{_∙_}
 use Rattle.breakthrough.specs.Through.{through}
 use borrow.Author.Needs.{needs}
@@ -14,7 +14,9 @@ through-spec =
     tie.close
     (tie.spec
     (λ c κs. search needs)
+    (λ c κs. search needs)
     (λ c. search needs)
     (λ c κs. search needs)
+    (λ c. search needs)
     (λ c κs. search needs)
     returns)

@@ -1,4 +1,4 @@
--- `breakthrough::curves::bases` meets its contract: the first marks hold their a.
+-- `breakthrough::curves::bases` meets its contract: the first distances hold their a.
 use mathlib.Core.Path.{refl}
 use Prim.Native.Nat.{ℕ, _-_}
 use native.Mathlib.Omega.{arith}
@@ -11,10 +11,10 @@ use Rattle.breakthrough.proofs.curves.bases.Statement.{statement}
 use Rattle.breakthrough.proofs.curves.bases.Tie as tie
 
 abbrev Inv-loop : tie.InvT-loop
-Inv-loop warmths vp out₀ mark₀ out mark = Filled (λ (k : ℕ). base vp (at warmths k)) 48 mark out
+Inv-loop warmths vp out₀ d₀ out d = Filled (λ (k : ℕ). base vp (at warmths k)) 25 d out
 
 abbrev μ-loop : tie.MeasureT-loop
-μ-loop warmths vp out₀ mark₀ out mark = 48 - mark
+μ-loop warmths vp out₀ d₀ out d = 25 - d
 
 loop-again : tie.Need-loop-again Inv-loop μ-loop
 unfolding base
@@ -26,11 +26,11 @@ bases-spec =
     (tie.spec
     Inv-loop
     μ-loop
-    (λ c. filled-none _ (replicate 48 0) refl)
+    (λ c. filled-none _ (replicate 25 0) refl)
     (λ c. search needs)
     (λ c. search needs)
-    (λ c. omega (arith, c .before .before .before .pre .0 .at-most (c .before .before .loop .mark)))
-    (λ c. omega (arith, c .before .before .before .pre .0 .at-most (c .before .before .loop .mark)))
+    (λ c. omega (arith, c .before .before .before .pre .0 .at-most (c .before .before .loop .d)))
+    (λ c. omega (arith, c .before .before .before .pre .0 .at-most (c .before .before .loop .d)))
     (λ c. search needs)
     (λ c. search needs)
     (λ c. search needs)

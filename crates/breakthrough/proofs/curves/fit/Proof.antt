@@ -4,36 +4,37 @@ use Prim.Native.Nat.{ℕ, _+_, _*_, _-_, _^_, _≤_, _<_}
 use native.Mathlib.Omega.{arith}
 use Rattle.numbers.specs.Lists.{tab, at, AllAtMost}
 use Rattle.numbers.proofs.Lists.{tab-ext, getD-tab, tab-at-most}
+use Rattle.bounds.specs.Weights.{ahead}
 use Rattle.sheet.specs.Range.{markWarmth}
 use Rattle.sheet.proofs.Temperature.{warmth-most}
 use Rattle.factors.specs.Escape.{base, growth}
 use Rattle.factors.proofs.Canister.{saturation-most}
-use Rattle.factors.specs.Units.{rowStart, baseAt, growthAt}
-use Rattle.breakthrough.specs.Curves.{startAt}
-use Rattle.breakthrough.proofs.Fitted.{loads-ready, fitted-ready, losses-tab}
+use Rattle.factors.specs.Units.{rowStart}
+use Rattle.breakthrough.specs.Curves.{basesOf, growthsOf, startsOf}
+use Rattle.breakthrough.proofs.Fitted.{loads-ready, curves-fit, curves-by}
 use borrow.Author.Needs.{needs}
 use Rattle.breakthrough.proofs.curves.fit.Statement.{statement}
 use Rattle.breakthrough.proofs.curves.fit.Tie as tie
 
 -- no temperature is above 50 °C
 temperate : (s : tie.Start) → AllAtMost (80 * 10 ^ 10) (s .args .warmths .now)
-temperate s = tab-at-most _ 48 (s .pre .1 .warmths-are) (λ mark _. warmth-most mark (s .pre .1 .season-in))
+temperate s = tab-at-most _ 25 (s .pre .1 .warmths-are) (λ d _. warmth-most (ahead d) (s .pre .1 .season-in))
 
--- the warmth of a mark
-warmth-at : (s : tie.Start) (k : ℕ) → k < 48 → at (s .args .warmths .now) k ≡ markWarmth (s .args .season) k
-warmth-at s k h = rw (s .pre .1 .warmths-are) (getD-tab (markWarmth (s .args .season)) 48 k h)
+-- the warmth at a distance
+warmth-at : (s : tie.Start) (k : ℕ) → k < 25 → at (s .args .warmths .now) k ≡ markWarmth (s .args .season) (ahead k)
+warmth-at s k h = rw (s .pre .1 .warmths-are) (getD-tab (λ (d : ℕ). markWarmth (s .args .season) (ahead d)) 25 k h)
 
-bases-known : (c : tie.After-bases) → c .bases .result ≡ tab (baseAt (c .before .args .season) (c .before .args .row)) 48
+bases-known : (c : tie.After-bases) → c .bases .result ≡ tab (basesOf (c .before .args .season) (c .before .args .row)) 25
 bases-known c =
-    c .bases .ensures ∙ tab-ext 48 (λ k h. ap (base (c .before .args .season .vp)) (warmth-at (c .before) k h))
+    c .bases .ensures ∙ tab-ext 25 (λ k h. ap (base (c .before .args .season .vp)) (warmth-at (c .before) k h))
 
 growths-known : (c : tie.After-growths)
-    → c .growths .result ≡ tab (growthAt (c .before .before .before .args .season) (c .before .before .before .args .row)) 48
+    → c .growths .result ≡ tab (growthsOf (c .before .before .before .args .season) (c .before .before .before .args .row)) 25
 unfolding growth
 growths-known c =
     let s = c .before .before .before in
     c .growths .ensures ∙
-    tab-ext 48
+    tab-ext 25
     (λ k h.
     ap₂ (λ (θ times : ℕ). (112 * 10 ^ 11 + θ - 15 * 10 ^ 8 * s .args .season .vp) * times) (warmth-at s k h)
     (c .before .halves .ensures .0))
@@ -47,49 +48,46 @@ start-loads-requires c κs =
     let b = g .before .before in
     let p = b .before .pre in
     let f = p .1 in
-    (p .0, loads-ready (f .season-in) (f .row-in) (f .canister-there) (bases-known b) (growths-known g))
+    (p .0, loads-ready (f .season-in) (f .row-in) (f .canister-there) (bases-known b) (growths-known g), f .kept-of)
 
 loads-known : (c : tie.After-start-loads)
-    → let s = c .before .before .before .before .before .before in c .start-loads .result ≡ tab (startAt (s .args .season) (s .args .row)) 48
+    → let s = c .before .before .before .before .before .before in c .start-loads .result ≡ tab (startsOf (s .args .season) (s .args .row)) 25
 loads-known c =
     let g = c .before .before .before in
     let b = g .before .before in
     let a = b .before .args in
     c .start-loads .ensures ∙
-    tab-ext 48
+    tab-ext 25
     (λ k h.
-    ap₂ (λ (base growth : ℕ). rowStart (a .row) base growth) (rw (bases-known b) (getD-tab (baseAt (a .season) (a .row)) 48 k h))
-    (rw (growths-known g) (getD-tab (growthAt (a .season) (a .row)) 48 k h)))
+    ap₂ (λ (base growth : ℕ). rowStart (a .row) base growth) (rw (bases-known b) (getD-tab (basesOf (a .season) (a .row)) 25 k h))
+    (rw (growths-known g) (getD-tab (growthsOf (a .season) (a .row)) 25 k h)))
 
-first-losses-requires : tie.Need-first-losses-requires
-first-losses-requires c κs =
-    let t = c .before in
+curves-of-requires : tie.Need-curves-of-requires
+curves-of-requires c κs =
+    let t = c .before .before .before .before in
     let w = t .before in
     let g = w .before .before .before in
     let b = g .before .before in
     let p = b .before .pre in
     let f = p .1 in (
       p .0,
-      fitted-ready (f .season-in) (f .row-in) (f .canister-there) (bases-known b) (growths-known g) (loads-known w) (t .tenth-grams .ensures) (f .vapour-is),
-      c .loss-error .ensures .1,
+      curves-fit (f .season-in) (f .row-in) (f .canister-there) (bases-known b) (growths-known g) (loads-known w) (t .tenth-grams .ensures) (f .vapour-is)
+          (c .loss-error .ensures .1),
     )
 
 returns : tie.Need-returns
 returns c =
-    let t = c .before .before in
+    let t = c .before .before .before .before .before in
     let w = t .before in
     let g = w .before .before .before in
     let b = g .before .before in
-    let es = t .tenth-grams .ensures in
+    let a = b .before .args in
     record {
-      bases-are = bases-known b;
-      growths-are = growths-known g;
-      loads-are = loads-known w;
-      firsts-are =
-          c .first-losses .ensures ∙
-          losses-tab _ _ _ (bases-known b) (growths-known g) (loads-known w) es (c .before .loss-error .ensures .0);
-      saturation-is = es;
-      gain-is = b .before .pre .1 .vapour-is;
+      by =
+          curves-by (λ k h. rw (bases-known b) (getD-tab (basesOf (a .season) (a .row)) 25 k h))
+          (λ k h. rw (growths-known g) (getD-tab (growthsOf (a .season) (a .row)) 25 k h))
+          (λ k h. rw (loads-known w) (getD-tab (startsOf (a .season) (a .row)) 25 k h))
+          (t .tenth-grams .ensures) (b .before .pre .1 .vapour-is) (c .before .loss-error .ensures .0) (c .curves-of .ensures);
     }
 
 pub fit-spec : {M : Type 1} → statement M
@@ -102,5 +100,5 @@ fit-spec =
     start-loads-requires
     (λ c κs. saturation-fits (c .before .before .before .before .before .before))
     (λ c κs. search needs)
-    first-losses-requires
+    curves-of-requires
     returns)

@@ -11,14 +11,14 @@ joined-requires : tie.Need-joined-requires
 joined-requires c κs =
     let ends = c .before .before .before in
     let starts = ends .before .before in
-    (starts .before .before .pre .length-is, ap length (starts .mark-counts .ensures) ∙ tally-length _ _ 576, ap length (ends .mark-counts2 .ensures) ∙ tally-length _ _ 576)
+    (starts .before .before .pre .length-is, ap length (starts .apart-counts .ensures) ∙ tally-length _ _ _ 576, ap length (ends .apart-counts2 .ensures) ∙ tally-length _ _ _ 576)
 
 returns : tie.Need-returns
 returns c =
     let sum = c .before .before in
     let ends = sum .before .before in
     let starts = ends .before .before in
-    grid-made (starts .before .before .pre) (starts .mark-counts .ensures) (ends .mark-counts2 .ensures) (sum .total .ensures) (c .joined .ensures)
+    grid-made (starts .before .before .pre) (starts .apart-counts .ensures) (ends .apart-counts2 .ensures) (sum .total .ensures) (c .joined .ensures)
 
 pub grid-of-spec : {M : Type 1} → statement M
 grid-of-spec =

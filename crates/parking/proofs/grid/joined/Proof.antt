@@ -12,10 +12,10 @@ use Rattle.parking.proofs.grid.joined.Statement.{statement}
 use Rattle.parking.proofs.grid.joined.Tie as tie
 
 abbrev Inv-loop : tie.InvT-loop
-Inv-loop cells starts ends sum out₀ k₀ out k = Filled (at (cells ++ (starts ++ (ends ++ (sum ∷ []))))) 673 k out
+Inv-loop cells starts ends sum out₀ k₀ out k = Filled (at (cells ++ (starts ++ (ends ++ (sum ∷ []))))) 627 k out
 
 abbrev μ-loop : tie.MeasureT-loop
-μ-loop cells starts ends sum out₀ k₀ out k = 673 - k
+μ-loop cells starts ends sum out₀ k₀ out k = 627 - k
 
 returns : tie.Need-returns Inv-loop μ-loop
 returns c =
@@ -30,7 +30,7 @@ joined-spec =
     (tie.spec
     Inv-loop
     μ-loop
-    (λ c. filled-none _ (replicate 673 0) refl)
+    (λ c. filled-none _ (replicate 627 0) refl)
     (λ c κs. search needs)
     (λ c. search needs)
     (λ c. search needs)

@@ -24,7 +24,7 @@ returns-3 c =
 returns-4 : tie.Need-returns-4
 returns-4 c =
     let s = c .before .before .before in
-    let last : s .args .k ≡ 672 = omega arith in
+    let last : s .args .k ≡ 626 = omega arith in
     rw last (sym (sum-at (s .args .cells .now) (s .args .t2) (s .args .t3) (s .args .sum) (s .pre .0) (s .pre .1) (s .pre .2)))
 
 pub part-spec : {M : Type 1} → statement M

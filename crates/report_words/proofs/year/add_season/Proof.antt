@@ -1,7 +1,7 @@
 -- `report_words::year::add_season` meets its contract: the words then hold one season more.
-use mathlib.Core.Path.{_∙_}
+use mathlib.Core.Path.{_≡_, _∙_}
 use Rattle.sheet.specs.Range.{SeasonInRange}
-use Rattle.row_factors.specs.Season.{MarksReady}
+use Rattle.row_factors.specs.Season.{MarksReady, risesOf}
 use Rattle.sheet.proofs.Accepted.{Bytes, accepted}
 use Rattle.report_words.proofs.Places.{season-there}
 use Rattle.report_words.proofs.SeasonWork.{steps-most, marks-ready, season-lent}
@@ -21,7 +21,9 @@ in-range c =
     rw (c .season-at .ensures .0) (accepted (start .args .s .now) (start .pre .0 .passes) .season _ (start .pre .1) .in-range (bytes (c .before)))
 
 -- its marks and rises are ready
-ready : (c : tie.After-rises) → MarksReady (c .before .before .before .before .season-at .result) (c .before .before .before .at-marks .result) (c .rises .result)
+ready : (c : tie.After-rises)
+    → let m = c .before .before .before in
+    MarksReady (m .before .season-at .result) (m .at-marks .result) × (c .rises .result ≡ risesOf (m .before .season-at .result))
 ready c =
     let m = c .before .before .before in
     marks-ready (in-range (m .before)) (m .at-marks .ensures) (c .rises .ensures)
@@ -29,20 +31,22 @@ ready c =
 add-rows-requires : tie.Need-add-rows-requires
 add-rows-requires c κs =
     let a = c .before .before in
-    let w = a .before .before in
+    let k = a .before .before in
+    let w = k .before .before in
     let d = w .before .before .before .before in
     let start = d .before .before .before in
     let p = start .pre in
     let x = start .args in
     let s = x .s .now in
-    let l = season-lent (bytes (d .before)) (p .0) (p .1) (d .season-at .ensures .0) (ready w) (a .at-season .ensures) in
-    (l, p .2 .room, rw (a .at-season .ensures .season-is, d .season-at .ensures .0) (season-fits s (x .words .now) (x .j) (p .2 .words-are) (bytes (d .before)) (accepted s (p .0 .passes)) (p .1)))
+    let l = season-lent (bytes (d .before)) (p .0) (p .1) (d .season-at .ensures .0) (ready w) (k .list-of .ensures) (a .at-season .ensures) in
+    let fits = season-fits s (x .words .now) (x .j) (p .2 .words-are) (bytes (d .before)) (accepted s (p .0 .passes)) (p .1) in
+    (l, p .2 .room, rw (a .at-season .ensures .season-is, d .season-at .ensures .0) fits, p .3)
 
 returns : tie.Need-returns
 returns c =
     let done = c .before .before in
     let a = done .before .before .before in
-    let d = a .before .before .before .before .before .before in
+    let d = a .before .before .before .before .before .before .before .before in
     let start = d .before .before .before in
     let x = start .args in
     rw (a .at-season .ensures .season-is, d .season-at .ensures .0) at (done .add-rows .ensures) ∙ season-stored (x .s .now) (x .words .now) (x .j) (start .pre .2 .words-are)
@@ -54,7 +58,10 @@ add-season-spec =
     (λ c κs. let p = c .before .before .pre in season-there _ (p .0 .passes) (p .1))
     (λ c κs. (c .before .before .before .pre .0 .tables-are, in-range c))
     (λ c κs. steps-most (in-range (c .before .before .before)) (c .before .before .at-marks .ensures))
-    (λ c κs. (c .before .before .before .before .before .before .before .before .pre .0 .grid-ready, ready (c .before)))
+    (λ c κs. c .before .before .before .before .before .before .before .before .pre .0 .grid-ready)
+    (λ c κs.
+    let m = ready (c .before .before .before) in
+    (c .before .before .before .before .before .before .before .before .before .before .pre .0 .grid-ready, m .0, m .1))
     add-rows-requires
     (λ c. search needs)
     returns)

@@ -13,11 +13,11 @@ use Rattle.report_words.proofs.year.add_seasons.Statement.{statement}
 use Rattle.report_words.proofs.year.add_seasons.Tie as tie
 
 abbrev Inv-loop : tie.InvT-loop
-Inv-loop tables grid s words₀ seasons j₀ words j =
+Inv-loop tables grid kept s words₀ seasons j₀ words j =
     (j ≤ seasons) × (length words ≡ length words₀) × (words ≡ filled (yearWord s j) (6 * rowsOf s) words₀)
 
 abbrev μ-loop : tie.MeasureT-loop
-μ-loop tables grid s words₀ seasons j₀ words j = seasons - j
+μ-loop tables grid kept s words₀ seasons j₀ words j = seasons - j
 
 add-season-requires : tie.Need-add-season-requires Inv-loop μ-loop
 add-season-requires c κs =
@@ -25,7 +25,8 @@ add-season-requires c κs =
     let start = c .before .before .before .before .before .before in
     let p = start .pre in
     let n = 6 * rowsOf (start .args .s .now) in
-    (p .0, omega arith, record { room = omega (arith, p .1 .room); words-are = ap (take n) (l .inv .2) ∙ filled-less _ _ n n (omega arith) })
+    let words = ap (take n) (l .inv .2) ∙ filled-less _ _ n n (omega arith) in
+    (p .0, omega arith, record { room = omega (arith, p .1 .room); words-are = words }, p .2)
 
 loop-again : tie.Need-loop-again Inv-loop μ-loop
 loop-again c =

@@ -1,14 +1,14 @@
 -- `row_factors::escapes::canister_car` meets its contract: each mean of what breaks through is the escape of its definition.
 use mathlib.Core.Bool.{false}
 use native.Mathlib.Omega.{arith}
-use Rattle.row_factors.proofs.Escaping.{open-shut, parking-needs, parking-right, raise-needs, raise-right}
+use Rattle.row_factors.proofs.Escaping.{open-shut, fit-needs, parking-needs, parking-right, raise-needs, raise-right}
 use borrow.Author.Needs.{needs}
 use Rattle.row_factors.proofs.escapes.canister_car.Statement.{statement}
 use Rattle.row_factors.proofs.escapes.canister_car.Tie as tie
 
 -- what is known at the start, from after the fit
 abbrev start : tie.After-fit → tie.Start
-start f = f .before .before .before .before
+start f = f .before .before .before .before .before .before
 
 returns : tie.Need-returns
 returns c =
@@ -29,6 +29,7 @@ canister-car-spec =
     tie.close
     (tie.spec
     (λ c κs. search needs)
+    (λ c κs. fit-needs (c .before .before .before .before .before .pre) (c .before .by-distance .ensures))
     (λ c κs. parking-needs (start c .pre) (c .fit .ensures))
     (λ c κs. let f = c .before .before .before in raise-needs (start f .pre) (f .fit .ensures) 45 (λ m. m .raise45-is) (omega arith))
     (λ c κs. let f = c .before .before .before .before .before .before in raise-needs (start f .pre) (f .fit .ensures) 60 (λ m. m .raise60-is) (omega arith))

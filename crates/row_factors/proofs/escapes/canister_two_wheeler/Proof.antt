@@ -1,14 +1,14 @@
 -- `row_factors::escapes::canister_two_wheeler` meets its contract: each mean of what breaks through is the escape of its definition.
 use mathlib.Core.Bool.{true, false}
 use native.Mathlib.Omega.{arith}
-use Rattle.row_factors.proofs.Escaping.{parking-needs, parking-right, raise-needs, raise-right}
+use Rattle.row_factors.proofs.Escaping.{fit-needs, parking-needs, parking-right, raise-needs, raise-right}
 use borrow.Author.Needs.{needs}
 use Rattle.row_factors.proofs.escapes.canister_two_wheeler.Statement.{statement}
 use Rattle.row_factors.proofs.escapes.canister_two_wheeler.Tie as tie
 
 -- what is known at the start, from after the fit
 abbrev start : tie.After-fit → tie.Start
-start f = f .before .before .before .before
+start f = f .before .before .before .before .before .before
 
 returns : tie.Need-returns
 returns c =
@@ -28,6 +28,7 @@ canister-two-wheeler-spec =
     tie.close
     (tie.spec
     (λ c κs. search needs)
+    (λ c κs. fit-needs (c .before .before .before .before .before .pre) (c .before .by-distance .ensures))
     (λ c κs. parking-needs (start c .pre) (c .fit .ensures))
     (λ c κs. let f = c .before .before .before in raise-needs (start f .pre) (f .fit .ensures) 15 (λ m. m .raise15-is) (omega arith))
     (λ c κs. let f = c .before .before .before .before .before .before in raise-needs (start f .pre) (f .fit .ensures) 35 (λ m. m .raise35-is) (omega arith))

@@ -4,7 +4,7 @@ use mathlib.Core.Path.{refl, _∙_, ap}
 use Prim.Native.Nat.{ℕ, _/_}
 use native.Mathlib.Omega.{arith}
 use Rattle.parking.proofs.Weighted.{mean-tab, mean-ext, mean-marks}
-use Rattle.row_factors.proofs.Escaping.{raise-list-fits, rate-list-most, rate-list-fits, rates-plain, rates-in, rises-most}
+use Rattle.row_factors.proofs.Escaping.{raises-alike, rates-alike, raise-list-fits, rate-list-most, rate-list-fits, rates-plain, rates-in, rises-most}
 use Rattle.row_factors.proofs.season.at_season.Statement.{statement}
 use Rattle.row_factors.proofs.season.at_season.Tie as tie
 
@@ -37,17 +37,17 @@ returns c =
       season-is = refl;
       marks-are = refl;
       means-are = record {
-        rise-is = c0 .before .before .before .mean-by-cell .ensures ∙ mean-tab _ _ l (p .rises-are);
+        rise-is = c0 .before .before .before .mean-by-cell .ensures ∙ mean-tab _ _ l (s .pre .2);
         permeation-is = c0 .permeation-mean .ensures ∙ mean-ext _ (λ cell. ap (λ (x : ℕ). x / 2) (rates-in (p .season-in) (a .rate-is) cell));
-        soak-is = c1 .mean-by-mark .ensures ∙ mean-marks _ false _ (a .soak-is);
-        run-is = c2 .mean-by-mark2 .ensures ∙ mean-marks _ true _ (a .run-is);
-        end10-is = c3 .mean-by-mark3 .ensures ∙ mean-marks _ true _ (a .raise10-is);
-        start15-is = c4 .mean-by-mark4 .ensures ∙ mean-marks _ false _ (a .raise15-is);
-        end25-is = c5 .mean-by-mark5 .ensures ∙ mean-marks _ true _ (a .raise25-is);
-        start35-is = c6 .mean-by-mark6 .ensures ∙ mean-marks _ false _ (a .raise35-is);
-        start45-is = c7 .mean-by-mark7 .ensures ∙ mean-marks _ false _ (a .raise45-is);
-        end50-is = c8 .mean-by-mark8 .ensures ∙ mean-marks _ true _ (a .raise50-is);
-        start60-is = c .mean-by-mark9 .ensures ∙ mean-marks _ false _ (a .raise60-is);
+        soak-is = c1 .mean-by-mark .ensures ∙ mean-marks _ false _ (rates-alike _ 110) (a .soak-is);
+        run-is = c2 .mean-by-mark2 .ensures ∙ mean-marks _ true _ (rates-alike _ 150) (a .run-is);
+        end10-is = c3 .mean-by-mark3 .ensures ∙ mean-marks _ true _ (raises-alike _ 10) (a .raise10-is);
+        start15-is = c4 .mean-by-mark4 .ensures ∙ mean-marks _ false _ (raises-alike _ 15) (a .raise15-is);
+        end25-is = c5 .mean-by-mark5 .ensures ∙ mean-marks _ true _ (raises-alike _ 25) (a .raise25-is);
+        start35-is = c6 .mean-by-mark6 .ensures ∙ mean-marks _ false _ (raises-alike _ 35) (a .raise35-is);
+        start45-is = c7 .mean-by-mark7 .ensures ∙ mean-marks _ false _ (raises-alike _ 45) (a .raise45-is);
+        end50-is = c8 .mean-by-mark8 .ensures ∙ mean-marks _ true _ (raises-alike _ 50) (a .raise50-is);
+        start60-is = c .mean-by-mark9 .ensures ∙ mean-marks _ false _ (raises-alike _ 60) (a .raise60-is);
       };
     }
 
@@ -55,7 +55,7 @@ pub at-season-spec : {M : Type 1} → statement M
 at-season-spec =
     tie.close
     (tie.spec
-    (λ c κs. (c .pre .0, record { at-most = λ k. omega (arith, rises-most (c .pre .1 .season-in) (c .pre .1 .rises-are) .at-most k) }))
+    (λ c κs. (c .pre .0, record { at-most = λ k. omega (arith, rises-most (c .pre .1 .season-in) (c .pre .2) .at-most k) }))
     (λ c κs. let p = c .before .before .before .pre in (p .0, rate-list-most (p .1 .season-in) 0 (omega arith) (rates-plain (p .1 .season-in) (p .1 .marks-are .rate-is))))
     (λ c κs. let p = s0 (c .before .before) .pre in (p .0, rate-list-fits (p .1 .season-in) 110 (omega arith) (p .1 .marks-are .soak-is)))
     (λ c κs. let p = s0 (c .before .before .before .before .before) .pre in (p .0, rate-list-fits (p .1 .season-in) 150 (omega arith) (p .1 .marks-are .run-is)))

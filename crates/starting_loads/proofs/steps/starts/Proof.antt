@@ -1,4 +1,4 @@
--- `starting_loads::steps::starts` meets its contract: the first marks hold their loads.
+-- `starting_loads::steps::starts` meets its contract: the first places hold their loads.
 use mathlib.Core.Path.{refl}
 use Prim.Native.Nat.{ℕ, _-_}
 use native.Mathlib.Omega.{arith}
@@ -12,20 +12,20 @@ use Rattle.starting_loads.proofs.steps.starts.Statement.{statement}
 use Rattle.starting_loads.proofs.steps.starts.Tie as tie
 
 abbrev Inv-loop : tie.InvT-loop
-Inv-loop tables bases growths saturation net out₀ mark₀ out mark = Filled (λ (k : ℕ). start (at bases k) (at growths k) saturation net) 48 mark out
+Inv-loop tables bases growths saturation net out₀ k₀ out k = Filled (λ (j : ℕ). start (at bases j) (at growths j) saturation net) 25 k out
 
 abbrev μ-loop : tie.MeasureT-loop
-μ-loop tables bases growths saturation net out₀ mark₀ out mark = 48 - mark
+μ-loop tables bases growths saturation net out₀ k₀ out k = 25 - k
 
 start-requires : tie.Need-start-requires Inv-loop μ-loop
 start-requires c κs =
     let l = c .before .before .before in
-    (l .before .pre .0, l .before .pre .1 .ready (l .loop .mark) (omega arith))
+    (l .before .pre .0, l .before .pre .1 .ready (l .loop .k) (omega arith))
 
 returns : tie.Need-returns Inv-loop μ-loop
 returns c =
     let e = filled-all (c .before .loop .inv) (omega arith) in
-    (e, tab-at-most _ 48 e (λ k h. steps-most _ _ _ _ stepCount))
+    (e, tab-at-most _ 25 e (λ k h. steps-most _ _ _ _ stepCount))
 
 pub starts-spec : {M : Type 1} → statement M
 starts-spec =
@@ -33,7 +33,7 @@ starts-spec =
     (tie.spec
     Inv-loop
     μ-loop
-    (λ c. filled-none _ (replicate 48 0) refl)
+    (λ c. filled-none _ (replicate 25 0) refl)
     (λ c. search needs) (λ c. search needs) (λ c. search needs) (λ c. search needs)
     start-requires
     (λ c. search needs) (λ c. search needs) (λ c. search needs) (λ c. search needs)
