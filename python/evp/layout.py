@@ -54,7 +54,7 @@ ROW_FIELDS = (
     Field("fill", 1, "%", most=100),
     Field("tank", 2, "l", 10, most=1500),
     Field("vehicles", 4, "vehicles", most=10_000_000),
-    Field("trips", 2, "trips a day", 100, most=1200),
+    Field("trips", 2, "a day", 100, most=1200),
     Field("minutes", 2, "minutes", most=1440),
     Field("load", 2, "g", 10),
     Field("saturation", 2, "g", 10),

@@ -236,6 +236,13 @@ CALLS: dict[str, tuple] = {
 }
 
 
+def _word(value: int) -> int:
+    """A number for a call; ctypes would cut a larger one off without a word."""
+    if not 0 <= value < 1 << 64:
+        raise OverflowError("%d is no number of 64 bits" % value)
+    return value
+
+
 def _absent(name: str):
     """Stands for a call that a library does not have."""
     def call(*_):
@@ -291,7 +298,7 @@ class Library:
         """The answer of a call; bytes and buffers are handed over with their lengths."""
         handed = []
         for value in given:
-            handed.append(value)
+            handed.append(_word(value) if isinstance(value, int) else value)
             if isinstance(value, (bytes, ctypes.Array)):
                 handed.append(len(value))
         return self.calls["evp_" + name](*handed)
@@ -329,7 +336,7 @@ class Library:
 
     def cells_of_row(self, masses: Masses, travel: Travel) -> RowCells:
         words = _RowWords(*(word for band in masses for word in band))
-        answer = _accepted(self._call("cells_of_row", words, _Travel(*travel)))
+        answer = _accepted(self._call("cells_of_row", words, _Travel(*map(_word, travel))))
         return RowCells(_cell(answer.urban), _cell(answer.rural), _cell(answer.highway))
 
     def add_cells(self, a: Cell, b: Cell) -> Cell:
@@ -343,7 +350,7 @@ class Library:
         return bytes(pooled)[:len(first) + 24 * (rows - row_count(first))]
 
     def mark(self, filed: Filed, band: Band) -> Verdict:
-        answer = self._call("mark", _Filed(*filed), band.low, band.high)
+        answer = self._call("mark", _Filed(*map(_word, filed)), band.low, band.high)
         return Verdict(Outcome(answer.verdict), answer.off)
 
     def explain(self, sheet: bytes) -> Finding:

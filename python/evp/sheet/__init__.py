@@ -42,8 +42,10 @@ For faulty sheets only:
 """
 
 from evp.sheet.builder import Builder
+from evp.sheet.doubts import doubts
+from evp.sheet.folders import folder_of, take_folder, templates
 from evp.sheet.reader import read
 from evp.sheet.words import TextError
 from evp.sheet.writer import take_text, write
 
-__all__ = ["Builder", "TextError", "read", "take_text", "write"]
+__all__ = ["Builder", "TextError", "doubts", "folder_of", "read", "take_folder", "take_text", "templates", "write"]
