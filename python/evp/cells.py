@@ -5,10 +5,10 @@ from collections.abc import Iterator
 from typing import NamedTuple
 
 from evp.explain import call_text
-from evp.files import InputError, name_shown, read_text
+from evp.files import InputError, read_text
 from evp.library import Cell, Kind, Library, Refusal, Report, RowCells, Travel
-from evp.sheet.words import quoted
 from evp.tables import Line, read_table, table_text
+from evp.wording import name_shown, quoted
 
 COLUMNS = ["row", *Travel._fields]
 YES_NO = {"yes": True, "no": False, "1": True, "0": False}

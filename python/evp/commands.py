@@ -12,11 +12,13 @@ from evp import marking, show
 from evp.cells import cells_csv, cells_of, read_travel
 from evp.convert import converted
 from evp.explain import call_text, explain
-from evp.files import InputError, make_folder, name_shown, read_sheet, read_text, write_file
+from evp.files import InputError, make_folder, read_sheet, read_text, write_file
+from evp.hints import with_hints
 from evp.library import Library, Refusal, Report
 from evp.making import make_library
 from evp.sheet import Builder, TextError, doubts, folder_of, read, take_folder, take_text, templates
 from evp.sheet.reader import told_version
+from evp.wording import name_shown
 
 MOST_LINES = 20  # of messages that any input can make
 FINE, REFUSED = 0, 1
@@ -221,17 +223,16 @@ def mark(given: Namespace) -> int:
         raise InputError("%s: a folder with sheets is wanted" % name_shown(given.folder))
     sheets = marking.read_sheets(library, given.folder, Progress())
     marks = marking.marks_of(library, sheets, filed.filings)
+    lines = limited(marking.summary(marks, len(sheets)), "sheets to look at")
     if given.hints:
-        from evp.hints import with_hints
         marks, remarks = with_hints(library, sheets, filed.filings, marks)
+        lines += limited(remarks, "guesses")
     if given.output:
         write_file(given.output, marking.marks_csv(marks, filed.semicolon).encode(), given.force)
     if given.json:
         print_json([line._asdict() for line in marks])
     elif given.output != "-":
-        say(limited(marking.summary(marks, len(sheets)), "sheets to look at"))
-        if given.hints:
-            say(limited(remarks, "such lines"))
+        say(lines)
         print("%s: %d lines" % (name_shown(given.output), len(marks)))
     return FINE if all(line.verdict in marking.FINE for line in marks) else REFUSED
 

@@ -9,6 +9,7 @@ from typing import NamedTuple
 from evp import layout
 from evp.layout import FIELDS, Field, canister_name, decimal, technology_name
 from evp.library import SHEET_BYTES, Finding, Library, MissingCall, Refusal
+from evp.wording import apart, counted
 
 SHIFT = 32768  # what a finding adds to temperatures
 
@@ -134,15 +135,6 @@ def call_text(refusal: Refusal) -> str:
 
 
 # ------------------------------------------------------------------ words
-
-
-def apart(number: int) -> str:
-    """Thousands apart."""
-    return format(number, ",")
-
-
-def counted(number: int, name: str) -> str:
-    return "%s %s%s" % (apart(number), name, "" if number == 1 else "s")
 
 
 def byte_range(at: int, size: int) -> str:

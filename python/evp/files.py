@@ -5,19 +5,13 @@ import sys
 from pathlib import Path
 
 from evp.library import SHEET_BYTES
+from evp.wording import name_shown
 
 TEXT_BYTES = 16_000_000  # no text or table of a sheet is longer
 
 
 class InputError(Exception):
     """What was named cannot be read or written, or is not understood."""
-
-
-def name_shown(name: str | os.PathLike) -> str:
-    """A file's name for a message: nothing that a terminal would obey, and not long."""
-    word = "standard input" if name == "-" else os.fspath(name)
-    shown = "".join(sign if sign.isprintable() else "?" for sign in word)
-    return shown if len(shown) <= 200 else "…" + shown[-199:]
 
 
 def _reason(error: OSError) -> str:

@@ -7,18 +7,24 @@ from collections.abc import Callable, Iterable, Iterator
 from pathlib import Path
 from typing import NamedTuple
 
-from evp.explain import counted, explain
+from evp.explain import explain
 from evp.figures import TOTAL, Figure, bands
-from evp.files import InputError, failed, name_shown, read_sheet, read_text
+from evp.files import InputError, failed, read_sheet, read_text
 from evp.library import GROUPS, MECHANISMS, Band, Filed, Library, Outcome, Refusal
 from evp.masses import UNITS, shown
-from evp.sheet.words import TextError, quoted
+from evp.sheet.words import TextError
 from evp.tables import Line, Table, read_table, table_text
+from evp.wording import counted, name_shown, quoted
 
 COLUMNS = ["sheet", "row", "mechanism", "mass", "unit"]
 MOST_WORD = 2 ** 64 - 1
 FINE = ("agrees", "fits")
-VERDICTS = ("agrees", "fits", "low", "high", "unreadable", "refused", "absent", "missing")
+VERDICTS = ("agrees", "fits", "low", "high", "unreadable", "refused", "absent", "missing")  # the first five as the library counts
+NOTES = {
+    Outcome.FITS: "the band does not settle it: some masses in it round to this figure and some do not",
+    Outcome.UNREADABLE: "10^18 mg or more, or a last place below 10^-6 mg",
+}
+MASSES = {point: re.compile("([0-9]+)(?:%s([0-9]+))?" % re.escape(point)) for point in ".,"}  # by the decimal sign
 
 
 class Filing(NamedTuple):
@@ -95,7 +101,7 @@ def _figure(row: str, mechanism: str) -> Figure:
 def _filed(mass: str, unit: str, table: Table) -> Filed:
     """A mass by its digits; never a guess."""
     point, other = table.point, "." if table.point == "," else ","
-    form = re.fullmatch("([0-9]+)(?:%s([0-9]+))?" % re.escape(point), mass, re.ASCII)
+    form = MASSES[point].fullmatch(mass)
     if form is None:
         hint = "; with columns parted by %s the decimal sign is %s" % (table.separator, "a comma" if point == "," else "a point")
         raise TextError("mass: %s is no mass%s" % (quoted(mass), hint if other in mass else "; write digits and at most one decimal sign"))
@@ -164,25 +170,19 @@ def marks_of(library: Library, sheets: dict[str, Marked], filings: Iterable[Fili
 
 
 def _mark(library: Library, sheets: dict[str, Marked], filing: Filing) -> Mark:
-    start = Mark(filing.sheet, *filing.figure, filing.mass, filing.unit, "")
+    filed = filing.sheet, filing.figure.row, filing.figure.mechanism, filing.mass, filing.unit
     sheet = sheets.get(filing.sheet)
     if sheet is None:
-        return start._replace(verdict="absent", note=_no_sheet(filing.sheet, sheets))
-    start = start._replace(sha256=sheet.digest)
+        return Mark(*filed, "absent", note=_no_sheet(filing.sheet, sheets))
     if sheet.refusal:
-        return start._replace(verdict="refused", note=sheet.refusal)
+        return Mark(*filed, "refused", note=sheet.refusal, sha256=sheet.digest)
     band = sheet.bands.get(filing.figure)
     if band is None:
-        return start._replace(verdict="absent", note="the sheet has %s" % counted((len(sheet.bands) - 13) // 3, "row"))
+        return Mark(*filed, "absent", note="the sheet has %s" % counted((len(sheet.bands) - 13) // 3, "row"), sha256=sheet.digest)
     outcome, off = library.mark(filing.filed, band)
-    start = start._replace(verdict=outcome.name.lower(), low_mg=band.low, high_mg=band.high)
-    if outcome in (Outcome.LOW, Outcome.HIGH):
-        return start._replace(off_mg=off, note="the mass is %s" % shown(band, filing.unit))
-    if outcome == Outcome.FITS:
-        return start._replace(note="the band does not settle it: some masses in it round to this figure and some do not")
-    if outcome == Outcome.UNREADABLE:
-        return start._replace(note="10^18 mg or more, or a last place below 10^-6 mg")
-    return start
+    wrong = outcome in (Outcome.LOW, Outcome.HIGH)
+    note = "the mass is %s" % shown(band, filing.unit) if wrong else NOTES.get(outcome, "")
+    return Mark(*filed, VERDICTS[outcome], band.low, band.high, off if wrong else "", note, sheet.digest)
 
 
 def _no_sheet(name: str, sheets: dict[str, Marked]) -> str:

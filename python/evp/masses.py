@@ -1,8 +1,8 @@
 """Masses in words. Nothing is calculated but the place of a decimal sign: the milligrams are the library's."""
 
-from evp.explain import apart
 from evp.layout import decimal
 from evp.library import Band, Unit
+from evp.wording import apart
 
 UNITS = {"mg": Unit.MG, "g": Unit.G, "kg": Unit.KG, "t": Unit.T}
 POWERS = {"mg": 0, "g": 3, "kg": 6, "t": 9}  # of ten, in milligrams

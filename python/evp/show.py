@@ -4,12 +4,13 @@ from collections.abc import Iterable, Iterator
 from typing import NamedTuple
 
 from evp import layout
-from evp.explain import apart, contents
+from evp.explain import contents
 from evp.figures import GROUP_NAMES, TOTAL, Figure, bands, groups
 from evp.layout import CLASSES, canister_name, technology_name
 from evp.library import MECHANISMS, SPECIES, Band, Masses, Report
 from evp.masses import between, exact, shown
 from evp.tables import table_text
+from evp.wording import apart
 
 
 def aligned(lines: Iterable[tuple[str, ...]], left: int) -> Iterator[str]:

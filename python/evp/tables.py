@@ -9,7 +9,7 @@ from collections.abc import Iterable, Iterator
 from typing import NamedTuple
 
 from evp.files import InputError
-from evp.sheet.words import quoted
+from evp.wording import quoted
 
 NOTE = "note"  # a column for remarks, which is not read
 

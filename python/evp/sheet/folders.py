@@ -4,15 +4,16 @@ import re
 from collections.abc import Iterable
 from pathlib import Path
 
-from evp.files import InputError, name_shown, read_text
+from evp.files import InputError, read_text
 from evp.layout import (
     LISTS_END, MILEAGE, ROW_FIELDS, SEASON_FIELDS, Field, counts, decimal, has_grid, has_mileage, length_of, row_count, row_place,
     season_count, season_place, version_of,
 )
 from evp.sheet.builder import Builder
 from evp.sheet.reader import record_words
-from evp.sheet.words import TextError, quoted
+from evp.sheet.words import TextError
 from evp.tables import NOTE, Line, Table, read_table, table_text
+from evp.wording import name_shown, quoted
 
 SEASONS, FLEET, PARKING, GRID = "seasons.csv", "fleet.csv", "parking.csv", "grid.csv"
 SEASON_COLUMNS = [field.name for field in SEASON_FIELDS]

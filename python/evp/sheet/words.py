@@ -3,6 +3,7 @@
 import re
 
 from evp.layout import Field
+from evp.wording import quoted
 
 MOST_DIGITS = 12  # no field holds a number of more
 
@@ -13,11 +14,6 @@ class TextError(Exception):
     @property
     def messages(self) -> list[str]:
         return str(self).split("\n")
-
-
-def quoted(word: str) -> str:
-    """A word of someone else in a message: nothing that a terminal would obey, and not long."""
-    return repr(word if len(word) <= 40 else word[:40] + "…")
 
 
 def _no_number(word: str) -> str:

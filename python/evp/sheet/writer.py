@@ -3,7 +3,8 @@
 from collections.abc import Iterable
 
 from evp.sheet.builder import GRID, LISTS, ROW_NAMES, SEASON_NAMES, SINGLE, Builder
-from evp.sheet.words import TextError, quoted, whole_number
+from evp.sheet.words import TextError, whole_number
+from evp.wording import quoted
 
 
 def write(text: str) -> bytes:
