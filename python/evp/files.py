@@ -54,6 +54,8 @@ def read_text(name: str | os.PathLike) -> str:
         raise InputError("%s: this is a workbook or an archive; save its tables as csv, in Excel as \"CSV UTF-8\"" % shown)
     if data.startswith(b"EVP"):
         raise InputError("%s: this is a sheet already; evp read makes a text of it" % shown)
+    if not data.strip():
+        raise InputError("%s: the file is empty" % shown)
     zero = data.find(0)
     if zero >= 0:
         raise InputError("%s: this is no text: byte %d is 0" % (shown, zero))

@@ -28,7 +28,7 @@ def rounded(milligrams: int, unit: str, places: int) -> str:
 
 def shown(band: Band, unit: str | None = None) -> str:
     """A band as one number with its unit: the digits to which low and high both round, at most five. Where they round
-    to no common whole number, both."""
+    to no common whole number, whole numbers around both."""
     unit = unit or best_unit(band.high)
     if band.low == band.high and unit == "mg" or band.high == 0:
         return "%s %s" % (apart(band.high), unit)
@@ -37,7 +37,8 @@ def shown(band: Band, unit: str | None = None) -> str:
         number = rounded(band.low, unit, places)
         if number == rounded(band.high, unit, places):
             return "%s %s" % (number, unit)
-    return "%s to %s %s" % (rounded(band.low, unit, 0), rounded(band.high, unit, 0), unit)
+    step = 10 ** POWERS[unit]
+    return "%s to %s %s" % (apart(band.low // step), apart(-(-band.high // step)), unit)
 
 
 def between(band: Band, unit: str) -> str:

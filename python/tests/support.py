@@ -58,7 +58,7 @@ def run(*words: object, given: bytes = b"") -> Run:
     finally:
         sys.stdin = stdin
     out.flush()
-    return Run(status, out.buffer.getvalue().decode(), err.getvalue())
+    return Run(status, out.buffer.getvalue().decode(errors="replace"), err.getvalue())
 
 
 def sample(name: str) -> bytes:

@@ -9,6 +9,8 @@ from evp.layout import (
 from evp.sheet.builder import GRID, LISTS, version_for
 from evp.sheet.words import TextError
 
+MOST_TAIL = 1000  # bytes behind the records that a text tells
+
 
 def read(data: bytes) -> str:
     """The text of a sheet's bytes; write() makes the same bytes of it."""
@@ -17,6 +19,8 @@ def read(data: bytes) -> str:
     end = length_of(data)
     if len(data) < end:
         raise TextError("%d bytes, too few for the records its head tells of" % len(data))
+    if len(data) > end + MOST_TAIL:
+        raise TextError("%d bytes follow the records its head tells of; evp explain says what is wrong" % (len(data) - end))
     lines = [*_head(data), *_parking(data), *_seasons(data), *_rows(data)]
     if data[end:]:
         lines.append("tail %s" % data[end:].hex())
