@@ -3,6 +3,7 @@
 Number, place, reason, field, value and limits are those of the library's `explain`; here they get names and units.
 """
 
+import re
 from collections.abc import Callable
 from typing import NamedTuple
 
@@ -12,6 +13,7 @@ from evp.library import SHEET_BYTES, Finding, Library, MissingCall, Refusal
 from evp.wording import apart, counted
 
 SHIFT = 32768  # what a finding adds to temperatures
+BYTES = re.compile(r" \(bytes? [0-9]+(?: to [0-9]+)?\)")  # as byte_range has them, in brackets
 
 # What a call refuses besides a sheet.
 CALLS = {
@@ -87,11 +89,11 @@ class Explanation(NamedTuple):
 
     @property
     def text(self) -> str:
-        """One line without number and place."""
+        """One line without number, place and bytes."""
         if not self.number:
             return self.words.sentence
         start = "%s: " % self.record_name if self.index else ""
-        return start + "; ".join(word for word in (self.words.sentence, self.words.advice) if word)
+        return start + "; ".join(BYTES.sub("", word) for word in (self.words.sentence, self.words.advice) if word)
 
     @property
     def line(self) -> str:
@@ -173,7 +175,7 @@ def _range(site: Site) -> str:
 def _looks_like(data: bytes) -> str:
     """What a file that is no sheet seems to be, and what to do."""
     if not data.strip(b"\0"):
-        return "all its bytes are 0: take the sheet again from where it was made"
+        return "all its bytes are 0: take the sheet again"
     if data.startswith(b"PK\3\4"):
         return "this looks like a workbook: save its tables as csv, then evp write makes a sheet of them"
     try:
@@ -187,7 +189,7 @@ def _looks_like(data: bytes) -> str:
 
 def _short(site: Site) -> Words:
     if not site.data:
-        return Words("the file is empty", "take the sheet again from where it was made")
+        return Words("the file is empty", "take the sheet again")
     return Words("%s, and a sheet has at least 8 for its head" % counted(len(site.data), "byte"), _looks_like(site.data))
 
 
@@ -223,7 +225,7 @@ def _length(site: Site) -> Words:
     off = asked - len(data)
     beyond = "" if len(data) > SHEET_BYTES else ": %s %s" % (
         apart(abs(off)), ("is missing" if off == 1 else "are missing") if off > 0 else "too many")
-    return Words("the sheet has %s, and its head (%s) asks for %s%s" % (size, contents(data), apart(asked), beyond), _length_advice(data))
+    return Words("%s, and the head (%s) asks for %s%s" % (size, contents(data), apart(asked), beyond), _length_advice(data))
 
 
 def _length_advice(data: bytes) -> str:
@@ -234,7 +236,7 @@ def _length_advice(data: bytes) -> str:
     rows, rest = divmod(len(data) - layout.row_place(data, 0), layout.ROW_BYTES)
     if not rest and rows > 0 and len(data) <= SHEET_BYTES:
         return "it is as long as a sheet with %s: look at byte 6, or take the whole file again" % counted(rows, "row")
-    return "take the whole file again from where it was made"
+    return "take the whole file again"
 
 
 def _sum_of_counts(what: str) -> Callable[[Site], Words]:

@@ -34,7 +34,7 @@ class Misreading(NamedTuple):
 
 MISREADINGS = (
     Misreading("cooling", "vapour counted while it cools", "no parking cools", lambda row: True, ("diurnal",)),
-    Misreading("divided", "divided by s, so that small and large canisters change places", "no canister is small or large",
+    Misreading("divided", "load divided by s, not multiplied", "no canister is small or large",
                lambda row: layout.canister_of(row) in (1, 3)),
     Misreading("cut", "vapour cut off at m_sat", "no canister overflows", lambda row: layout.canister_of(row) != 0),
 )
@@ -123,8 +123,9 @@ class Guesser:
         """Which misreadings this sheet cannot tell from the right reading."""
         if not reckoning():
             return "; the misreadings are not tried: the second reckoning, tools/, is not there"
-        unseen = ["%s (%s)" % (misreading.words, misreading.unseen) for misreading in MISREADINGS if self.unseen.get(misreading.name)]
-        return "; this sheet cannot tell from the right reading: " + "; ".join(unseen) if unseen else ""
+        unseen = ["%s (%s)" % (misreading.words, misreading.unseen) for misreading in MISREADINGS
+                  if self.unseen.get(misreading.name)]
+        return "; this sheet cannot show: " + ", ".join(unseen) if unseen else ""
 
     def _misread(self, figure: Figure, misreading: Misreading) -> Band:
         """The mass that a figure would have, cut down and up to milligrams."""

@@ -48,17 +48,27 @@ class Run(NamedTuple):
 def run(*words: object, given: bytes = b"") -> Run:
     """A command of evp, in this process."""
     out, err = io.TextIOWrapper(io.BytesIO(), "utf-8"), io.StringIO()
+    status = _run(words, out, err, given)
+    out.flush()
+    return Run(status, out.buffer.getvalue().decode(errors="replace"), err.getvalue())
+
+
+def run_together(*words: object) -> str:
+    """What a command prints, both streams as they come."""
+    out = io.StringIO()
+    _run(words, out, out)
+    return out.getvalue()
+
+
+def _run(words, out, err, given: bytes = b"") -> int:
     stdin, sys.stdin = sys.stdin, io.TextIOWrapper(io.BytesIO(given))
     try:
         with contextlib.redirect_stdout(out), contextlib.redirect_stderr(err):
-            try:
-                status = cli.main([str(word) for word in words])
-            except SystemExit as error:  # argparse
-                status = error.code
+            return cli.main([str(word) for word in words])
+    except SystemExit as error:  # argparse
+        return error.code
     finally:
         sys.stdin = stdin
-    out.flush()
-    return Run(status, out.buffer.getvalue().decode(errors="replace"), err.getvalue())
 
 
 def sample(name: str) -> bytes:

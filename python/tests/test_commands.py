@@ -47,7 +47,7 @@ class ShowTest(DeskTestCase):
     def test_refused(self):
         path = self.put_sheet("a.evp", TEXT.replace("fill=40", "fill=200"))
         found = run("show", path)
-        self.assertEqual(found, (1, "", "%s: refused 15 at 120: row 1: fill 200 %% (byte 125) is above 100 %%; write at most 100\n" % path))
+        self.assertEqual(found, (1, "", "%s: refused 15 at 120: row 1: fill 200 %% is above 100 %%; write at most 100\n" % path))
 
 
 class ConvertTest(DeskTestCase):

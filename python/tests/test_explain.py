@@ -30,7 +30,7 @@ refused 1 at 0: sheet
     ((1, 1), TEXT + "cut 0", """
 refused 1 at 0: sheet
   the file is empty
-  take the sheet again from where it was made
+  take the sheet again
 """),
     ((2, 1), TEXT + "letters 4f5650", """
 refused 2 at 0: head (bytes 0 to 7)
@@ -79,22 +79,22 @@ refused 6 at 7: head (bytes 0 to 7)
 """),
     ((7, 1), TEXT + "cut 150", """
 refused 7 at 0: sheet
-  the sheet has 150 bytes, and its head (version 1, 2 seasons, 2 rows) asks for 168: 18 are missing
-  take the whole file again from where it was made
+  150 bytes, and the head (version 1, 2 seasons, 2 rows) asks for 168: 18 are missing
+  take the whole file again
 """),
     ((7, 1), TEXT + "tail 00", """
 refused 7 at 0: sheet
-  the sheet has 169 bytes, and its head (version 1, 2 seasons, 2 rows) asks for 168: 1 too many
-  take the whole file again from where it was made
+  169 bytes, and the head (version 1, 2 seasons, 2 rows) asks for 168: 1 too many
+  take the whole file again
 """),
     ((7, 1), TEXT + "version 2", """
 refused 7 at 0: sheet
-  the sheet has 168 bytes, and its head (version 2, 2 seasons, 2 rows) asks for 1,224: 1,056 are missing
+  168 bytes, and the head (version 2, 2 seasons, 2 rows) asks for 1,224: 1,056 are missing
   it is as long as a sheet of version 1: look at bytes 3 and 4
 """),
     ((7, 1), TEXT + "rows 3", """
 refused 7 at 0: sheet
-  the sheet has 168 bytes, and its head (version 1, 2 seasons, 3 rows) asks for 192: 24 are missing
+  168 bytes, and the head (version 1, 2 seasons, 3 rows) asks for 192: 24 are missing
   it is as long as a sheet with 2 rows: look at byte 6, or take the whole file again
 """),
     ((8, 1), changed("durations 420", "durations 4200"), """
@@ -307,8 +307,7 @@ class WordsTest(DeskTestCase):
             "  load 70.0 g (bytes 160 to 161) is above m_sat 60.0 g (bytes 162 to 163)",
             "  canister: medium, by class 2 technology 3", "  write at most 60.0\n")), ""))
         self.assertEqual(run("check", path), (
-            1, "%s: refused 19 at 144: row 2: load 70.0 g (bytes 160 to 161) is above m_sat 60.0 g (bytes 162 to 163); "
-            "write at most 60.0\n" % path, ""))
+            1, "%s: refused 19 at 144: row 2: load 70.0 g is above m_sat 60.0 g; write at most 60.0\n" % path, ""))
         self.assertEqual(run("explain", self.put_sheet("b.evp", TEXT)), (0, "accepted: version 1, 2 seasons, 2 rows\n", ""))
 
     def test_json(self):

@@ -67,7 +67,7 @@ class CourseTest(DeskTestCase):
         said = [line for line in found.out.splitlines() if "guess: " in line]
         for expected in (
             "  guess: south.evp: 10 figures: the figure is in kg, not in t",
-            "  guess: lakes.evp: 8 figures: divided by s, so that small and large canisters change places",
+            "  guess: lakes.evp: 8 figures: load divided by s, not multiplied",
             "  guess: moor.evp: 4 figures: vapour counted while it cools",
             "  guess: delta.evp: 6 figures: light-duty and two-wheelers are exchanged",
             "  guess: ridge.evp: 1 figure: cut, not rounded",
@@ -75,8 +75,8 @@ class CourseTest(DeskTestCase):
         ):
             self.assertIn(expected, said)
         self.assertIn("no guess: glen.evp: ", found.out)
-        self.assertIn("this sheet cannot tell from the right reading: divided by s, so that small and large canisters change places "
-                      "(no canister is small or large); vapour cut off at m_sat (no canister overflows)", found.out)
+        self.assertIn("this sheet cannot show: load divided by s, not multiplied (no canister is small or large), "
+                      "vapour cut off at m_sat (no canister overflows)", found.out)
         notes = (self.folder / "marks.csv").read_text()
         self.assertIn("; guess: vapour counted while it cools,", notes)
         self.assertNotIn("guess", "".join(line for line in notes.splitlines() if line.startswith("north")))

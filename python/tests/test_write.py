@@ -89,8 +89,8 @@ class TextTest(DeskTestCase):
         path = self.put("a.txt", TEXT.replace("load=32.0", "load=70.0"))
         found = run("write", path)
         self.assertEqual((found.status, found.out), (
-            1, "%s: 168 bytes, refused 19 at 144: row 2: load 70.0 g (bytes 160 to 161) is above m_sat 60.0 g (bytes 162 to 163); "
-            "write at most 60.0 (%s: line 6)\n" % (self.folder / "a.evp", path)))
+            1, "%s: 168 bytes, refused 19 at 144: row 2: load 70.0 g is above m_sat 60.0 g; write at most 60.0 (%s: line 6)\n" % (
+                self.folder / "a.evp", path)))
 
     def test_text_is_never_overwritten(self):
         path = self.put("a.evp", TEXT)
