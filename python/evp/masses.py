@@ -40,9 +40,3 @@ def shown(band: Band, unit: str | None = None) -> str:
     step = 10 ** POWERS[unit]
     return "%s to %s %s" % (apart(band.low // step), apart(-(-band.high // step)), unit)
 
-
-def between(band: Band, unit: str) -> str:
-    """Both ends of a band, whole."""
-    if unit == "mg":
-        return "%s to %s mg" % (apart(band.low), apart(band.high))
-    return "%s to %s %s" % (exact(band.low, unit), exact(band.high, unit), unit)

@@ -8,9 +8,13 @@ from evp.explain import contents
 from evp.figures import GROUP_NAMES, TOTAL, Figure, bands, groups
 from evp.layout import CLASSES, canister_name, technology_name
 from evp.library import MECHANISMS, SPECIES, Band, Masses, Report
-from evp.masses import between, exact, shown
+from evp.masses import exact, shown
 from evp.tables import table_text
 from evp.wording import apart
+
+SHORT_NAMES = {  # of classes, for a table that a terminal has room for
+    1: "car < 1.4 l", 2: "car 1.4-2.0 l", 3: "car > 2.0 l", 7: "4-stroke < 250", 8: "4-stroke to 750", 9: "4-stroke > 750",
+}
 
 
 def aligned(lines: Iterable[tuple[str, ...]], left: int) -> Iterator[str]:
@@ -22,29 +26,35 @@ def aligned(lines: Iterable[tuple[str, ...]], left: int) -> Iterator[str]:
         yield "  ".join(words).rstrip()
 
 
-def _mass(band: Band, unit: str | None) -> str:
-    return between(band, unit) if unit == "mg" else shown(band, unit)
-
-
 def vehicles_of(data: bytes) -> list[int]:
     return [layout.row(data, i)["vehicles"] for i in range(layout.row_count(data))]
 
 
 def report_lines(file: str, data: bytes, report: Report, unit: str | None = None) -> Iterator[str]:
-    """The table of a sheet."""
+    """The table of a sheet: a line for each row, or for mg, where the bands are shown, one for each figure."""
     yield "%s: %s, %s vehicles" % (file, contents(data), apart(sum(vehicles_of(data))))
     yield ""
-    lines = [("row", "vehicle", "technology", "canister", "vehicles", *MECHANISMS)]
+    if unit == "mg":
+        lines = [("", "low mg", "high mg")]
+        lines += [(figure.name, apart(band.low), apart(band.high)) for figure, band in bands(report).items()]
+        yield from aligned(lines, 1)
+        yield ""
+        yield "The exact masses lie between, both ends included."
+        return
+    yield from aligned(_table(data, report, unit), 4)
+    yield ""
+    yield "total %s" % shown(report.total, unit)
+    yield "Every digit is certain; --unit mg shows the bands."
+
+
+def _table(data: bytes, report: Report, unit: str | None) -> Iterator[tuple[str, ...]]:
+    yield "row", "vehicle", "technology", "canister", "vehicles", *MECHANISMS
     for i, masses in enumerate(report.rows):
         row = layout.row(data, i)
-        lines.append((str(i + 1), CLASSES[row["class"]][0], technology_name(row["technology"]), canister_name(row),
-                      apart(row["vehicles"]), *(_mass(band, unit) for band in masses)))
+        yield (str(i + 1), SHORT_NAMES.get(row["class"], CLASSES[row["class"]][0]), technology_name(row["technology"]),
+               canister_name(row), apart(row["vehicles"]), *(shown(band, unit) for band in masses))
     for name, masses in groups(report):
-        lines.append(("", GROUP_NAMES[name], "", "", "", *(_mass(band, unit) for band in masses)))
-    yield from aligned(lines, 4)
-    yield ""
-    yield "total %s" % _mass(report.total, unit)
-    yield "Every digit is certain; --unit mg shows the bands." if unit != "mg" else "The exact masses lie between, both ends included."
+        yield "", GROUP_NAMES[name], "", "", "", *(shown(band, unit) for band in masses)
 
 
 def report_csv(report: Report, unit: str | None = None) -> str:
