@@ -16,9 +16,10 @@ STATUS = "Exit status 0 fine, 1 refused or a figure wrong, 2 not readable or not
 class Parser(argparse.ArgumentParser):
     """A parser whose help ends with examples."""
 
-    def __init__(self, *words, example: str = "", **more):
-        epilog = "example:\n%s\n\n%s" % ("\n".join("  " + line for line in example.splitlines()), STATUS) if example else STATUS
-        super().__init__(*words, epilog=epilog, formatter_class=argparse.RawDescriptionHelpFormatter, **more)
+    def __init__(self, *words, example: str, **more):
+        lines = "".join("  %s\n" % line for line in example.splitlines())
+        super().__init__(*words, epilog="example:\n%s\n%s" % (lines, STATUS),
+                         formatter_class=argparse.RawDescriptionHelpFormatter, **more)
 
 
 def _add(subparsers, name: str, run, about: str, example: str, *options: str) -> Parser:
@@ -33,8 +34,10 @@ def _add(subparsers, name: str, run, about: str, example: str, *options: str) ->
 
 
 def parser() -> Parser:
-    top = Parser(prog="evp", description="The desk of the evaporation workbook: sheets written, checked, explained, shown and marked. "
-                 "- stands for standard input.", example="evp write north.txt\nevp show north.evp\nevp mark sheets --filed filed.csv -o marks.csv")
+    top = Parser(
+        prog="evp", description="The desk of the evaporation workbook: sheets written, checked, explained, shown and marked. "
+        "- stands for standard input.",
+        example="evp write north.txt\nevp show north.evp\nevp mark sheets --filed filed.csv -o marks.csv")
     add = top.add_subparsers(required=True, metavar="COMMAND", parser_class=Parser)
     _add_sheet_commands(add)
     _add_table_commands(add)
@@ -65,27 +68,34 @@ def _add_table_commands(add):
                  "makes a sheet from a text, or from a folder with seasons.csv, fleet.csv and parking.csv or grid.csv",
                  "evp write north.txt\nevp write north -o north.evp", "force")
     write.add_argument("source", metavar="TEXT|FOLDER")
-    write.add_argument("-o", dest="output", metavar="SHEET", help="the name of TEXT or FOLDER with .evp where none is given")
+    write.add_argument("-o", dest="output", metavar="SHEET",
+                       help="the name of TEXT or FOLDER with .evp where none is given")
     write.add_argument("--version", type=int, choices=(1, 2, 3, 4), help="another version than the text makes")
-    read = _add(add, "read", commands.read_back, "prints the text of a sheet, or makes its csv files", "evp read north.evp --csv north", "force")
+    read = _add(add, "read", commands.read_back, "prints the text of a sheet, or makes its csv files",
+                "evp read north.evp --csv north", "force")
     read.add_argument("sheet", metavar="SHEET")
     read.add_argument("--csv", metavar="FOLDER", help="make seasons.csv, fleet.csv and parking.csv or grid.csv there")
-    template = _add(add, "template", commands.template, "makes empty csv files with every column, its unit and its limits",
+    template = _add(add, "template", commands.template,
+                    "makes empty csv files with every column, its unit and its limits",
                     "evp template north\nevp template north --grid --semicolon", "force")
     template.add_argument("folder", metavar="FOLDER")
-    template.add_argument("--grid", action="store_true", help="parkings by end hour and duration together, and a mileage")
+    template.add_argument("--grid", action="store_true",
+                          help="parkings by end hour and duration together, and a mileage")
     for command in (read, template):
         command.add_argument("--semicolon", action="store_true", help="columns parted by ; and a decimal comma")
 
 
 def _add_report_commands(add):
     mark = _add(add, "mark", commands.mark, "marks filed masses against the sheets of a folder",
-                "evp mark sheets --filed filed.csv -o marks.csv\nevp mark sheets --filed filed.csv -o marks.csv --hints", "json", "force")
+                "evp mark sheets --filed filed.csv -o marks.csv\n"
+                "evp mark sheets --filed filed.csv -o marks.csv --hints", "json", "force")
     mark.add_argument("folder", metavar="FOLDER", help="its files whose names end with .evp are the sheets")
     mark.add_argument("--filed", required=True, metavar="FILE", help="csv: sheet,row,mechanism,mass,unit")
-    mark.add_argument("-o", dest="output", metavar="FILE", help="csv: the same columns, then verdict,low_mg,high_mg,off_mg,note,sha256")
+    mark.add_argument("-o", dest="output", metavar="FILE",
+                      help="csv: the same columns, then verdict,low_mg,high_mg,off_mg,note,sha256")
     mark.add_argument("--hints", action="store_true", help="guess at the reason of a wrong figure")
-    compare = _add(add, "compare", commands.compare, "says which masses of two sheets differ for certain, and which way",
+    compare = _add(add, "compare", commands.compare,
+                   "says which masses of two sheets differ for certain, and which way",
                    "evp compare summer.evp derogation.evp", "json")
     compare.add_argument("a", metavar="A")
     compare.add_argument("b", metavar="B")
@@ -93,9 +103,11 @@ def _add_report_commands(add):
                    "evp species north.evp --csv")
     species.add_argument("sheet", metavar="SHEET")
     species.add_argument("--csv", action="store_true")
-    cells = _add(add, "cells", commands.cells, "makes the urban, rural and highway cells of the rows of a sheet, as csv",
+    cells = _add(add, "cells", commands.cells,
+                 "makes the urban, rural and highway cells of the rows of a sheet, as csv",
                  "evp cells north.evp --travel travel.csv -o cells.csv\n\ntravel.csv, a line for a row or for all:\n"
-                 "row,town,urban_mileage,rural_mileage,highway_mileage,rural_speed,highway_speed\nall,yes,40,35,25,60,100", "force")
+                 "row,town,urban_mileage,rural_mileage,highway_mileage,rural_speed,highway_speed\n"
+                 "all,yes,40,35,25,60,100", "force")
     cells.add_argument("sheet", metavar="SHEET")
     cells.add_argument("--travel", required=True, metavar="FILE")
     cells.add_argument("-o", dest="output", metavar="FILE")
@@ -125,5 +137,6 @@ def main(words: list[str] | None = None) -> int:
     except Exception as error:  # no traceback reaches a user
         if os.environ.get("EVP_TRACEBACK"):
             raise
-        _complain("this is a fault of evp itself: %s: %s\nEVP_TRACEBACK=1 says more" % (type(error).__name__, str(error)[:200]))
+        _complain("this is a fault of evp itself: %s: %s\nEVP_TRACEBACK=1 says more" % (
+            type(error).__name__, str(error)[:200]))
     return 2

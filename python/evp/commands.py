@@ -140,7 +140,8 @@ def write_sheet(given: Namespace) -> int:
         print("evp: note: %s" % line, file=sys.stderr)
     explanation = explain(library, data)
     out = sys.stderr if target == "-" else sys.stdout
-    print("%s: %d bytes, %s%s" % (name_shown(target), len(data), explanation.line, _source_of(builder, explanation)), file=out)
+    print("%s: %d bytes, %s%s" % (
+        name_shown(target), len(data), explanation.line, _source_of(builder, explanation)), file=out)
     return REFUSED if explanation.number else FINE
 
 
@@ -161,8 +162,8 @@ def read_back(given: Namespace) -> int:
         raise InputError("%s: %s" % (name_shown(given.sheet), error)) from None
     _write_tables(given.csv, tables, given.force)
     if told_version(data) is not None:
-        print("evp: note: these tables make another version; evp write --version %d gives this one back" % told_version(data),
-              file=sys.stderr)
+        print("evp: note: these tables make another version; evp write --version %d gives this one back" % (
+            told_version(data)), file=sys.stderr)
     return FINE
 
 
@@ -302,8 +303,9 @@ def _say_pool_refusal(library: Library, refusal: Refusal, names: tuple[str, str]
         return
     name, data = names[refusal.sheet - 1], sheets[refusal.sheet - 1]
     explanation = explain(library, data)
-    line = explanation.line if explanation.number == refusal.number else (
-        "refused %d at %d: only sheets of version 4 are pooled; evp convert --to 4 makes one" % (refusal.number, refusal.place))
+    line = explanation.line
+    if explanation.number != refusal.number:
+        line = "%s: only sheets of version 4 are pooled; evp convert --to 4 makes one" % refusal
     print("%s: %s" % (name_shown(name), line), file=sys.stderr)
 
 

@@ -19,7 +19,7 @@ def converted(data: bytes, version: int) -> bytes:
 
 
 def _products(durations: list[int], hours: list[int]) -> bytes:
-    """The grid of two lists; where a product is too large for a count, of the lists with their common factors taken out."""
+    """The grid of two lists; where a product is too large for a count, of the lists with common factors taken out."""
     if max(durations) * max(hours) > MOST_COUNT:
         durations, hours = ([count // math.gcd(*counts) for count in counts] for counts in (durations, hours))
     if max(durations) * max(hours) > MOST_COUNT:

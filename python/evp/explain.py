@@ -105,12 +105,13 @@ class Explanation(NamedTuple):
         """The record, then what is wrong, what to look at and what would pass."""
         if not self.number:
             return [self.words.sentence]
-        head = ": %s%s" % (self.record_name, " (%s)" % self.record_bytes if self.record_bytes else "") if self.record else ""
+        where = " (%s)" % self.record_bytes if self.record_bytes else ""
+        head = "%s: %s%s" % (self.refusal, self.record_name, where) if self.record else self.refusal
         rest = (self.words.sentence, *self.words.context, self.words.advice)
-        return [self.refusal + head, *("  " + word for word in rest if word)]
+        return [head, *("  " + word for word in rest if word)]
 
     def json(self, file: str) -> dict:
-        keys = ("number", "place", "reason", "record", "index", "field", "at", "bytes", "value", "least", "most", "unit")
+        keys = self._fields[:self._fields.index("unit") + 1]
         return {"file": file, **{key: getattr(self, key) for key in keys}, "text": self.text}
 
 
@@ -122,7 +123,8 @@ def explain(library: Library, data: bytes) -> Explanation:
     try:
         return explanation(data, library.explain(data))
     except MissingCall:
-        return Explanation(refusal.number, refusal.place, words=Words("this library cannot say why; docs/SHEET.md has the numbers", ""))
+        words = Words("this library cannot say why; docs/SHEET.md has the numbers", "")
+        return Explanation(refusal.number, refusal.place, words=words)
 
 
 def contents(data: bytes) -> str:
@@ -190,12 +192,14 @@ def _looks_like(data: bytes) -> str:
 def _short(site: Site) -> Words:
     if not site.data:
         return Words("the file is empty", "take the sheet again")
-    return Words("%s, and a sheet has at least 8 for its head" % counted(len(site.data), "byte"), _looks_like(site.data))
+    return Words("%s, and a sheet has at least 8 for its head" % counted(len(site.data), "byte"),
+                 _looks_like(site.data))
 
 
 def _letters(site: Site) -> Words:
     found = " ".join("%02x" % byte for byte in site.data[:3])
-    return Words("a sheet starts with the letters EVP, 45 56 50 hexadecimal; this one with %s" % found, _looks_like(site.data))
+    return Words("a sheet starts with the letters EVP, 45 56 50 hexadecimal; this one with %s" % found,
+                 _looks_like(site.data))
 
 
 def _version(site: Site) -> Words:
@@ -216,7 +220,8 @@ def _count(name: str) -> Callable[[Site], Words]:
 
 
 def _zero_byte(site: Site) -> Words:
-    return Words("byte 7 is %d, and it must be 0 up to version 3" % site.value, "write 0; more than 255 rows need version 4")
+    return Words("byte 7 is %d, and it must be 0 up to version 3" % site.value,
+                 "write 0; more than 255 rows need version 4")
 
 
 def _length(site: Site) -> Words:
@@ -225,7 +230,8 @@ def _length(site: Site) -> Words:
     off = asked - len(data)
     beyond = "" if len(data) > SHEET_BYTES else ": %s %s" % (
         apart(abs(off)), ("is missing" if off == 1 else "are missing") if off > 0 else "too many")
-    return Words("%s, and the head (%s) asks for %s%s" % (size, contents(data), apart(asked), beyond), _length_advice(data))
+    return Words("%s, and the head (%s) asks for %s%s" % (size, contents(data), apart(asked), beyond),
+                 _length_advice(data))
 
 
 def _length_advice(data: bytes) -> str:
@@ -250,7 +256,8 @@ def _days_so_far(site: Site) -> Words:
     own = layout.season(site.data, site.finding.index)["days"]
     before = site.value - own
     left = site.most - before
-    advice = "write at most %d here" % left if left > 0 else "the seasons before have all days of a year: leave this one out"
+    advice = "write at most %d here" % left if left > 0 else (
+        "the seasons before have all days of a year: leave this one out")
     return Words("its %s (%s) and the %d of the seasons before are %s, and a year has at most %d" % (
         counted(own, "day"), site.where, before, counted(site.value, "day"), site.most), advice)
 
@@ -325,7 +332,8 @@ def _load(site: Site) -> Words:
 
 def _without_canister(site: Site) -> Words:
     return Words("%s %s (%s) is given, and the row has no canister" % (
-        _label(site.field), site.amount(site.value), site.where), "write 0, or give the row a canister", _canister_context(site))
+        _label(site.field), site.amount(site.value), site.where),
+        "write 0, or give the row a canister", _canister_context(site))
 
 
 def _saturation(limit: int, advice: str = "") -> Callable[[Site], Words]:
@@ -337,7 +345,8 @@ def _saturation(limit: int, advice: str = "") -> Callable[[Site], Words]:
                 site.amount(site.value), site.where, canister_name(site.row), beside, site.finding.season + 1),
             "write at most %s%s" % (site.field.shown(site.most), advice),
             (*_canister_context(site), "season %d: highest %s, vp %s; a + b·s·m_sat is above %d" % (
-                site.finding.season + 1, site.amount(season["highest"], "highest"), site.amount(season["vp"], "vp"), limit)))
+                site.finding.season + 1, site.amount(season["highest"], "highest"), site.amount(season["vp"], "vp"),
+                limit)))
     return words
 
 
@@ -349,7 +358,8 @@ def _spare(site: Site) -> Words:
 
 def _load_beside_mileage(site: Site) -> Words:
     return Words("load %s (%s) stands beside a mileage of %s (%s)" % (
-        site.amount(site.value), site.where, site.amount(site.row["mileage"], "mileage"), byte_range(site.finding.place + 20, 4)),
+        site.amount(site.value), site.where, site.amount(site.row["mileage"], "mileage"),
+        byte_range(site.finding.place + 20, 4)),
         "write 0 for one of the two", _canister_context(site))
 
 
@@ -426,8 +436,8 @@ def explanation(data: bytes, finding: Finding) -> Explanation:
     record, field, words = REASONS[finding.number, finding.reason]
     shift = SHIFT if field.signed else 0
     value, least, most = finding.value - shift, finding.least - shift, finding.most - shift
-    has_bytes = finding.bytes > 0
+    index = finding.index + 1 if record in ("season", "row") else None
+    at, size = (finding.at, finding.bytes) if finding.bytes else (None, None)
     return Explanation(
-        finding.number, finding.place, finding.reason, record, finding.index + 1 if record in ("season", "row") else None,
-        field.name, finding.at if has_bytes else None, finding.bytes if has_bytes else None, value, least, most, _unit(field),
-        _record_bytes(data, finding, record), words(Site(data, finding, field, value, least, most)))
+        finding.number, finding.place, finding.reason, record, index, field.name, at, size, value, least, most,
+        _unit(field), _record_bytes(data, finding, record), words(Site(data, finding, field, value, least, most)))

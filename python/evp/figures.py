@@ -16,9 +16,11 @@ class Figure(NamedTuple):
 
     @property
     def name(self) -> str:
-        if self.row == TOTAL:
-            return TOTAL
-        return "%s %s" % (GROUP_NAMES.get(self.row, "row " + self.row), self.mechanism)
+        return TOTAL if self.row == TOTAL else "%s %s" % (self.row_name, self.mechanism)
+
+    @property
+    def row_name(self) -> str:
+        return GROUP_NAMES.get(self.row, "row " + self.row)
 
 
 def groups(report: Report) -> Iterator[tuple[str, Masses]]:

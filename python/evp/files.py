@@ -8,6 +8,7 @@ from evp.library import SHEET_BYTES
 from evp.wording import name_shown
 
 TEXT_BYTES = 16_000_000  # no text or table of a sheet is longer
+SAVE = "save it as UTF-8, in Excel as \"CSV UTF-8\""
 
 
 class InputError(Exception):
@@ -49,9 +50,10 @@ def read_text(name: str | os.PathLike) -> str:
     """The text of a file in UTF-8, with or without a byte order mark."""
     data, shown = read_some(name, TEXT_BYTES), name_shown(name)
     if data.startswith((b"\xff\xfe", b"\xfe\xff")):
-        raise InputError("%s: this is UTF-16; save it as UTF-8, in Excel as \"CSV UTF-8\"" % shown)
+        raise InputError("%s: this is UTF-16; %s" % (shown, SAVE))
     if data.startswith(b"PK\3\4"):
-        raise InputError("%s: this is a workbook or an archive; save its tables as csv, in Excel as \"CSV UTF-8\"" % shown)
+        raise InputError("%s: this is a workbook or an archive; save its tables as csv, in Excel as \"CSV UTF-8\"" % (
+            shown))
     if data.startswith(b"EVP"):
         raise InputError("%s: this is a sheet already; evp read makes a text of it" % shown)
     if not data.strip():
@@ -65,8 +67,8 @@ def read_text(name: str | os.PathLike) -> str:
         return data.decode("utf-8-sig")
     except UnicodeDecodeError as error:
         line = data.count(b"\n", 0, error.start) + 1
-        raise InputError("%s: line %d: byte %d (%02x hexadecimal) is no UTF-8; save it as UTF-8, in Excel as \"CSV UTF-8\"" % (
-            shown, line, error.start, data[error.start])) from None
+        raise InputError("%s: line %d: byte %d (%02x hexadecimal) is no UTF-8; %s" % (
+            shown, line, error.start, data[error.start], SAVE)) from None
 
 
 def write_file(name: str | os.PathLike, data: bytes, force: bool = False):

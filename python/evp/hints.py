@@ -1,8 +1,8 @@
 """Guesses at why a filed mass is wrong: its unit, a figure exchanged with another, or a misreading of the guidebook.
 
-A guess about the unit or an exchange asks the library for the verdict on the same digits elsewhere. What a sheet would have
-by a misreading is the second reckoning's under tools/, which the repository has and a release has not. Reading mark 48 as
-hour 24, once a misreading, is none since the day's curve runs through midnight.
+A guess about the unit or an exchange asks the library for the verdict on the same digits elsewhere. What a sheet would
+have by a misreading is the second reckoning's under tools/, which the repository has and a release has not. Reading
+mark 48 as hour 24, once a misreading, is none since the day's curve runs through midnight.
 """
 
 import math
@@ -18,7 +18,8 @@ from evp.library import MECHANISMS, TOP, Band, Library, Outcome, Unit
 from evp.marking import Filing, Mark, Marked
 from evp.wording import counted, name_shown
 
-GROUP_CLASSES = {"cars": range(1, 4), "light": range(4, 5), "two": range(5, 10), "all": range(1, 10), TOTAL: range(1, 10)}
+ALL = range(1, 10)
+GROUP_CLASSES = {"cars": range(1, 4), "light": range(4, 5), "two": range(5, 10), "all": ALL, TOTAL: ALL}
 WRONG = ("low", "high")
 UNIT_NAMES = {Unit.MG: "mg", Unit.G: "g", Unit.KG: "kg", Unit.T: "t"}
 
@@ -40,7 +41,8 @@ MISREADINGS = (
 )
 
 
-def with_hints(library: Library, sheets: dict[str, Marked], filings: list[Filing], marks: list[Mark]) -> tuple[list[Mark], list[str]]:
+def with_hints(library: Library, sheets: dict[str, Marked], filings: list[Filing],
+               marks: list[Mark]) -> tuple[list[Mark], list[str]]:
     """The marks with a guess in the note of each wrong figure, and what to say of the guesses."""
     by_sheet: dict[str, list[int]] = {}
     for i, mark in enumerate(marks):
@@ -67,7 +69,7 @@ def _remarks(name: str, guesses: Iterable[str], guesser: "Guesser") -> Iterator[
 
 def _pair(a: Figure, b: Figure) -> tuple[str, str]:
     """What of two figures is exchanged, the same words for both of them."""
-    names = (a.mechanism, b.mechanism) if a.row == b.row else (Figure(a.row, "").name.strip(), Figure(b.row, "").name.strip())
+    names = (a.mechanism, b.mechanism) if a.row == b.row else (a.row_name, b.row_name)
     return min(names), max(names)
 
 
@@ -90,7 +92,9 @@ class Guesser:
     def _unit(self, filing: Filing) -> str:
         band = self.sheet.bands[filing.figure]
         units = [unit for unit in Unit if unit != filing.filed.unit and self._fits(filing, band, unit)]
-        return "the figure is in %s, not in %s" % (UNIT_NAMES[units[0]], filing.unit) if units and filing.filed.digits else ""
+        if not units or not filing.filed.digits:
+            return ""
+        return "the figure is in %s, not in %s" % (UNIT_NAMES[units[0]], filing.unit)
 
     def _rounding(self, filing: Filing) -> str:
         """The figure that is one more in its last place."""
@@ -104,7 +108,8 @@ class Guesser:
             return ""
         found = [other for other, band in self.sheet.bands.items() if other != filing.figure
                  and (other.row == row or other.mechanism == mechanism) and self._fits(filing, band)]
-        both = [other for other in found if other in self.filings and self._fits(self.filings[other], self.sheet.bands[filing.figure])]
+        band = self.sheet.bands[filing.figure]
+        both = [other for other in found if other in self.filings and self._fits(self.filings[other], band)]
         if len(both) == 1:
             return "%s and %s are exchanged" % _pair(filing.figure, both[0])
         return "this is the mass of %s" % found[0].name if len(found) == 1 else ""
@@ -141,7 +146,8 @@ class Guesser:
         """The rows of a figure, counted from 0."""
         if row not in GROUP_CLASSES:
             return [int(row) - 1]
-        return [i for i in range(layout.row_count(self.sheet.data)) if layout.row(self.sheet.data, i)["class"] in GROUP_CLASSES[row]]
+        data, classes = self.sheet.data, GROUP_CLASSES[row]
+        return [i for i in range(layout.row_count(data)) if layout.row(data, i)["class"] in classes]
 
     def _misread_row(self, i: int, mechanism: str, misreading: Misreading) -> tuple[Fraction | int, Fraction | int]:
         """Both ends of a row's mass: its band where the misreading cannot touch it."""

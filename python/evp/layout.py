@@ -4,8 +4,8 @@ from typing import NamedTuple
 
 
 class Field(NamedTuple):
-    """A number of a record: its name in a text, its bytes, whether it has a sign, in how many parts its unit is counted,
-    the unit, and the least and the most that a sheet may have, in parts; `most` is None where other fields say it."""
+    """A number of a record: its name in a text, its bytes, its unit, in how many parts that is counted, the least and
+    the most that a sheet may have, in parts, and whether it has a sign; `most` is None where other fields say it."""
     name: str
     size: int
     unit: str = ""

@@ -1,7 +1,7 @@
 """The calls of include/evaporation.h in Python, by ctypes.
 
-A call whose answer has a number raises `Refusal` where the number is not 0, and gives the rest of the answer where it is.
-Sheets are bytes; the masses of a report are bands in milligrams, with the exact mass between low and high.
+A call whose answer has a number raises `Refusal` where the number is not 0, and gives the rest of the answer where it
+is. Sheets are bytes; the masses of a report are bands in milligrams, with the exact mass between low and high.
 
     library = load()
     report = library.report(Path("north.evp").read_bytes())
@@ -24,10 +24,12 @@ REPORT_WORDS = 6_026  # of its report
 TEXT_BYTES = 151_622
 LAST_WORDS = 26  # of a report, behind its rows
 SPECIES = (
-    "ethane", "propane", "i-butane", "n-butane", "i-pentane", "n-pentane", "2-methylpentane", "3-methylpentane", "n-hexane",
-    "n-heptane", "ethene", "propene", "1-butene", "trans-2-butene", "isobutene", "cis-2-butene", "1,3-butadiene",
-    "trans-2-pentene", "cis-2-pentene", "isoprene", "propyne", "acetylene", "benzene", "toluene", "ethylbenzene", "m-xylene",
-    "o-xylene", "1,2,4-trimethylbenzene", "1,3,5-trimethylbenzene",
+    "ethane", "propane", "i-butane", "n-butane", "i-pentane", "n-pentane", "2-methylpentane", "3-methylpentane",
+    "n-hexane", "n-heptane",
+    "ethene", "propene", "1-butene", "trans-2-butene", "isobutene", "cis-2-butene", "1,3-butadiene",
+    "trans-2-pentene", "cis-2-pentene", "isoprene",
+    "propyne", "acetylene",
+    "benzene", "toluene", "ethylbenzene", "m-xylene", "o-xylene", "1,2,4-trimethylbenzene", "1,3,5-trimethylbenzene",
 )
 GROUPS = ("cars", "light", "two", "all")  # the subtotals of a report, in its order
 MECHANISMS = ("diurnal", "soak", "running")
@@ -168,8 +170,8 @@ class Verdict(NamedTuple):
 
 
 class Finding(NamedTuple):
-    """What is wrong on a sheet; all zeros where it is accepted. `index` and `season` count from 0; `bytes` is 0 where the
-    length of the sheet is meant; temperatures are tenths of a degree plus 32768."""
+    """What is wrong on a sheet; all zeros where it is accepted. `index` and `season` count from 0; `bytes` is 0 where
+    the length of the sheet is meant; temperatures are tenths of a degree plus 32768."""
     number: int
     place: int
     reason: int
@@ -200,7 +202,7 @@ _Check = _struct("evp_check", "number", "place")
 _FactorBand = _struct("evp_factor_band", "number", "place", "low", "high")
 _PoolCheck = _struct("evp_pool_check", "number", "place", "sheet")
 _RowWords = _struct("evp_row_words", *("%s_%s" % (name, end) for name in MECHANISMS for end in Band._fields))
-_Travel = _struct("evp_travel", *Travel._fields)  # the bytes of `town` are those of a bool, and of a number that is 0 or 1
+_Travel = _struct("evp_travel", *Travel._fields)  # `town` as a number 0 or 1 has the bytes of a bool too
 _Cell = _struct("evp_cell", "kind", ("low", c_double), ("high", c_double))
 _RowCells = _struct("evp_row_cells", "number", "place", ("urban", _Cell), ("rural", _Cell), ("highway", _Cell))
 _CellSum = _struct("evp_cell_sum", "number", "place", ("cell", _Cell))
@@ -425,6 +427,7 @@ class SharedLedger(_Buffers):
 
 TOP = Path(__file__).resolve().parents[2]
 NAME = "libevaporation.so.1"
+FOLDERS = (TOP / "lib", TOP / "target" / "lib")  # of a release, of the repository
 
 
 def find() -> Path | None:
@@ -432,7 +435,7 @@ def find() -> Path | None:
     named = os.environ.get("EVP_LIBRARY")
     if named:
         return Path(named)
-    return next((path for path in (TOP / "lib" / NAME, TOP / "target" / "lib" / NAME) if path.exists()), None)
+    return next((folder / NAME for folder in FOLDERS if (folder / NAME).exists()), None)
 
 
 @cache
@@ -440,5 +443,5 @@ def load() -> Library:
     """The library, loaded once; FileNotFoundError where there is none."""
     path = find()
     if path is None:
-        raise FileNotFoundError("no %s in %s or %s; bash c/shared makes it" % (NAME, TOP / "lib", TOP / "target" / "lib"))
+        raise FileNotFoundError("no %s in %s or %s; bash c/shared makes it" % (NAME, *FOLDERS))
     return Library(path)

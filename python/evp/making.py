@@ -13,7 +13,8 @@ TARGET = "evaporation"
 
 def crates_wanted(listing: str, target: str = TARGET) -> set[str]:
     """The crates that a crate stands on, and itself, by the lines of crates.txt."""
-    below = {name: rest.split() for name, colon, rest in (line.partition(":") for line in listing.splitlines()) if colon}
+    lines = (line.partition(":") for line in listing.splitlines())
+    below = {name: rest.split() for name, colon, rest in lines if colon}
     wanted, left = set(), [target]
     while left:
         name = left.pop()
@@ -30,7 +31,8 @@ def make_library():
         raise InputError("the library libevaporation.so.1 is not there; EVP_LIBRARY=FILE names one")
     for program in ("rt", "gcc"):
         if shutil.which(program) is None:
-            raise InputError("the library is not made yet, and making it needs %s; EVP_LIBRARY=FILE names one that is" % program)
+            raise InputError("the library is not made yet, and making it needs %s; EVP_LIBRARY=FILE names one that is" % (
+                program))
     wanted = crates_wanted((TOP / "crates.txt").read_text(encoding="utf-8"))
     print("evp: the library is not made yet. Proving and making it takes some minutes, once.", file=sys.stderr)
     proved, last = set(), ""

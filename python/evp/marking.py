@@ -10,6 +10,7 @@ from typing import NamedTuple
 from evp.explain import explain
 from evp.figures import TOTAL, Figure, bands
 from evp.files import InputError, failed, read_sheet, read_text
+from evp.layout import row_count
 from evp.library import GROUPS, MECHANISMS, Band, Filed, Library, Outcome, Refusal
 from evp.masses import UNITS, shown
 from evp.sheet.words import TextError
@@ -19,7 +20,8 @@ from evp.wording import counted, name_shown, quoted
 COLUMNS = ["sheet", "row", "mechanism", "mass", "unit"]
 MOST_WORD = 2 ** 64 - 1
 FINE = ("agrees", "fits")
-VERDICTS = ("agrees", "fits", "low", "high", "unreadable", "refused", "absent", "missing")  # the first five as the library counts
+# The first five as the library counts them.
+VERDICTS = ("agrees", "fits", "low", "high", "unreadable", "refused", "absent", "missing")
 NOTES = {
     Outcome.FITS: "the band does not settle it: some masses in it round to this figure and some do not",
     Outcome.UNREADABLE: "10^18 mg or more, or a last place below 10^-6 mg",
@@ -70,7 +72,8 @@ def read_filed(name: str) -> FiledTable:
             filing = _filing(line, table)
             key = filing.sheet, filing.figure
             if key in lines:
-                raise TextError("%s of %s stands in line %d already" % (filing.figure.name, quoted(filing.sheet), lines[key]))
+                raise TextError("%s of %s stands in line %d already" % (
+                    filing.figure.name, quoted(filing.sheet), lines[key]))
             lines[key] = line.number
             filings.append(filing)
         except TextError as error:
@@ -103,8 +106,11 @@ def _filed(mass: str, unit: str, table: Table) -> Filed:
     point, other = table.point, "." if table.point == "," else ","
     form = MASSES[point].fullmatch(mass)
     if form is None:
-        hint = "; with columns parted by %s the decimal sign is %s" % (table.separator, "a comma" if point == "," else "a point")
-        raise TextError("mass: %s is no mass%s" % (quoted(mass), hint if other in mass else "; write digits and at most one decimal sign"))
+        hint = "write digits and at most one decimal sign"
+        if other in mass:
+            name = "a comma" if point == "," else "a point"
+            hint = "with columns parted by %s the decimal sign is %s" % (table.separator, name)
+        raise TextError("mass: %s is no mass; %s" % (quoted(mass), hint))
     if unit not in UNITS:
         raise TextError("unit: %s is none of %s" % (quoted(unit), ", ".join(UNITS)))
     digits, places = (form[1] + (form[2] or "")).lstrip("0"), len(form[2] or "")
@@ -178,7 +184,8 @@ def _mark(library: Library, sheets: dict[str, Marked], filing: Filing) -> Mark:
         return Mark(*filed, "refused", note=sheet.refusal, sha256=sheet.digest)
     band = sheet.bands.get(filing.figure)
     if band is None:
-        return Mark(*filed, "absent", note="the sheet has %s" % counted((len(sheet.bands) - 13) // 3, "row"), sha256=sheet.digest)
+        note = "the sheet has %s" % counted(row_count(sheet.data), "row")
+        return Mark(*filed, "absent", note=note, sha256=sheet.digest)
     outcome, off = library.mark(filing.filed, band)
     wrong = outcome in (Outcome.LOW, Outcome.HIGH)
     note = "the mass is %s" % shown(band, filing.unit) if wrong else NOTES.get(outcome, "")

@@ -1,5 +1,6 @@
 """A report as a table to look at, as csv and as JSON; two reports side by side."""
 
+from collections import Counter
 from collections.abc import Iterable, Iterator
 from typing import NamedTuple
 
@@ -13,7 +14,8 @@ from evp.tables import table_text
 from evp.wording import apart
 
 SHORT_NAMES = {  # of classes, for a table that a terminal has room for
-    1: "car < 1.4 l", 2: "car 1.4-2.0 l", 3: "car > 2.0 l", 7: "4-stroke < 250", 8: "4-stroke to 750", 9: "4-stroke > 750",
+    1: "car < 1.4 l", 2: "car 1.4-2.0 l", 3: "car > 2.0 l",
+    7: "4-stroke < 250", 8: "4-stroke to 750", 9: "4-stroke > 750",
 }
 
 
@@ -22,7 +24,8 @@ def aligned(lines: Iterable[tuple[str, ...]], left: int) -> Iterator[str]:
     lines = list(lines)
     widths = [max(map(len, column)) for column in zip(*lines)]
     for line in lines:
-        words = [word.ljust(width) if i < left else word.rjust(width) for i, (word, width) in enumerate(zip(line, widths))]
+        words = [word.ljust(width) if i < left else word.rjust(width)
+                 for i, (word, width) in enumerate(zip(line, widths))]
         yield "  ".join(words).rstrip()
 
 
@@ -73,9 +76,9 @@ def report_json(file: str, data: bytes, report: Report) -> dict:
     for i, masses in enumerate(report.rows):
         row = layout.row(data, i)
         rows.append({
-            "row": i + 1, "class": row["class"], "class_name": CLASSES[row["class"]][0], "technology": row["technology"],
-            "technology_name": technology_name(row["technology"]), "canister": canister_name(row), "vehicles": row["vehicles"],
-            **_masses_json(masses)})
+            "row": i + 1, "class": row["class"], "class_name": CLASSES[row["class"]][0],
+            "technology": row["technology"], "technology_name": technology_name(row["technology"]),
+            "canister": canister_name(row), "vehicles": row["vehicles"], **_masses_json(masses)})
     return {
         "file": file, "version": layout.version_of(data),
         "seasons": [layout.season(data, i) for i in range(layout.season_count(data))], "rows": rows,
@@ -120,7 +123,7 @@ def _change(difference: Difference) -> str:
 
 
 def comparison_lines(name_a: str, name_b: str, found: list[Difference]) -> Iterator[str]:
-    counts = {verdict: sum(d.verdict == verdict for d in found) for verdict in ("higher", "lower", "alike", "open")}
+    counts = Counter(difference.verdict for difference in found)
     lines = [("", name_a, name_b, "")]
     for d in found:
         if d.verdict in ("higher", "lower"):
@@ -130,8 +133,8 @@ def comparison_lines(name_a: str, name_b: str, found: list[Difference]) -> Itera
     if len(lines) > 1:
         yield from aligned(lines, 1)
         yield ""
-    yield "%s of %d figures are higher for certain in %s, %s lower; %s have the same band in both, %s are not settled." % (
-        apart(counts["higher"]), len(found), name_b, apart(counts["lower"]), apart(counts["alike"]), apart(counts["open"]))
+    yield "%d of %d figures are higher for certain in %s, %d lower; %d have the same band in both, %d are not settled." % (
+        counts["higher"], len(found), name_b, counts["lower"], counts["alike"], counts["open"])
 
 
 # ------------------------------------------------------------------ species

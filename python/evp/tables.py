@@ -62,8 +62,9 @@ def read_table(text: str, label: str, columns: Iterable[str], needed: Iterable[s
     lines = []
     for number, cells in records:
         if len(cells) > len(header) and any(cells[len(header):]):
+            hint = "" if separator == ";" else "; the decimal sign is a point here"
             raise InputError("%s: line %d: %d cells, and the header has %d columns%s" % (
-                label, number, len(cells), len(header), "" if separator == ";" else "; the decimal sign is a point here"))
+                label, number, len(cells), len(header), hint))
         lines.append(Line(number, {name: cell for name, cell in zip(header, cells) if cell and name != NOTE}))
     return Table(separator, header, lines)
 

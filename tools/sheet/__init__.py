@@ -1,4 +1,5 @@
-"""The writer and the reader of sheets, which are the desk's, python/evp/sheet; and where a sheet stops, by the second reckoning."""
+"""The writer and the reader of sheets, which are the desk's, python/evp/sheet; where a sheet stops, by the second
+reckoning."""
 
 import sys
 

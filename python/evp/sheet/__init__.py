@@ -20,9 +20,9 @@ The text, one record to a line, # starts a comment:
                       odometer, in km, and load is left out; 0 keeps the load
 
 canister is none, small, medium, large, class (by class) or a number; tank is class or litres. Temperatures are in
-degrees C, vp in kPa, shares and fill level in percent, load and saturation (m_sat) in grams. A row's class and technology
-must be given; canister and tank left out are by class, any other field left out is 0, the mileage too where another row
-has one.
+degrees C, vp in kPa, shares and fill level in percent, load and saturation (m_sat) in grams. A row's class and
+technology must be given; canister and tank left out are by class, any other field left out is 0, the mileage too where
+another row has one.
 
 The version in the head is that of the text, above; a line puts another there, and with it the bytes of its count of
 rows, one or in version 4 two:

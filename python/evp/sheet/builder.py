@@ -124,7 +124,8 @@ class Builder:
     def _head(self) -> bytes:
         """The first 8 bytes."""
         version = self._version()
-        head = self.single.get("letters", b"EVP") + version.to_bytes(2, "little") + self._count("seasons", self.seasons, 1, version)
+        head = self.single.get("letters", b"EVP") + version.to_bytes(2, "little")
+        head += self._count("seasons", self.seasons, 1, version)
         if version == 4:
             return head + self._count("rows", self.rows, 2, version)
         return head + self._count("rows", self.rows, 1, version) + bytes([self.single.get("zero", 0)])

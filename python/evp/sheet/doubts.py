@@ -8,6 +8,7 @@ from evp.sheet.builder import Builder
 
 # Fields that are 0 where they are left out; load and saturation where the row has a canister.
 COUNTED = ("carburettor", "hot", "fill", "vehicles", "trips", "minutes")
+PSI = Decimal("6.89476")  # kPa
 HOT_NIGHT = 30  # °C; few places have a lowest temperature above it
 
 
@@ -56,10 +57,11 @@ def _seasons(builder: Builder) -> Iterator[str]:
     for place, given in zip(builder.season_places, builder.season_words):
         lowest, highest, vp = (_number(given[name]) for name in ("lowest", "highest", "vp"))
         if lowest >= HOT_NIGHT or highest > FIELDS["highest"].most / 10:
+            celsius = [round((word - 32) * 5 / 9, 1) for word in (lowest, highest)]
             yield "%s: lowest %s, highest %s: is this °F? In °C it would be %s and %s" % (
-                place, given["lowest"], given["highest"], *(round((word - 32) * 5 / 9, 1) for word in (lowest, highest)))
+                place, given["lowest"], given["highest"], *celsius)
         if 3 <= vp < 20:
-            yield "%s: vp %s: is this psi? In kPa it would be %s" % (place, given["vp"], round(vp * Decimal("6.89476"), 1))
+            yield "%s: vp %s: is this psi? In kPa it would be %s" % (place, given["vp"], round(vp * PSI, 1))
         if vp >= 300:
             yield "%s: vp %s: is this hPa? In kPa it would be %s" % (place, given["vp"], round(vp / 10, 1))
 

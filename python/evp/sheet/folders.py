@@ -6,8 +6,8 @@ from pathlib import Path
 
 from evp.files import InputError, read_text
 from evp.layout import (
-    LISTS_END, MILEAGE, ROW_FIELDS, SEASON_FIELDS, Field, counts, decimal, has_grid, has_mileage, length_of, row_count, row_place,
-    season_count, season_place, version_of,
+    LISTS_END, MILEAGE, ROW_FIELDS, SEASON_FIELDS, Field, counts, decimal, has_grid, has_mileage, length_of, row_count,
+    row_place, season_count, season_place, version_of,
 )
 from evp.sheet.builder import Builder
 from evp.sheet.reader import record_words
@@ -66,7 +66,8 @@ def _with_point(word: str) -> str:
 
 def _take_parking(builder: Builder, folder: Path):
     if (folder / GRID).exists() and (folder / PARKING).exists():
-        raise InputError("%s: a grid stands in place of two lists, and both %s and %s are there" % (name_shown(folder), GRID, PARKING))
+        raise InputError("%s: a grid stands in place of two lists, and both %s and %s are there" % (
+            name_shown(folder), GRID, PARKING))
     if (folder / GRID).exists():
         _take_grid(builder, folder)
     else:
@@ -93,9 +94,11 @@ def _grid_table(folder: Path) -> Table:
     header = [plain.get(name, name) for name in table.header]
     missing = [duration for duration in DURATIONS if header.count(duration) != 1]
     if missing:
-        raise InputError("%s: line 1: each duration, 0.5 to 12, has one column; look at %s" % (label, ", ".join(missing)))
-    return table._replace(header=header, lines=[
-        line._replace(cells={plain.get(name, name): word for name, word in line.cells.items()}) for line in table.lines])
+        raise InputError("%s: line 1: each duration, 0.5 to 12, has one column; look at %s" % (
+            label, ", ".join(missing)))
+    lines = [line._replace(cells={plain.get(name, name): word for name, word in line.cells.items()})
+             for line in table.lines]
+    return table._replace(header=header, lines=lines)
 
 
 def _one_place(d: int) -> str:
@@ -129,7 +132,8 @@ def _take_lists(builder: Builder, folder: Path):
         with builder.at(name_shown(folder / PARKING)):
             missing = [key for key in keys if key not in found]
             if missing:
-                raise TextError("%s: all of %s to %s are wanted; %s is missing" % (key_column, keys[0], keys[-1], ", ".join(missing)))
+                raise TextError("%s: all of %s to %s are wanted; %s is missing" % (
+                    key_column, keys[0], keys[-1], ", ".join(missing)))
             builder.add_counts(name, tuple(found[key] for key in keys))
 
 
@@ -155,17 +159,18 @@ def folder_of(data: bytes, semicolon: bool = False) -> dict[str, str]:
 def _check_plain(data: bytes):
     """That the tables can hold the bytes: only what they tell stands in them."""
     if len(data) < 8 or data[:3] != b"EVP" or version_of(data) not in (1, 2, 3, 4) or len(data) != length_of(data):
-        raise TextError("tables hold whole sheets of versions 1 to 4 alone; evp explain says what is wrong with this one")
+        raise TextError("tables hold whole sheets of versions 1 to 4 alone; evp explain says what is wrong here")
     if version_of(data) != 4 and data[7]:
         raise TextError("byte 7 is not 0, and tables have no place for it; evp read without --csv makes a text of it")
     for i in range(row_count(data)):
         if not has_mileage(data) and any(data[row_place(data, i) + 20:row_place(data, i) + 24]):
-            raise TextError("row %d: bytes 20 to 23 are not 0, and tables have no place for them; evp read without --csv "
-                            "makes a text of it" % (i + 1))
+            raise TextError("row %d: bytes 20 to 23 are not 0, and tables have no place for them; "
+                            "evp read without --csv makes a text of it" % (i + 1))
 
 
 def _table_of(columns: list[str], records: Iterable[dict[str, str]], semicolon: bool) -> str:
-    return table_text(columns, ([_signed(record[name], semicolon) for name in columns] for record in records), semicolon)
+    lines = ([_signed(record[name], semicolon) for name in columns] for record in records)
+    return table_text(columns, lines, semicolon)
 
 
 def _signed(word: str, semicolon: bool) -> str:
@@ -186,11 +191,20 @@ def _lists_of(data: bytes, semicolon: bool) -> dict[str, str]:
 # ------------------------------------------------------------------ templates
 
 WORDS = {
-    "class": "1 to 9", "technology": "0 conventional; 1 to 5 Euro 1 to 5",
-    "canister": "none small medium large (0 to 3); empty: by class", "tank": "l; empty: by class", "load": "g; 0 without canister",
-    "saturation": "g; m_sat of the canister", "mileage": "km; with grid.csv alone; in place of a load",
-    "trips": "a day", "minutes": "a trip", "vehicles": "", "days": "all seasons together at most 366",
-    "carburettor": "% of vehicles with carburettor or fuel return", "hot": "% of trips that end hot", "fill": "% of the tank",
+    "days": "all seasons together at most 366",
+    "class": "1 to 9",
+    "technology": "0 conventional; 1 to 5 Euro 1 to 5",
+    "canister": "none small medium large (0 to 3); empty: by class",
+    "carburettor": "% of vehicles with carburettor or fuel return",
+    "hot": "% of trips that end hot",
+    "fill": "% of the tank",
+    "tank": "l; empty: by class",
+    "vehicles": "",
+    "trips": "a day",
+    "minutes": "a trip",
+    "load": "g; 0 without canister",
+    "saturation": "g; m_sat of the canister",
+    "mileage": "km; with grid.csv alone; in place of a load",
 }
 
 
@@ -202,8 +216,9 @@ def templates(grid: bool, semicolon: bool) -> dict[str, str]:
         lines = [["# how many parkings end at this hour (down) and last so many hours (across); together 1 to 1000000"],
                  *([t] for t in HOURS)]
         return {**tables, GRID: table_text([_signed(name, semicolon) for name in GRID_COLUMNS], lines, semicolon)}
-    lines = [["# hours", "how many parkings last so long; together 1 to 1000", "hour of the day", "how many end then; together 1 to 1000"],
-             *([_signed(d, semicolon), "", t] for d, t in zip(DURATIONS, HOURS))]
+    about = ["# hours", "how many parkings last so long; together 1 to 1000", "hour of the day",
+             "how many end then; together 1 to 1000"]
+    lines = [about, *([_signed(d, semicolon), "", t] for d, t in zip(DURATIONS, HOURS))]
     return {**tables, PARKING: table_text(PARKING_COLUMNS, lines, semicolon)}
 
 

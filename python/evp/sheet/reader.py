@@ -3,8 +3,8 @@
 from collections.abc import Iterable, Iterator
 
 from evp.layout import (
-    CANISTER_NAMES, MILEAGE, MOST_ROWS, ROW_FIELDS, SEASON_FIELDS, Field, counts, has_grid, has_mileage, length_of, row_count,
-    row_place, season_count, season_place, version_of,
+    CANISTER_NAMES, MILEAGE, MOST_ROWS, ROW_FIELDS, SEASON_FIELDS, Field, counts, has_grid, has_mileage, length_of,
+    row_count, row_place, season_count, season_place, version_of,
 )
 from evp.sheet.builder import GRID, LISTS, version_for
 from evp.sheet.words import TextError
@@ -20,7 +20,8 @@ def read(data: bytes) -> str:
     if len(data) < end:
         raise TextError("%d bytes, too few for the records its head tells of" % len(data))
     if len(data) > end + MOST_TAIL:
-        raise TextError("%d bytes follow the records its head tells of; evp explain says what is wrong" % (len(data) - end))
+        raise TextError("%d bytes follow the records its head tells of; evp explain says what is wrong" % (
+            len(data) - end))
     lines = [*_head(data), *_parking(data), *_seasons(data), *_rows(data)]
     if data[end:]:
         lines.append("tail %s" % data[end:].hex())

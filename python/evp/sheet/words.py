@@ -44,7 +44,8 @@ def encode(word: str, field: Field) -> bytes:
         value = int(sign + whole + fraction.ljust(field.places, "0"))
         if low <= value <= high:
             return value.to_bytes(field.size, "little", signed=field.signed)
-    raise TextError("%s: %s does not fit the field (%s to %s)" % (field.name, short, field.shown(low), field.shown(high)))
+    raise TextError("%s: %s does not fit the field (%s to %s)" % (
+        field.name, short, field.shown(low), field.shown(high)))
 
 
 def whole_number(word: str, name: str, size: int) -> int:
