@@ -35,8 +35,8 @@ def _add(subparsers, name: str, run, about: str, example: str, *options: str) ->
 
 def parser() -> Parser:
     top = Parser(
-        prog="evp", description="The desk of the evaporation workbook: sheets written, checked, explained, shown and marked. "
-        "- stands for standard input.",
+        prog="evp", description="The desk of the evaporation workbook: sheets written, checked, explained, shown and "
+        "marked. - stands for standard input.",
         example="evp write north.txt\nevp show north.evp\nevp mark sheets --filed filed.csv -o marks.csv")
     add = top.add_subparsers(required=True, metavar="COMMAND", parser_class=Parser)
     _add_sheet_commands(add)

@@ -8,7 +8,7 @@ from collections.abc import Callable
 from typing import NamedTuple
 
 from evp import layout
-from evp.layout import FIELDS, Field, canister_name, decimal, technology_name
+from evp.layout import FIELDS, Field, canister_name, decimal
 from evp.library import SHEET_BYTES, Finding, Library, MissingCall, Refusal
 from evp.wording import apart, counted
 
@@ -306,7 +306,7 @@ def _canister_code(site: Site) -> Words:
 def _fleet(site: Site) -> Words:
     own = site.row["vehicles"]
     left = site.most - (site.value - own)
-    return Words("with its %s (%s) the rows so far have %s vehicles, and a sheet has at most %s" % (
+    return Words("with its %s (%s) the rows so far have %s, and a sheet has at most %s" % (
         counted(own, "vehicle"), site.where, apart(site.value), apart(site.most)),
         "write at most %s here, or fewer in the rows before" % apart(left))
 

@@ -31,8 +31,8 @@ def make_library():
         raise InputError("the library libevaporation.so.1 is not there; EVP_LIBRARY=FILE names one")
     for program in ("rt", "gcc"):
         if shutil.which(program) is None:
-            raise InputError("the library is not made yet, and making it needs %s; EVP_LIBRARY=FILE names one that is" % (
-                program))
+            raise InputError("the library is not made yet, and making it needs %s; "
+                             "EVP_LIBRARY=FILE names one that is" % program)
     wanted = crates_wanted((TOP / "crates.txt").read_text(encoding="utf-8"))
     print("evp: the library is not made yet. Proving and making it takes some minutes, once.", file=sys.stderr)
     proved, last = set(), ""

@@ -23,7 +23,7 @@ FINE = ("agrees", "fits")
 # The first five as the library counts them.
 VERDICTS = ("agrees", "fits", "low", "high", "unreadable", "refused", "absent", "missing")
 NOTES = {
-    Outcome.FITS: "the band does not settle it: some masses in it round to this figure and some do not",
+    Outcome.FITS: "the band does not settle it: it reaches over a rounding edge",
     Outcome.UNREADABLE: "10^18 mg or more, or a last place below 10^-6 mg",
 }
 MASSES = {point: re.compile("([0-9]+)(?:%s([0-9]+))?" % re.escape(point)) for point in ".,"}  # by the decimal sign

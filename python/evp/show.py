@@ -129,11 +129,11 @@ def comparison_lines(name_a: str, name_b: str, found: list[Difference]) -> Itera
         if d.verdict in ("higher", "lower"):
             lines.append((d.figure.name, shown(d.a), shown(d.b), "%s for certain %s" % (d.verdict, _change(d))))
         elif d.verdict == "open":
-            lines.append((d.figure.name, shown(d.a), shown(d.b), "the bands meet: not settled"))
+            lines.append((d.figure.name, shown(d.a), shown(d.b), "open: the bands meet"))
     if len(lines) > 1:
         yield from aligned(lines, 1)
         yield ""
-    yield "%d of %d figures are higher for certain in %s, %d lower; %d have the same band in both, %d are not settled." % (
+    yield "%d of %d figures are higher for certain in %s, %d lower; %d have the same band in both, %d are open." % (
         counts["higher"], len(found), name_b, counts["lower"], counts["alike"], counts["open"])
 
 

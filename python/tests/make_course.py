@@ -1,4 +1,4 @@
-"""Writes samples/course: thirty made-up sheets of a course and what was filed for them, with the mistakes that MISTAKES names.
+"""Writes samples/course: thirty made-up sheets of a course, and what was filed for them with mistakes of many kinds.
 
     PYTHONPATH=python:. python3 python/tests/make_course.py
 
@@ -13,14 +13,14 @@ from evp import library as calls
 from evp import sheet
 from evp.figures import Figure, bands
 from evp.hints import MISREADINGS, Guesser
-from evp.library import TOP, Band
-from evp.marking import Marked
+from evp.library import GROUPS, MECHANISMS, TOP, Band
+from evp.marking import COLUMNS, Marked
 from evp.masses import POWERS
 from evp.tables import table_text
 
 COURSE = TOP / "samples" / "course"
-NAMES = """north south east west lakes hills coast islands valley moor forest delta harbour plain ridge marsh upland lowland river
-bay cape fen heath glen downs sound border midland headland orchard""".split()
+NAMES = """north south east west lakes hills coast islands valley moor forest delta harbour plain ridge marsh upland
+lowland river bay cape fen heath glen downs sound border midland headland orchard""".split()
 
 TEXT = """# Tables 3-12 and 3-13 in tenths of a percent; hour 0 of the table is end hour 24.
 durations 420 140 20 49 59 20 29 15 15 10 10 5 10 5 5 5 5 5 5 5 5 5 5 130
@@ -39,7 +39,7 @@ MEDIUM = """row class=1 technology=0 carburettor=99 hot=45 fill=40 vehicles=1840
 row class=2 technology=3 carburettor=0 hot=50 fill=45 vehicles=152000 trips=5.10 minutes=13 load=32.0 saturation=110.0
 """
 FILED = [Figure(str(row), "diurnal") for row in (1, 2)] + [
-    Figure(group, mechanism) for group in ("cars", "light", "two", "all") for mechanism in ("diurnal", "soak", "running")
+    Figure(group, mechanism) for group in GROUPS for mechanism in MECHANISMS
 ] + [Figure("total", "")]
 
 
@@ -48,7 +48,7 @@ def text_of(name: str) -> str:
     draw = random.Random(name)
     part = draw.uniform(0.06, 0.12)
     text = TEXT[:TEXT.index("row ")] + MEDIUM if name == "glen" else TEXT
-    text = re.sub(r"vehicles=(\d+)", lambda found: "vehicles=%d" % (int(found[1]) * part * draw.uniform(0.8, 1.2)), text)
+    text = re.sub(r"(?<=vehicles=)\d+", lambda found: "%d" % (int(found[0]) * part * draw.uniform(0.8, 1.2)), text)
     return text.replace("highest=29.0", "highest=%.1f" % (27.5 + draw.randrange(35) / 10))
 
 
@@ -75,7 +75,8 @@ def filed_bands(library: calls.Library, name: str, data: bytes) -> dict[Figure, 
         found = next(one for one in MISREADINGS if one.name == misreading)
         return {figure: guesser._misread(figure, found) for figure in FILED}
     if name in ("valley", "glen"):  # read from a wrong line: other trips, other days
-        text = text_of(name).replace("trips=4.80", "trips=4.60").replace("days=183", "days=184" if name == "glen" else "days=183")
+        text = text_of(name).replace("trips=4.80", "trips=4.60")
+        text = text.replace("days=183", "days=184") if name == "glen" else text
         return bands(library.report(sheet.write(text)))
     return right
 
@@ -105,7 +106,7 @@ def main():
         (COURSE / (name + ".evp")).write_bytes(sheet_of(name))
         lines += lines_of(library, name)
     lines.append(("atlantis.evp", "total", "", "54.311", "t"))
-    (COURSE / "filed.csv").write_text(table_text(("sheet", "row", "mechanism", "mass", "unit"), lines), encoding="utf-8")
+    (COURSE / "filed.csv").write_text(table_text(COLUMNS, lines), encoding="utf-8")
 
 
 if __name__ == "__main__":

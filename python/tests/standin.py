@@ -1,4 +1,4 @@
-"""Stands in for evp_mark and evp_explain until the library has them: plain Python after the tables of their definitions.
+"""Stands in for evp_mark and evp_explain until the library has them: plain Python after their definitions.
 
     python3 python/tests/standin.py explain SHEET    any command of evp, with these two calls
 """
@@ -129,11 +129,11 @@ def _loads(s: bytes, i: int, p: int, row: dict[str, int]) -> Iterator[Finding]:
         yield _saturated(s, 25, 4, 0, i, p, canister, saturation)
 
 
-def _saturated(s: bytes, number: int, reason: int, limit: int, i: int, p: int, canister: int, saturation: int) -> Finding:
+def _saturated(s: bytes, number: int, reason: int, limit: int, i: int, p: int, canister: int, m_sat: int) -> Finding:
     """m_sat, with the largest that passes in every season and the first season in which it does not."""
     largest = [_largest(limit, layout.season(s, k), HALVES[canister]) for k in range(layout.season_count(s))]
-    season = next((k for k, most in enumerate(largest) if saturation > most), len(largest))
-    return Finding(number, p, reason, i, season, p + 18, 2, saturation, 0, min([65535, *largest]))
+    season = next((k for k, most in enumerate(largest) if m_sat > most), len(largest))
+    return Finding(number, p, reason, i, season, p + 18, 2, m_sat, 0, min([65535, *largest]))
 
 
 def _largest(limit: int, season: dict[str, int], halves: int) -> int:

@@ -25,16 +25,19 @@ SCREEN = 24  # lines
 LISTS = "durations 420 140 20" + " 0" * 20 + " 130\nhours" + " 10" * 24 + "\n"
 SEASONS = "season days=182 lowest=-2.0 highest=9.5 vp=90.0\nseason days=183 lowest=14.5 highest=29.0 vp=60.0\n"
 CAR = "row class=1 technology=0 carburettor=99 hot=45 fill=40 vehicles=18400 trips=4.80 minutes=12\n"
-FITTED = "row class=2 technology=3 carburettor=0 hot=50 fill=45 vehicles=500 trips=5.10 minutes=13 load=32.0 saturation=60.0\n"
+FITTED = ("row class=2 technology=3 carburettor=0 hot=50 fill=45 vehicles=500 trips=5.10 minutes=13 "
+          "load=32.0 saturation=60.0\n")
 TEXT = LISTS + SEASONS + CAR + FITTED
 
 
 def grid(count: int = 1) -> str:
     """A grid with one cell."""
-    return "".join("grid %d %s\n" % (t, " ".join(str(count if (t, d) == (8, 20) else 0) for d in range(1, 25))) for t in range(1, 25))
+    rows = [[count if (t, d) == (8, 20) else 0 for d in range(1, 25)] for t in range(1, 25)]
+    return "".join("grid %d %s\n" % (t, " ".join(map(str, counts))) for t, counts in enumerate(rows, 1))
 
 
-DRIVEN = "row class=1 technology=1 carburettor=20 hot=45 fill=40 vehicles=700 trips=2.00 minutes=12 saturation=40.0 mileage=84000\n"
+DRIVEN = ("row class=1 technology=1 carburettor=20 hot=45 fill=40 vehicles=700 trips=2.00 minutes=12 "
+          "saturation=40.0 mileage=84000\n")
 GRID_TEXT = grid() + SEASONS + CAR + DRIVEN
 
 

@@ -9,9 +9,9 @@ import subprocess
 import unittest
 from unittest import mock
 
-from support import CAR, GRID_TEXT, LIBRARY, LISTS, SAMPLES, SEASONS, TEXT, TOP, DeskTestCase, run, sample, samples
+from support import CAR, GRID_TEXT, LIBRARY, SAMPLES, SEASONS, TEXT, TOP, DeskTestCase, run, sample, samples
 
-from evp import commands, layout, library, making, sheet
+from evp import commands, layout, library, making
 from evp.files import InputError
 from evp.library import SPECIES
 
@@ -36,7 +36,8 @@ class ShowTest(DeskTestCase):
     def test_csv(self):
         lines = list(csv.DictReader(io.StringIO(run("show", REGION, "--csv").out)))
         self.assertEqual(len(lines), 24 * 3 + 4 * 3 + 1)
-        self.assertEqual(lines[-1], {"row": "total", "mechanism": "", "low": "589567619415", "high": "589571589654", "unit": "mg"})
+        self.assertEqual(list(lines[-1].items()), [
+            ("row", "total"), ("mechanism", ""), ("low", "589567619415"), ("high", "589571589654"), ("unit", "mg")])
         in_tonnes = list(csv.DictReader(io.StringIO(run("show", REGION, "--csv", "--unit", "t").out)))
         self.assertEqual(in_tonnes[-1]["low"], "589.567619415")
 
@@ -44,7 +45,8 @@ class ShowTest(DeskTestCase):
         for path in samples():
             found = json.loads(run("show", path, "--json").out)
             report = LIBRARY.report(path.read_bytes())
-            self.assertEqual(list(found), ["file", "version", "seasons", "rows", "cars", "light", "two", "all", "total"])
+            self.assertEqual(list(found),
+                             ["file", "version", "seasons", "rows", "cars", "light", "two", "all", "total"])
             self.assertEqual(found["total"], list(report.total))
             self.assertEqual([row["soak"] for row in found["rows"]], [list(masses.soak) for masses in report.rows])
             self.assertEqual(found["two"]["running"], list(report.two.running))
@@ -52,7 +54,8 @@ class ShowTest(DeskTestCase):
     def test_refused(self):
         path = self.put_sheet("a.evp", TEXT.replace("fill=40", "fill=200"))
         found = run("show", path)
-        self.assertEqual(found, (1, "", "%s: refused 15 at 120: row 1: fill 200 %% is above 100 %%; write at most 100\n" % path))
+        self.assertEqual(found,
+            (1, "", "%s: refused 15 at 120: row 1: fill 200 %% is above 100 %%; write at most 100\n" % path))
 
 
 class ConvertTest(DeskTestCase):
@@ -64,7 +67,8 @@ class ConvertTest(DeskTestCase):
                 self.assertEqual(found.status, 0, found)
                 self.assertIn("version %d, the same report" % version, found.out)
                 later = target.read_bytes()
-                self.assertEqual((layout.version_of(later), LIBRARY.report(later)), (version, LIBRARY.report(path.read_bytes())))
+                self.assertEqual((layout.version_of(later), LIBRARY.report(later)),
+                                 (version, LIBRARY.report(path.read_bytes())))
 
     def test_name(self):
         path = self.put("a.evp", sample("region"))
@@ -74,14 +78,16 @@ class ConvertTest(DeskTestCase):
     def test_earlier(self):
         found = run("convert", SAMPLES / "odometer.evp", "--to", 3)
         self.assertEqual((found.status, found.err), (
-            2, "evp: %s: this is a sheet of version 3 already, and only a later version is made of it\n" % (SAMPLES / "odometer.evp")))
+            2, "evp: %s: this is a sheet of version 3 already, and only a later version is made of it\n" % (
+                SAMPLES / "odometer.evp")))
 
     def test_large_products(self):
         """A product that no count holds: with common factors taken out it may."""
         large = "durations 900" + " 0" * 22 + " 90\nhours 600" + " 0" * 22 + " 300\n"
         found = run("convert", self.put_sheet("a.evp", large + SEASONS + CAR), "--to", 2)
         self.assertEqual(found.status, 0, found)
-        found = run("convert", self.put_sheet("b.evp", large.replace("90\n", "91\n").replace("300", "301") + SEASONS + CAR), "--to", 2)
+        large = large.replace("90\n", "91\n").replace("300", "301")
+        found = run("convert", self.put_sheet("b.evp", large + SEASONS + CAR), "--to", 2)
         self.assertEqual(found.status, 2)
         self.assertIn("a product of the two lists is 540000, and a count of a grid is at most 65535", found.err)
 
@@ -94,14 +100,15 @@ class CompareTest(DeskTestCase):
         self.assertEqual(found.status, 0)
         self.assertRegex(found.out, r"row 1 diurnal +[\d.]+ t +[\d.]+ t +higher for certain \(\+\d+\.\d %\)")
         self.assertIn("figures are higher for certain in %s" % b, found.out)
-        verdicts = {(figure["row"], figure["mechanism"]): figure["verdict"] for figure in json.loads(run("compare", a, b, "--json").out)["figures"]}
+        figures = json.loads(run("compare", a, b, "--json").out)["figures"]
+        verdicts = {(figure["row"], figure["mechanism"]): figure["verdict"] for figure in figures}
         self.assertEqual([verdicts["1", mechanism] for mechanism in library.MECHANISMS], ["higher"] * 3)
         self.assertEqual(len(verdicts), 2 * 3 + 13)
 
     def test_alike(self):
         found = run("compare", REGION, REGION)
-        self.assertEqual(found.out, "0 of 85 figures are higher for certain in %s, 0 lower; 85 have the same band in both, "
-                         "0 are not settled.\n" % REGION)
+        self.assertEqual(found.out, "0 of 85 figures are higher for certain in %s, 0 lower; 85 have the same band in "
+                         "both, 0 are open.\n" % REGION)
 
     def test_other_rows(self):
         """Sheets with other rows are compared by their sums."""
@@ -154,7 +161,7 @@ class CellsTest(DeskTestCase):
 
 class PoolTest(DeskTestCase):
     def test_pool(self):
-        first, second = self.put_sheet("a.evp", GRID_TEXT + "version 4"), self.put_sheet("b.evp", GRID_TEXT + "version 4")
+        first, second = (self.put_sheet(name, GRID_TEXT + "version 4") for name in ("a.evp", "b.evp"))
         target = self.folder / "c.evp"
         self.assertEqual(run("pool", first, second, "-o", target), (
             0, "%s: 1272 bytes, accepted: version 4, 2 seasons, 4 rows\n" % target, ""))
@@ -172,7 +179,8 @@ class PoolTest(DeskTestCase):
             self.assertTrue(found.err.startswith("%s: %s" % (second, said)), found.err)
         second = self.put_sheet("b.evp", GRID_TEXT.replace("vp=60.0", "vp=61.0") + "version 4")
         self.assertEqual(run("pool", first, second, "-o", target).err,
-                         "%s and %s: refused 32: the seasons or the parking of the two sheets differ\n" % (first, second))
+                         "%s and %s: refused 32: the seasons or the parking of the two sheets differ\n" % (
+                             first, second))
 
 
 class MakingTest(DeskTestCase):
@@ -184,10 +192,12 @@ class MakingTest(DeskTestCase):
             self.skipTest("rt staticlib evaporation was not run")
         self.put("bin/rt", "#!/bin/sh\n").chmod(0o755)
         path = "%s:%s" % (self.folder / "bin", os.environ["PATH"])
-        subprocess.run(["bash", TOP / "c" / "shared", self.folder / "lib"], check=True, env={**os.environ, "PATH": path})
+        subprocess.run(["bash", TOP / "c" / "shared", self.folder / "lib"], check=True,
+                       env={**os.environ, "PATH": path})
         made = self.folder / "lib" / library.NAME
         self.assertEqual(library.Library(made).report(sample("region")), LIBRARY.report(sample("region")))
-        names = subprocess.run(["nm", "-D", "--defined-only", made], capture_output=True, text=True, check=True).stdout.split()[2::3]
+        listed = subprocess.run(["nm", "-D", "--defined-only", made], capture_output=True, text=True, check=True)
+        names = listed.stdout.split()[2::3]
         self.assertTrue(names and all(name.startswith("evp_") for name in names), names)
         self.assertEqual(os.readlink(self.folder / "lib" / "libevaporation.so"), library.NAME)
 
@@ -195,7 +205,8 @@ class MakingTest(DeskTestCase):
         self.put("crates.txt", "numbers:\nbounds: numbers\nevaporation: bounds\nreport: io\n")
         self.put("c/shared", script)
         err = io.StringIO()
-        with mock.patch("evp.making.TOP", self.folder), mock.patch("shutil.which", return_value="rt"), contextlib.redirect_stderr(err):
+        patched = mock.patch("evp.making.TOP", self.folder), mock.patch("shutil.which", return_value="rt")
+        with patched[0], patched[1], contextlib.redirect_stderr(err):
             making.make_library()
         return err.getvalue()
 

@@ -11,7 +11,9 @@ from evp.explain import CALLS, REASONS, explain
 from evp.library import Finding, Number
 from tools import reckoning
 
-JSON_KEYS = ["file", "number", "place", "reason", "record", "index", "field", "at", "bytes", "value", "least", "most", "unit", "text"]
+JSON_KEYS = ["file", "number", "place", "reason", "record", "index", "field", "at", "bytes", "value", "least", "most",
+             "unit", "text"]
+TEN_MILLION = "row class=1 technology=0 vehicles=10000000\n"
 
 
 def changed(old: str, new: str, text: str = TEXT) -> str:
@@ -192,9 +194,9 @@ refused 16 at 144: row 2 (bytes 144 to 167)
   vehicles 10,000,001 (bytes 152 to 155) is above 10,000,000
   write at most 10,000,000
 """),
-    ((26, 1), grid() + SEASONS + "row class=1 technology=0 vehicles=10000000\n" * 10 + "row class=1 technology=0 vehicles=7\nversion 4", """
+    ((26, 1), grid() + SEASONS + TEN_MILLION * 10 + "row class=1 technology=0 vehicles=7\nversion 4", """
 refused 26 at 1416: row 11 (bytes 1416 to 1439)
-  with its 7 vehicles (bytes 1424 to 1427) the rows so far have 100,000,007 vehicles, and a sheet has at most 100,000,000
+  with its 7 vehicles (bytes 1424 to 1427) the rows so far have 100,000,007, and a sheet has at most 100,000,000
   write at most 0 here, or fewer in the rows before
 """),
     ((17, 1), changed("minutes=13", "minutes=13 tank=150.1"), """
@@ -308,7 +310,8 @@ class WordsTest(DeskTestCase):
             "  canister: medium, by class 2 technology 3", "  write at most 60.0\n")), ""))
         self.assertEqual(run("check", path), (
             1, "%s: refused 19 at 144: row 2: load 70.0 g is above m_sat 60.0 g; write at most 60.0\n" % path, ""))
-        self.assertEqual(run("explain", self.put_sheet("b.evp", TEXT)), (0, "accepted: version 1, 2 seasons, 2 rows\n", ""))
+        self.assertEqual(run("explain", self.put_sheet("b.evp", TEXT)),
+                         (0, "accepted: version 1, 2 seasons, 2 rows\n", ""))
 
     def test_json(self):
         path = self.put_sheet("a.evp", changed("lowest=-2.0", "lowest=-31.0"))

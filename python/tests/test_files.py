@@ -27,7 +27,8 @@ class BadFilesTest(DeskTestCase):
     def test_300_megabytes_of_zeros(self):
         path = self.put("zeros.evp", b"")
         os.truncate(path, 300_000_000)
-        self.assert_each(path, "all its bytes are 0", "this is no text: byte 0 is 0", "25153 bytes follow the records", status=(1, 2))
+        self.assert_each(path, "all its bytes are 0", "this is no text: byte 0 is 0", "25153 bytes follow the records",
+                         status=(1, 2))
 
     def test_300_megabytes_behind_a_sheet(self):
         path = self.put("long.evp", sample("example"))
@@ -40,7 +41,8 @@ class BadFilesTest(DeskTestCase):
         for command, *options in READERS:
             found = run(command, self.folder, *options)
             self.assert_plain(found, 2)
-            self.assertIn("there is no parking.csv" if command == "write" else "this is a folder, and a file is wanted", found.err)
+            said = "there is no parking.csv" if command == "write" else "this is a folder, and a file is wanted"
+            self.assertIn(said, found.err)
 
     def test_none(self):
         self.assert_each(self.folder / "none.evp", "there is no such file")
@@ -77,7 +79,8 @@ class BadFilesTest(DeskTestCase):
         self.assert_plain(run("write", "/dev/zero"), 2)
 
     def test_standard_input(self):
-        self.assertEqual(run("check", "-", given=sample("region")).out, "standard input: accepted: version 1, 4 seasons, 24 rows\n")
+        self.assertEqual(run("check", "-", given=sample("region")).out,
+                         "standard input: accepted: version 1, 4 seasons, 24 rows\n")
 
     def test_no_right(self):
         """As a user who is not the owner; only the superuser can become one."""
@@ -87,7 +90,8 @@ class BadFilesTest(DeskTestCase):
         path = self.put("secret.evp", sample("region"))
         os.chmod(path, 0)
         found = subprocess.run([sys.executable, "-I", "-c", "import os, sys; sys.path.insert(0, sys.argv.pop(1)); "
-                                "from evp.cli import main; os.setuid(65534); sys.exit(main())", TOP / "python", "check", path],
+                                "from evp.cli import main; os.setuid(65534); sys.exit(main())", TOP / "python",
+                                "check", path],
                                capture_output=True, text=True, env={"EVP_LIBRARY": str(library.find())})
         self.assertEqual((found.returncode, found.stderr), (2, "evp: %s: you have no right to it\n" % path))
 
@@ -99,7 +103,8 @@ class BadFilesTest(DeskTestCase):
     def test_target(self):
         """A target that cannot be written."""
         source = self.put("a.txt", TEXT)
-        for target, said in ((self.folder, "there is such a file already"), (self.folder / "none" / "a.evp", "there is no such file")):
+        for target, said in ((self.folder, "there is such a file already"),
+                             (self.folder / "none" / "a.evp", "there is no such file")):
             found = run("write", source, "-o", target)
             self.assert_plain(found, 2)
             self.assertIn(said, found.err)
@@ -107,13 +112,14 @@ class BadFilesTest(DeskTestCase):
         self.assertIn("a folder is wanted", run("template", source).err)
 
     def test_command_line(self):
-        for words in ((), ("nothing",), ("check",), ("convert", "a.evp"), ("convert", "a.evp", "--to", "5"), ("show", "a", "--unit", "lb")):
+        for words in ((), ("nothing",), ("check",), ("convert", "a.evp"), ("convert", "a.evp", "--to", "5"),
+                      ("show", "a", "--unit", "lb")):
             found = run(*words)
             self.assert_plain(found, 2)
             self.assertIn("usage: evp", found.err)
 
     def test_help(self):
-        for command in ("check", "explain", "show", "write", "read", "template", "convert", "mark", "compare", "species", "cells", "pool"):
+        for command in "check explain show write read template convert mark compare species cells pool".split():
             found = run(command, "--help")
             self.assertEqual(found.status, 0)
             self.assertIn("example:\n  evp %s " % command, found.out)
@@ -136,16 +142,19 @@ class StartTest(unittest.TestCase):
     """The command itself."""
 
     def test_evp(self):
-        found = subprocess.run([TOP / "evp", "check", TOP / "samples" / "region.evp"], capture_output=True, text=True, cwd="/")
+        found = subprocess.run([TOP / "evp", "check", TOP / "samples" / "region.evp"], capture_output=True, text=True,
+                               cwd="/")
         self.assertEqual((found.returncode, found.stdout), (0, "%s: accepted: version 1, 4 seasons, 24 rows\n" % (
             TOP / "samples" / "region.evp")))
 
     def test_a_reader_that_leaves(self):
-        found = subprocess.run("'%s' show samples/districts.evp | head -1" % (TOP / "evp"), shell=True, capture_output=True, text=True, cwd=TOP)
+        line = "'%s' show samples/districts.evp | head -1" % (TOP / "evp")
+        found = subprocess.run(line, shell=True, capture_output=True, text=True, cwd=TOP)
         self.assertEqual(found.stderr, "")
 
     def test_no_library(self):
-        found = subprocess.run([TOP / "evp", "check", "x"], capture_output=True, text=True, env={**os.environ, "EVP_LIBRARY": "/none.so"})
+        changed = {**os.environ, "EVP_LIBRARY": "/none.so"}
+        found = subprocess.run([TOP / "evp", "check", "x"], capture_output=True, text=True, env=changed)
         self.assertEqual(found.returncode, 2)
         self.assertIn("evp: the library cannot be loaded: ", found.stderr)
 

@@ -6,7 +6,7 @@ import subprocess
 import unittest
 from ctypes import sizeof
 
-from support import GRID_TEXT, LIBRARY, SAMPLES, TEXT, TOP, sample, samples
+from support import GRID_TEXT, LIBRARY, TEXT, TOP, sample, samples
 
 from evp import layout, library, sheet
 from evp.library import Band, Cell, Filed, Kind, Masses, MissingCall, Number, Outcome, Refusal, Travel, Unit
@@ -38,7 +38,8 @@ class HeaderTest(unittest.TestCase):
 
     def test_sizes(self):
         for name, value in (("SHEET_BYTES", library.SHEET_BYTES), ("REPORT_WORDS", library.REPORT_WORDS),
-                            ("TEXT_BYTES", library.TEXT_BYTES), ("LISTS_END", layout.LISTS_END), ("GRID_END", layout.GRID_END)):
+                            ("TEXT_BYTES", library.TEXT_BYTES), ("LISTS_END", layout.LISTS_END),
+                            ("GRID_END", layout.GRID_END)):
             self.assertIn("#define EVP_%s %d\n" % (name, value), HEADER)
 
     def test_species(self):
@@ -48,7 +49,8 @@ class HeaderTest(unittest.TestCase):
     def test_members(self):
         for name, struct in STRUCTS.items():
             body = re.sub(r"/\*.*?\*/", "", re.search(r"struct %s \{(.*?)\};" % name, HEADER, re.S)[1], flags=re.S)
-            members = [re.sub(r"\W.*", "", word.split()[-1]) for line in body.split(";") for word in line.split(",") if word.strip()]
+            words = [word.split()[-1] for line in body.split(";") for word in line.split(",") if word.strip()]
+            members = [re.sub(r"\W.*", "", word) for word in words]
             self.assertEqual(members, [field[0] for field in struct._fields_], name)
         self.assertEqual(sizeof(library._Travel), 48)
 
@@ -58,7 +60,8 @@ class ReportTest(unittest.TestCase):
 
     def test_text(self):
         for path in samples():
-            self.assertEqual(LIBRARY.text(path.read_bytes()), path.with_suffix(".report").read_text(encoding="ascii"), path)
+            printed = path.with_suffix(".report").read_text(encoding="ascii")
+            self.assertEqual(LIBRARY.text(path.read_bytes()), printed, path)
 
     def test_report(self):
         for path in samples():
@@ -91,7 +94,8 @@ class ReportTest(unittest.TestCase):
                 self.assertEqual(str(caught.exception), "refused %d at %d" % expected)
                 self.assertEqual(LIBRARY.text(data), "refused %d at %d\n" % expected)
             if i < 10 and program.exists():
-                self.assertEqual(LIBRARY.text(data), subprocess.run([program], input=data, capture_output=True).stdout.decode())
+                printed = subprocess.run([program], input=data, capture_output=True).stdout
+                self.assertEqual(LIBRARY.text(data), printed.decode())
 
     def test_factor(self):
         data = sample("table-3-5")
@@ -119,8 +123,9 @@ class OtherCallsTest(unittest.TestCase):
             words = second_cells.Words(*(word for band in masses for word in band))
             _, _, expected = second_cells.cells_of_row(second_cells.Row(words, second_cells.Travel(*travel)))
             bits = second_cells.bits_of
-            found = [(cell.kind, bits(int(cell.low)), bits(int(cell.high))) for cell in LIBRARY.cells_of_row(masses, travel)]
-            self.assertEqual(found, [tuple(cell) for cell in expected])
+            found = LIBRARY.cells_of_row(masses, travel)
+            self.assertEqual([(cell.kind, bits(int(cell.low)), bits(int(cell.high))) for cell in found],
+                             [tuple(cell) for cell in expected])
         with self.assertRaises(Refusal) as caught:
             LIBRARY.cells_of_row(masses, travel._replace(rural_speed=0))
         self.assertEqual(caught.exception.number, Number.TRAVEL)
@@ -150,16 +155,17 @@ class OtherCallsTest(unittest.TestCase):
         shared.arrive(1, 0, 5)
         self.assertEqual(shared.row(1, 0), (18_405, LIBRARY.report(shared.sheet).rows[0]))
         self.assertEqual(shared.totals(0).total, LIBRARY.report(shared.sheet).total)
-        for call in (lambda: shared.arrive(1, 1, 5), lambda: shared.depart(0, 0, 1), lambda: shared.row(2, 0), lambda: shared.totals(1)):
+        for call, *given in ((shared.arrive, 1, 1, 5), (shared.depart, 0, 0, 1), (shared.row, 2, 0),
+            (shared.totals, 1)):
             with self.assertRaises(Refusal) as caught:
-                call()
+                call(*given)
             self.assertEqual(caught.exception.number, Number.RIGHT)
         with self.assertRaises(Refusal) as caught:
             LIBRARY.shared_ledger(sample("region"), bytes(24))
         self.assertEqual(caught.exception.number, Number.SHARE)
 
     def test_pool(self):
-        first, second = sheet.write(GRID_TEXT + "version 4"), sheet.write(GRID_TEXT.replace("18400", "200") + "version 4")
+        first, second = (sheet.write(text + "version 4") for text in (GRID_TEXT, GRID_TEXT.replace("18400", "200")))
         self.assertEqual(LIBRARY.pool(first, second), second_pool.pooled(first, second))
         with self.assertRaises(Refusal) as caught:
             LIBRARY.pool(first, sheet.write(TEXT))

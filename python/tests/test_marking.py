@@ -28,13 +28,14 @@ class CourseTest(DeskTestCase):
         found = run("mark", COURSE, "--filed", COURSE / "filed.csv", "-o", target)
         self.assert_plain(found, 1)
         self.assertEqual(target.read_text(encoding="utf-8"), (COURSE / "marks.csv").read_text(encoding="utf-8"))
-        self.assertEqual(found.out.splitlines()[0], "30 sheets, 436 figures: 314 agrees, 24 fits, 33 low, 32 high, 1 unreadable, "
-                         "30 refused, 2 absent, 1 missing")
+        self.assertEqual(found.out.splitlines()[0], "30 sheets, 436 figures: 314 agrees, 24 fits, 33 low, 32 high, "
+                         "1 unreadable, 30 refused, 2 absent, 1 missing")
         with open(target, encoding="utf-8", newline="") as file:
             marks = list(csv.DictReader(file))
         self.assertEqual(list(marks[0]), COLUMNS)
         self.assertEqual(json.loads(run("mark", COURSE, "--filed", COURSE / "filed.csv", "--json").out), [
-            {name: int(word) if name.endswith("_mg") and word else word for name, word in mark.items()} for mark in marks])
+            {name: int(word) if name.endswith("_mg") and word else word for name, word in mark.items()}
+            for mark in marks])
 
     def test_stored_marks_by_fractions(self):
         """The verdicts once more, by the interval that a figure stands for."""
@@ -49,9 +50,11 @@ class CourseTest(DeskTestCase):
                 middle = Fraction(mark["mass"]) * Fraction(10) ** powers[mark["unit"]]
                 least, most = middle - step / 2, middle + step / 2
                 low, high = int(mark["low_mg"]), int(mark["high_mg"])
-                verdict = "low" if most < low else "high" if least > high else "agrees" if least <= low and high <= most else "fits"
+                inside = least <= low and high <= most
+                verdict = "low" if most < low else "high" if least > high else "agrees" if inside else "fits"
                 off = {"low": low - most, "high": least - high}.get(verdict)
-                self.assertEqual((mark["verdict"], mark["off_mg"]), (verdict, "" if off is None else str(int(off))), mark)
+                self.assertEqual((mark["verdict"], mark["off_mg"]), (verdict, "" if off is None else str(int(off))),
+                                 mark)
                 tried += 1
         self.assertEqual(tried, 314 + 24 + 33 + 32)
 
@@ -62,7 +65,8 @@ class CourseTest(DeskTestCase):
             shutil.copy(COURSE / (name + ".evp"), self.folder)
         lines = (COURSE / "filed.csv").read_text().splitlines(True)
         filed = self.put("filed.csv", lines[0] + "".join(
-            line for line in lines if line.split(".")[0] in names and (line.split(",")[1] in ("2", "cars", "light", "two"))))
+            line for line in lines
+            if line.split(".")[0] in names and line.split(",")[1] in ("2", "cars", "light", "two")))
         found = run("mark", self.folder, "--filed", filed, "-o", self.folder / "marks.csv", "--hints")
         said = [line for line in found.out.splitlines() if "guess: " in line]
         for expected in (
@@ -87,7 +91,8 @@ class FiledTest(DeskTestCase):
 
     def mark(self, lines: str, header: str = HEADER):
         self.put_sheet("a.evp", TEXT)
-        return run("mark", self.folder, "--filed", self.put("filed.csv", header + lines), "-o", self.folder / "m.csv", "--force")
+        filed = self.put("filed.csv", header + lines)
+        return run("mark", self.folder, "--filed", filed, "-o", self.folder / "m.csv", "--force")
 
     def marks(self, lines: str, header: str = HEADER) -> list[str]:
         found = self.mark(lines, header)
@@ -98,7 +103,8 @@ class FiledTest(DeskTestCase):
 
     def test_mistakes(self):
         for line, said in (
-            ('a.evp,total,,"2,834",t', "mass: '2,834' is no mass; with columns parted by , the decimal sign is a point"),
+            ('a.evp,total,,"2,834",t',
+             "mass: '2,834' is no mass; with columns parted by , the decimal sign is a point"),
             ("a.evp,total,,2.8.34,t", "mass: '2.8.34' is no mass; write digits and at most one decimal sign"),
             ("a.evp,total,,-2,t", "mass: '-2' is no mass; write digits and at most one decimal sign"),
             ("a.evp,total,,2e3,t", "mass: '2e3' is no mass; write digits and at most one decimal sign"),
@@ -119,7 +125,8 @@ class FiledTest(DeskTestCase):
 
     def test_twice(self):
         found = self.mark("a.evp,1,soak,2,t\nb.evp,1,soak,2,t\na.evp,1,soak,3,kg\n")
-        self.assertEqual(found.err, "evp: %s: line 4: row 1 soak of 'a.evp' stands in line 2 already\n" % (self.folder / "filed.csv"))
+        self.assertEqual(found.err,
+            "evp: %s: line 4: row 1 soak of 'a.evp' stands in line 2 already\n" % (self.folder / "filed.csv"))
 
     def test_many_mistakes(self):
         self.assert_plain(self.mark("a.evp,x,soak,2,t\n" * 5000), 2)
@@ -136,17 +143,19 @@ class FiledTest(DeskTestCase):
     def test_verdicts(self):
         total = LIBRARY.report(sheet.write(TEXT)).total
         self.assertEqual(self.marks("".join("a.evp,%s\n" % line for line in (
-            "total,,%d,mg" % total.low, "1,diurnal,0,mg", "2,soak,99999999,t", "7,soak,1,t", "all,soak,%s,kg" % ("9" * 40),
+            "total,,%d,mg" % total.low, "1,diurnal,0,mg", "2,soak,99999999,t", "7,soak,1,t",
+            "all,soak,%s,kg" % ("9" * 40),
             "cars,diurnal,1.%s,kg" % ("0" * 50)))), ["fits", "low", "high", "absent", "unreadable", "unreadable"])
-        self.assertEqual(self.marks("b.evp,total,,1,t\n../a.evp,total,,1,t\na,total,,1,t\n"), ["absent"] * 3 + ["missing"])
+        self.assertEqual(self.marks("b.evp,total,,1,t\n../a.evp,total,,1,t\na,total,,1,t\n"),
+                         ["absent"] * 3 + ["missing"])
         self.assertIn("a.evp is there", (self.folder / "m.csv").read_text())
 
     def test_right_figures(self):
         """All figures of a sample, as they are shown, agree."""
         self.put("region.evp", sample("region"))
         report = bands(LIBRARY.report(sample("region")))
-        lines = ["region.evp,%s,%s,%s,%s" % (*figure, *shown(band).replace(",", "").split()) for figure, band in report.items()
-                 if " to " not in shown(band)]
+        masses = {figure: shown(band).replace(",", "").split() for figure, band in report.items()}
+        lines = ["region.evp,%s,%s,%s,%s" % (*figure, *words) for figure, words in masses.items() if "to" not in words]
         self.assertGreater(len(lines), 80)
         self.assertEqual(self.marks("\n".join(lines) + "\n"), ["agrees"] * len(lines) + ["missing"])
 
@@ -154,7 +163,8 @@ class FiledTest(DeskTestCase):
         filed = self.put("filed.csv", HEADER)
         for words, said in (
             ((self.folder / "none", "--filed", filed, "-o", "x"), "a folder with sheets is wanted"),
-            ((self.folder, "--filed", filed, "-o", self.folder / "x"), "no sheet, that is no file whose name ends with .evp"),
+            ((self.folder, "--filed", filed, "-o", self.folder / "x"),
+             "no sheet, that is no file whose name ends with .evp"),
             ((self.folder, "--filed", self.folder / "none.csv", "-o", "x"), "there is no such file"),
             ((self.folder, "--filed", filed), "-o FILE names the file for the marks"),
         ):
@@ -193,7 +203,8 @@ class WordsTest(unittest.TestCase):
     def test_masses(self):
         for band, unit, said in (
             (Band(0, 0), None, "0 mg"), (Band(7, 7), None, "7 mg"), (Band(7, 8), None, "7 to 8 mg"),
-            (Band(2_834_491_356, 2_834_497_572), None, "2.8345 t"), (Band(2_834_491_356, 2_834_497_572), "kg", "2,834.5 kg"),
+            (Band(2_834_491_356, 2_834_497_572), None, "2.8345 t"),
+            (Band(2_834_491_356, 2_834_497_572), "kg", "2,834.5 kg"),
             (Band(589_567_619_415, 589_571_589_654), None, "589.57 t"), (Band(57_400, 58_600), None, "57 to 59 g"),
             (Band(1_000_000, 1_000_001), "t", "0.00100 t"),
         ):

@@ -7,6 +7,7 @@ from support import CAR, FITTED, GRID_TEXT, LISTS, SEASONS, TEXT, DeskTestCase, 
 from evp import sheet
 
 SEASONS_CSV = "days,lowest,highest,vp\n182,-2.0,9.5,90.0\n183,14.5,29.0,60.0\n"
+PARKING_HEADER = "duration,lasting,end_hour,ending\n"
 FLEET_CSV = (
     "class,technology,canister,carburettor,hot,fill,tank,vehicles,trips,minutes,load,saturation\n"
     "1,0,,99,45,40,,18400,4.80,12,0,0\n2,3,,0,50,45,,500,5.10,13,32.0,60.0\n")
@@ -19,25 +20,31 @@ MISTAKES = (
      "line 5: vehicles: '18,400' is no number; write the digits alone: 18400"),
     (LISTS + SEASONS + CAR.replace("18400", "18'400"),
      "line 5: vehicles: \"18'400\" is no number; write the digits alone: 18400"),
-    (LISTS + SEASONS + CAR.replace("18400", "18.400"), "line 5: vehicles: 18.400 has a point, and the field is a whole number"),
-    (LISTS + SEASONS + CAR.replace("4.80", "4.805"), "line 5: trips: 4.805 has 3 decimal places, and the field holds 2"),
+    (LISTS + SEASONS + CAR.replace("18400", "18.400"),
+     "line 5: vehicles: 18.400 has a point, and the field is a whole number"),
+    (LISTS + SEASONS + CAR.replace("4.80", "4.805"),
+     "line 5: trips: 4.805 has 3 decimal places, and the field holds 2"),
     (LISTS + SEASONS + CAR.replace("fill=40", "fill=-4"), "line 5: fill: -4 has a sign, and the field has none"),
     (LISTS + SEASONS + CAR.replace("fill=40", "fill=256"), "line 5: fill: 256 does not fit the field (0 to 255)"),
     (LISTS + SEASONS + CAR.replace("fill=40", "fill=4 fill=5"), "line 5: fill is given twice"),
-    (LISTS + SEASONS + CAR.replace("fill=40", "full=40"), "line 5: 'full': no such field (class, technology, canister, carburettor, "
-     "hot, fill, tank, vehicles, trips, minutes, load, saturation, mileage, spare)"),
+    (LISTS + SEASONS + CAR.replace("fill=40", "full=40"),
+     "line 5: 'full': no such field (class, technology, canister, carburettor, hot, fill, tank, vehicles, trips, "
+     "minutes, load, saturation, mileage, spare)"),
     (LISTS + SEASONS + CAR.replace("fill=40", "fill 40"), "line 5: 'fill': name=value wanted"),
     (LISTS + SEASONS + CAR.replace("class=1 ", ""), "line 5: row: class is missing"),
     (LISTS + SEASONS.replace("vp=90.0", "") + CAR, "line 3: season: vp is missing"),
-    (LISTS + "saison days=1\n" + SEASONS + CAR, "line 3: 'saison': no such line (durations, hours, grid, season, row, version)"),
+    (LISTS + "saison days=1\n" + SEASONS + CAR,
+     "line 3: 'saison': no such line (durations, hours, grid, season, row, version)"),
     (LISTS.replace(" 130", "") + SEASONS + CAR, "line 1: durations: 24 counts wanted, 23 found"),
     (LISTS.replace(" 130", " 130 1") + SEASONS + CAR, "line 1: durations: 24 counts wanted, 25 found"),
     (TEXT + grid(), "line 7: a grid stands in place of durations and hours, and both are given"),
-    (LISTS + SEASONS + CAR.replace("\n", " mileage=5\n"), "line 5: row: a mileage wants a grid in place of durations and hours"),
+    (LISTS + SEASONS + CAR.replace("\n", " mileage=5\n"),
+     "line 5: row: a mileage wants a grid in place of durations and hours"),
     (LISTS + SEASONS + CAR * 33, "line 37: row: more than 32 rows want a grid in place of durations and hours"),
     ("", "the file is empty"),
     ("# nothing yet\n", "line 1: durations: 24 counts wanted, 0 found"),
-    (LISTS + SEASONS + CAR.replace("18400", "\x1b[2J" + "9" * 9999), "line 5: vehicles: '\\x1b[2J" + "9" * 36 + "…' is no number"),
+    (LISTS + SEASONS + CAR.replace("18400", "\x1b[2J" + "9" * 9999),
+     "line 5: vehicles: '\\x1b[2J" + "9" * 36 + "…' is no number"),
 )
 
 
@@ -62,7 +69,8 @@ class TextTest(DeskTestCase):
     def test_bytes_that_are_no_text(self):
         for content, said in (
             (b"\xef\xbb\xbf" + TEXT.encode(), ""), (TEXT.replace("\n", "\r\n").encode(), ""),
-            (b"# caf\xe9\n" + TEXT.encode(), "line 1: byte 5 (e9 hexadecimal) is no UTF-8; save it as UTF-8, in Excel as \"CSV UTF-8\""),
+            (b"# caf\xe9\n" + TEXT.encode(),
+             "line 1: byte 5 (e9 hexadecimal) is no UTF-8; save it as UTF-8, in Excel as \"CSV UTF-8\""),
             (TEXT.encode("utf-16"), "this is UTF-16; save it as UTF-8, in Excel as \"CSV UTF-8\""),
             (b"PK\3\4abc", "this is a workbook or an archive; save its tables as csv, in Excel as \"CSV UTF-8\""),
             (sample("example"), "this is a sheet already; evp read makes a text of it"),
@@ -75,13 +83,17 @@ class TextTest(DeskTestCase):
 
     def test_write(self):
         path, target = self.put("a.txt", TEXT), self.folder / "a.evp"
-        self.assertEqual(run("write", path), (0, "%s: 168 bytes, accepted: version 1, 2 seasons, 2 rows\n" % target, ""))
+        self.assertEqual(run("write", path),
+                         (0, "%s: 168 bytes, accepted: version 1, 2 seasons, 2 rows\n" % target, ""))
         self.assertEqual(target.read_bytes(), sheet.write(TEXT))
-        self.assertEqual(run("write", path), (2, "", "evp: %s: there is such a file already; --force writes over it\n" % target))
+        self.assertEqual(run("write", path),
+                         (2, "", "evp: %s: there is such a file already; --force writes over it\n" % target))
         self.assertEqual(run("write", path, "--force").status, 0)
         self.assertEqual(run("write", "-", "-o", "-", given=TEXT.encode()).status, 0)
-        self.assertEqual(run("write", "-", given=TEXT.encode()).err, "evp: standard input has no name: -o SHEET names the sheet\n")
-        self.assertEqual(run("write", self.put("b.txt", GRID_TEXT), "--version", 4, "-o", self.folder / "c.evp").status, 0)
+        self.assertEqual(run("write", "-", given=TEXT.encode()).err,
+                         "evp: standard input has no name: -o SHEET names the sheet\n")
+        grid_text = self.put("b.txt", GRID_TEXT)
+        self.assertEqual(run("write", grid_text, "--version", 4, "-o", self.folder / "c.evp").status, 0)
         self.assertEqual((self.folder / "c.evp").read_bytes()[3], 4)
 
     def test_refused(self):
@@ -89,8 +101,8 @@ class TextTest(DeskTestCase):
         path = self.put("a.txt", TEXT.replace("load=32.0", "load=70.0"))
         found = run("write", path)
         self.assertEqual((found.status, found.out), (
-            1, "%s: 168 bytes, refused 19 at 144: row 2: load 70.0 g is above m_sat 60.0 g; write at most 60.0 (%s: line 6)\n" % (
-                self.folder / "a.evp", path)))
+            1, "%s: 168 bytes, refused 19 at 144: row 2: load 70.0 g is above m_sat 60.0 g; write at most 60.0 "
+            "(%s: line 6)\n" % (self.folder / "a.evp", path)))
 
     def test_text_is_never_overwritten(self):
         path = self.put("a.evp", TEXT)
@@ -102,10 +114,12 @@ class TextTest(DeskTestCase):
         for text, said in (
             (LISTS + SEASONS + CAR.replace(" vehicles=18400", ""), "line 5: vehicles left out, so 0"),
             (LISTS + SEASONS + CAR.replace(" hot=45 fill=40", ""), "line 5: hot, fill left out, so 0"),
-            (LISTS + SEASONS + FITTED.replace(" load=32.0 saturation=60.0", ""), "line 5: saturation, load left out, so 0"),
+            (LISTS + SEASONS + FITTED.replace(" load=32.0 saturation=60.0", ""),
+             "line 5: saturation, load left out, so 0"),
             (LISTS + SEASONS + CAR.replace("vehicles=18400", "vehicles=0"), "line 5: no vehicles, so no mass"),
             (TEXT + CAR, "lines 5, 7: these rows are alike in all but vehicles; was one entered twice?"),
-            (TEXT + CAR.replace("18400", "7"), "lines 5, 7: these rows are alike in all but vehicles; was one entered twice?"),
+            (TEXT + CAR.replace("18400", "7"),
+             "lines 5, 7: these rows are alike in all but vehicles; was one entered twice?"),
             (TEXT.replace("lowest=14.5 highest=29.0", "lowest=41 highest=49.5"),
              "line 4: lowest 41, highest 49.5: is this °F? In °C it would be 5.0 and 9.7"),
             (TEXT.replace("vp=60.0", "vp=9.0"), "line 4: vp 9.0: is this psi? In kPa it would be 62.1"),
@@ -185,15 +199,18 @@ class FolderTest(DeskTestCase):
             ({"seasons": "days,lowest,highest\n1,2,3\n"}, "seasons.csv: line 1: the column vp is missing"),
             ({"seasons": "days,days,lowest,highest,vp\n"}, "seasons.csv: line 1: the column days is there twice"),
             ({"seasons": ""}, "seasons.csv: the file is empty"),
-            ({"seasons": "# nothing\n"}, "seasons.csv: the table is empty; its first line names the columns: days, lowest, highest, vp"),
+            ({"seasons": "# nothing\n"},
+             "seasons.csv: the table is empty; its first line names the columns: days, lowest, highest, vp"),
             ({"seasons": SEASONS_CSV.replace("183", "")}, "seasons.csv: line 3: season: days is missing"),
             ({"seasons": SEASONS_CSV.replace(",", ";").replace("14.5", "1.234,5")},
              "seasons.csv: line 3: lowest: '1.234,5' is no number"),
-            ({"fleet": FLEET_CSV.replace("500", "5.000")}, "fleet.csv: line 3: vehicles: 5.000 has a point, and the field is a whole number"),
+            ({"fleet": FLEET_CSV.replace("500", "5.000")},
+             "fleet.csv: line 3: vehicles: 5.000 has a point, and the field is a whole number"),
             ({"fleet": FLEET_CSV.replace("2,3,", "2,,")}, "fleet.csv: line 3: row: technology is missing"),
-            ({"parking": "duration,lasting,end_hour,ending\n0.5,1,1,1\n0.5,1,2,1\n"}, "parking.csv: line 3: duration 0.5 is given twice"),
-            ({"parking": "duration,lasting,end_hour,ending\n0.7,1,1,1\n"}, "parking.csv: line 2: duration: '0.7' is not 0.5 to 12"),
-            ({"parking": "duration,lasting,end_hour,ending\n" + "".join("%g,1,%d,1\n" % (d / 2, d) for d in range(1, 24))},
+            ({"parking": PARKING_HEADER + "0.5,1,1,1\n0.5,1,2,1\n"},
+             "parking.csv: line 3: duration 0.5 is given twice"),
+            ({"parking": PARKING_HEADER + "0.7,1,1,1\n"}, "parking.csv: line 2: duration: '0.7' is not 0.5 to 12"),
+            ({"parking": PARKING_HEADER + "".join("%g,1,%d,1\n" % (d / 2, d) for d in range(1, 24))},
              "parking.csv: duration: all of 0.5 to 12 are wanted; 12 is missing"),
         ):
             with self.subTest(said):
@@ -208,25 +225,28 @@ class FolderTest(DeskTestCase):
         (folder / "grid.csv").unlink()
         (folder / "fleet.csv").unlink()
         self.assertEqual(run("write", folder).err,
-                         "evp: %s: there is no fleet.csv; a folder has seasons.csv, fleet.csv, and parking.csv or grid.csv\n" % folder)
+                         "evp: %s: there is no fleet.csv; a folder has seasons.csv, fleet.csv, and parking.csv or "
+                         "grid.csv\n" % folder)
 
     def test_doubts_name_the_table(self):
         folder = self.put_folder(fleet=FLEET_CSV.replace("18400", ""))
-        self.assertEqual(run("write", folder).err, "evp: note: %s/fleet.csv: line 2: vehicles left out, so 0\n" % folder)
+        self.assertEqual(run("write", folder).err,
+                         "evp: note: %s/fleet.csv: line 2: vehicles left out, so 0\n" % folder)
 
     def test_templates(self):
         """They are read as empty tables, and are whole once they are filled in."""
         for options, more in (((), "parking.csv"), (("--grid",), "grid.csv"), (("--grid", "--semicolon"), "grid.csv")):
             folder = self.folder / "t"
             found = run("template", folder, "--force", *options)
-            self.assertEqual(found, (0, "".join("%s/%s\n" % (folder, name) for name in ("seasons.csv", "fleet.csv", more)), ""))
+            self.assertEqual(found,
+                (0, "".join("%s/%s\n" % (folder, name) for name in ("seasons.csv", "fleet.csv", more)), ""))
             sign, point = (";", ",") if "--semicolon" in options else (",", ".")
             with open(folder / "seasons.csv", "a", encoding="utf-8") as file:
-                file.write(sign.join(("summer", "183", "14%s5" % point, "29", "60")) + "\n")
+                file.write("summer,183,14.5,29,60\n".replace(",", sign).replace(".", point))
             with open(folder / "fleet.csv", "a", encoding="utf-8") as file:
-                file.write(sign.join(("old cars", "1", "0", "", "99", "45", "40", "", "18400", "4%s80" % point, "12", "0", "0")) + "\n")
+                file.write("old cars,1,0,,99,45,40,,18400,4.80,12,0,0\n".replace(",", sign).replace(".", point))
             parking = (folder / more).read_text(encoding="utf-8-sig").splitlines()
-            parking[2] += sign + "7" if more == "grid.csv" else sign + "7"
+            parking[2] += sign + "7"
             parking[2] = parking[2].replace(sign * 2, sign + "7" + sign)
             (folder / more).write_text("\n".join(parking), encoding="utf-8")
             found = run("write", folder, "-o", self.folder / "t.evp", "--force")
@@ -244,7 +264,8 @@ class FolderTest(DeskTestCase):
 
     def test_bytes_without_a_place(self):
         for text, said in ((TEXT + "zero 1", "byte 7 is not 0"), (TEXT + "tail 00", "tables hold whole sheets"),
-                           (TEXT.replace("saturation=60.0", "saturation=60.0 spare=00000001"), "row 2: bytes 20 to 23 are not 0")):
+                           (TEXT.replace("saturation=60.0", "saturation=60.0 spare=00000001"),
+                            "row 2: bytes 20 to 23 are not 0")):
             found = run("read", self.put_sheet("a.evp", text), "--csv", self.folder / "g")
             self.assertEqual(found.status, 2)
             self.assertIn(said, found.err)
