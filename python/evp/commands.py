@@ -11,7 +11,7 @@ from evp import library as calls
 from evp import marking, show
 from evp.cells import cells_csv, cells_of, read_travel
 from evp.convert import converted
-from evp.explain import call_text, explain
+from evp.explain import Explanation, call_text, explain
 from evp.files import InputError, make_folder, read_sheet, read_text, write_file
 from evp.hints import with_hints
 from evp.library import Library, Refusal, Report
@@ -140,15 +140,17 @@ def write_sheet(given: Namespace) -> int:
         print("evp: note: %s" % line, file=sys.stderr)
     explanation = explain(library, data)
     out = sys.stderr if target == "-" else sys.stdout
-    print("%s: %d bytes, %s%s" % (
-        name_shown(target), len(data), explanation.line, _source_of(builder, explanation)), file=out)
+    where = _source_of(builder, explanation)
+    print("%s: %d bytes, %s" % (name_shown(target), len(data), explanation.refusal if where else explanation.line), file=out)
+    if where:
+        print("%s: %s" % (where, explanation.text), file=out)
     return REFUSED if explanation.number else FINE
 
 
-def _source_of(builder: Builder, explanation) -> str:
-    """Where the record at fault stands in the text."""
+def _source_of(builder: Builder, explanation: Explanation) -> str:
+    """Where the record at fault stands in the text; empty where it does not."""
     places = {"season": builder.season_places, "row": builder.row_places}.get(explanation.record, [])
-    return " (%s)" % places[explanation.index - 1] if explanation.index and explanation.index <= len(places) else ""
+    return places[explanation.index - 1] if explanation.index and explanation.index <= len(places) else ""
 
 
 def read_back(given: Namespace) -> int:

@@ -230,8 +230,8 @@ def _length(site: Site) -> Words:
     off = asked - len(data)
     beyond = "" if len(data) > SHEET_BYTES else ": %s %s" % (
         apart(abs(off)), ("is missing" if off == 1 else "are missing") if off > 0 else "too many")
-    return Words("%s, and the head (%s) asks for %s%s" % (size, contents(data), apart(asked), beyond),
-                 _length_advice(data))
+    return Words("%s, and the head asks for %s%s" % (size, apart(asked), beyond), _length_advice(data),
+                 ("head: " + contents(data),))
 
 
 def _length_advice(data: bytes) -> str:

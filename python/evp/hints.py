@@ -64,7 +64,9 @@ def _remarks(name: str, guesses: Iterable[str], guesser: "Guesser") -> Iterator[
         yield "  guess: %s: %s: %s" % (name_shown(name), counted(guesses.count(guess), "figure"), guess)
     left = guesses.count("")
     if left:
-        yield "  no guess: %s: %s%s" % (name_shown(name), counted(left, "figure"), guesser.cannot_tell())
+        yield "  no guess: %s: %s" % (name_shown(name), counted(left, "figure"))
+        for unseen in guesser.cannot_show():
+            yield "  cannot show: %s: %s" % (name_shown(name), unseen)
 
 
 def _pair(a: Figure, b: Figure) -> tuple[str, str]:
@@ -124,13 +126,13 @@ class Guesser:
                 return misreading.words
         return ""
 
-    def cannot_tell(self) -> str:
+    def cannot_show(self) -> Iterator[str]:
         """Which misreadings this sheet cannot tell from the right reading."""
         if not reckoning():
-            return "; the misreadings are not tried: the second reckoning, tools/, is not there"
-        unseen = ["%s (%s)" % (misreading.words, misreading.unseen) for misreading in MISREADINGS
-                  if self.unseen.get(misreading.name)]
-        return "; this sheet cannot show: " + ", ".join(unseen) if unseen else ""
+            yield "misreadings (the second reckoning, tools/, is not there)"
+        for misreading in MISREADINGS:
+            if self.unseen.get(misreading.name):
+                yield "%s (%s)" % (misreading.words, misreading.unseen)
 
     def _misread(self, figure: Figure, misreading: Misreading) -> Band:
         """The mass that a figure would have, cut down and up to milligrams."""

@@ -81,22 +81,26 @@ refused 6 at 7: head (bytes 0 to 7)
 """),
     ((7, 1), TEXT + "cut 150", """
 refused 7 at 0: sheet
-  150 bytes, and the head (version 1, 2 seasons, 2 rows) asks for 168: 18 are missing
+  150 bytes, and the head asks for 168: 18 are missing
+  head: version 1, 2 seasons, 2 rows
   take the whole file again
 """),
     ((7, 1), TEXT + "tail 00", """
 refused 7 at 0: sheet
-  169 bytes, and the head (version 1, 2 seasons, 2 rows) asks for 168: 1 too many
+  169 bytes, and the head asks for 168: 1 too many
+  head: version 1, 2 seasons, 2 rows
   take the whole file again
 """),
     ((7, 1), TEXT + "version 2", """
 refused 7 at 0: sheet
-  168 bytes, and the head (version 2, 2 seasons, 2 rows) asks for 1,224: 1,056 are missing
+  168 bytes, and the head asks for 1,224: 1,056 are missing
+  head: version 2, 2 seasons, 2 rows
   it is as long as a sheet of version 1: look at bytes 3 and 4
 """),
     ((7, 1), TEXT + "rows 3", """
 refused 7 at 0: sheet
-  168 bytes, and the head (version 1, 2 seasons, 3 rows) asks for 192: 24 are missing
+  168 bytes, and the head asks for 192: 24 are missing
+  head: version 1, 2 seasons, 3 rows
   it is as long as a sheet with 2 rows: look at byte 6, or take the whole file again
 """),
     ((8, 1), changed("durations 420", "durations 4200"), """

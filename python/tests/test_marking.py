@@ -79,8 +79,9 @@ class CourseTest(DeskTestCase):
         ):
             self.assertIn(expected, said)
         self.assertIn("no guess: glen.evp: ", found.out)
-        self.assertIn("this sheet cannot show: load divided by s, not multiplied (no canister is small or large), "
-                      "vapour cut off at m_sat (no canister overflows)", found.out)
+        for unseen in ("load divided by s, not multiplied (no canister is small or large)",
+                       "vapour cut off at m_sat (no canister overflows)"):
+            self.assertIn("  cannot show: glen.evp: %s\n" % unseen, found.out)
         notes = (self.folder / "marks.csv").read_text()
         self.assertIn("; guess: vapour counted while it cools,", notes)
         self.assertNotIn("guess", "".join(line for line in notes.splitlines() if line.startswith("north")))

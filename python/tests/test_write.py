@@ -101,8 +101,11 @@ class TextTest(DeskTestCase):
         path = self.put("a.txt", TEXT.replace("load=32.0", "load=70.0"))
         found = run("write", path)
         self.assertEqual((found.status, found.out), (
-            1, "%s: 168 bytes, refused 19 at 144: row 2: load 70.0 g is above m_sat 60.0 g; write at most 60.0 "
-            "(%s: line 6)\n" % (self.folder / "a.evp", path)))
+            1, "%s: 168 bytes, refused 19 at 144\n"
+            "%s: line 6: row 2: load 70.0 g is above m_sat 60.0 g; write at most 60.0\n" % (self.folder / "a.evp", path)))
+        found = run("write", self.put("b.txt", TEXT + "zero 1"))
+        self.assertEqual(found.out, "%s: 168 bytes, refused 6 at 7: byte 7 is 1, and it must be 0 up to version 3; "
+                         "write 0; more than 255 rows need version 4\n" % (self.folder / "b.evp"))
 
     def test_text_is_never_overwritten(self):
         path = self.put("a.evp", TEXT)
