@@ -1,6 +1,7 @@
 """The command `evp`: its arguments and its exit status."""
 
 import argparse
+import io
 import os
 import signal
 import sys
@@ -127,6 +128,9 @@ def main(words: list[str] | None = None) -> int:
     """Runs a command; whatever goes wrong is said in words."""
     if words is None and hasattr(signal, "SIGPIPE"):  # a reader such as head may leave early
         signal.signal(signal.SIGPIPE, signal.SIG_DFL)
+    for stream in (sys.stdout, sys.stderr):
+        if isinstance(stream, io.TextIOWrapper):  # a terminal may not know a sign
+            stream.reconfigure(errors="replace")
     given = parser().parse_args(words)
     try:
         return given.run(given)

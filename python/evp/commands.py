@@ -51,7 +51,7 @@ def limited(lines: Iterable[str], rest: str) -> list[str]:
 
 
 def print_json(found: object):
-    print(json.dumps(found, ensure_ascii=False, indent=2))
+    print(json.dumps(found, indent=2))
 
 
 def report_or_refusal(library: Library, name: str) -> tuple[bytes, Report | None]:
@@ -141,7 +141,8 @@ def write_sheet(given: Namespace) -> int:
     explanation = explain(library, data)
     out = sys.stderr if target == "-" else sys.stdout
     where = _source_of(builder, explanation)
-    print("%s: %d bytes, %s" % (name_shown(target), len(data), explanation.refusal if where else explanation.line), file=out)
+    line = explanation.refusal if where else explanation.line
+    print("%s: %d bytes, %s" % (name_shown(target), len(data), line), file=out)
     if where:
         print("%s: %s" % (where, explanation.text), file=out)
     return REFUSED if explanation.number else FINE
@@ -228,10 +229,11 @@ def mark(given: Namespace) -> int:
     marks = marking.marks_of(library, sheets, filed.filings)
     lines = limited(marking.summary(marks, len(sheets)), "sheets to look at")
     if given.hints:
-        marks, remarks = with_hints(library, sheets, filed.filings, marks)
+        marks, remarks = with_hints(library, sheets, filed.filings, marks, Progress())
         lines += limited(remarks, "guesses")
     if given.output:
-        write_file(given.output, marking.marks_csv(marks, filed.semicolon).encode(), given.force)
+        text = marking.marks_csv(marks, filed.semicolon)
+        write_file(given.output, text.encode("utf-8", "surrogateescape"), given.force)  # names as the folder has them
     if given.json:
         print_json([line._asdict() for line in marks])
     elif given.output != "-":

@@ -41,20 +41,21 @@ MISREADINGS = (
 )
 
 
-def with_hints(library: Library, sheets: dict[str, Marked], filings: list[Filing],
-               marks: list[Mark]) -> tuple[list[Mark], list[str]]:
+def with_hints(library: Library, sheets: dict[str, Marked], filings: list[Filing], marks: list[Mark],
+               progress: Callable[[int, int], None]) -> tuple[list[Mark], list[str]]:
     """The marks with a guess in the note of each wrong figure, and what to say of the guesses."""
     by_sheet: dict[str, list[int]] = {}
     for i, mark in enumerate(marks):
         if mark.verdict in WRONG:
             by_sheet.setdefault(mark.sheet, []).append(i)
     hinted, remarks = list(marks), []
-    for name, wrong in by_sheet.items():
+    for done, (name, wrong) in enumerate(by_sheet.items(), 1):
         guesser = Guesser(library, sheets[name], {filing.figure: filing for filing in filings if filing.sheet == name})
         guesses = {i: guesser.guess(filings[i]) for i in wrong}
         for i, guess in guesses.items():
             hinted[i] = marks[i]._replace(note="%s; %s" % (marks[i].note, "guess: " + guess if guess else "no guess"))
         remarks += _remarks(name, guesses.values(), guesser)
+        progress(done, len(by_sheet))
     return hinted, remarks
 
 

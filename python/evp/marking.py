@@ -142,7 +142,7 @@ def _marked(library: Library, path: Path) -> Marked:
 def sheets_of(folder: str | Path) -> list[Path]:
     """The sheets of a folder by name."""
     try:
-        found = sorted(path for path in Path(folder).iterdir() if path.suffix == ".evp")
+        found = sorted(path for path in Path(folder).iterdir() if path.suffix.lower() == ".evp" and path.is_file())
     except OSError as error:
         raise failed(folder, error) from None
     if not found:

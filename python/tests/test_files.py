@@ -1,5 +1,6 @@
 """Files that are none: nothing makes a command fail without words, print more than a screen, or wait for long."""
 
+import json
 import os
 import subprocess
 import sys
@@ -138,6 +139,18 @@ class BadFilesTest(DeskTestCase):
         self.assertNotIn("Traceback", found.err)
 
 
+    def test_name_that_is_no_text(self):
+        """A name that is no UTF-8, on the command line and in a folder."""
+        path = os.fsencode(self.folder) + b"/caf\xe9.evp"
+        with open(path, "wb") as file:
+            file.write(sample("example"))
+        self.assertIn("caf?.evp: accepted", run("check", os.fsdecode(path)).out)
+        self.assertEqual(json.loads(run("check", os.fsdecode(path), "--json").out)[0]["file"], os.fsdecode(path))
+        filed = self.put("filed.csv", "sheet,row,mechanism,mass,unit\n")
+        self.assert_plain(run("mark", self.folder, "--filed", filed, "-o", self.folder / "m.csv"), 1)
+        self.assertIn(b"caf\xe9.evp,,,,,missing,", (self.folder / "m.csv").read_bytes())
+
+
 class StartTest(unittest.TestCase):
     """The command itself."""
 
@@ -151,6 +164,11 @@ class StartTest(unittest.TestCase):
         line = "'%s' show samples/districts.evp | head -1" % (TOP / "evp")
         found = subprocess.run(line, shell=True, capture_output=True, text=True, cwd=TOP)
         self.assertEqual(found.stderr, "")
+
+    def test_a_terminal_without_signs(self):
+        changed = {**os.environ, "PYTHONIOENCODING": "ascii"}
+        found = subprocess.run([TOP / "evp", "template", "--help"], capture_output=True, text=True, env=changed)
+        self.assertEqual((found.returncode, found.stderr), (0, ""))
 
     def test_no_library(self):
         changed = {**os.environ, "EVP_LIBRARY": "/none.so"}

@@ -6,6 +6,7 @@ import shutil
 import time
 import unittest
 from fractions import Fraction
+from unittest import mock
 
 from support import LIBRARY, SAMPLES, TEXT, DeskTestCase, run, sample
 
@@ -85,6 +86,16 @@ class CourseTest(DeskTestCase):
         notes = (self.folder / "marks.csv").read_text()
         self.assertIn("; guess: vapour counted while it cools,", notes)
         self.assertNotIn("guess", "".join(line for line in notes.splitlines() if line.startswith("north")))
+
+
+    def test_hints_without_the_second_reckoning(self):
+        shutil.copy(COURSE / "moor.evp", self.folder)
+        lines = (COURSE / "filed.csv").read_text().splitlines(True)
+        filed = self.put("filed.csv", lines[0] + "".join(line for line in lines if line.startswith("moor")))
+        with mock.patch("evp.hints.reckoning", return_value=None):
+            found = run("mark", self.folder, "--filed", filed, "-o", self.folder / "marks.csv", "--hints")
+        self.assertIn("  no guess: moor.evp: 7 figures\n  cannot show: moor.evp: misreadings (the second reckoning, tools/, "
+                      "is not there)\n", found.out)
 
 
 class FiledTest(DeskTestCase):
