@@ -134,6 +134,9 @@ def main(words: list[str] | None = None) -> int:
     given = parser().parse_args(words)
     try:
         return given.run(given)
+    except commands.SheetRefused as refused:
+        print(refused, file=sys.stderr)
+        return commands.REFUSED
     except (InputError, MissingCall) as error:
         _complain(str(error))
     except KeyboardInterrupt:

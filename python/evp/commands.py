@@ -1,4 +1,5 @@
-"""What the commands do. Each gives its exit status: 0 fine, 1 refused or a figure wrong; InputError is 2."""
+"""What the commands do. Each gives its exit status, 0 fine or 1 where a sheet is refused or a figure wrong;
+SheetRefused is 1 too, InputError 2."""
 
 import json
 import os
@@ -54,14 +55,17 @@ def print_json(found: object):
     print(json.dumps(found, indent=2))
 
 
-def report_or_refusal(library: Library, name: str) -> tuple[bytes, Report | None]:
-    """A sheet and its report; where it is refused that is said, in words."""
+class SheetRefused(Exception):
+    """A sheet that has no report, and why, in one line."""
+
+
+def read_report(library: Library, name: str) -> tuple[bytes, Report]:
+    """A sheet and its report."""
     data = read_sheet(name)
     try:
         return data, library.report(data)
     except Refusal:
-        print("%s: %s" % (name_shown(name), explain(library, data).line), file=sys.stderr)
-        return data, None
+        raise SheetRefused("%s: %s" % (name_shown(name), explain(library, data).line)) from None
 
 
 # ------------------------------------------------------------------ sheets
@@ -93,9 +97,7 @@ def explain_sheet(given: Namespace) -> int:
 
 
 def show_sheet(given: Namespace) -> int:
-    data, report = report_or_refusal(get_library(), given.sheet)
-    if report is None:
-        return REFUSED
+    data, report = read_report(get_library(), given.sheet)
     if given.json:
         print_json(show.report_json(given.sheet, data, report))
     elif given.csv:
@@ -187,9 +189,7 @@ def template(given: Namespace) -> int:
 
 def convert(given: Namespace) -> int:
     library = get_library()
-    data, report = report_or_refusal(library, given.sheet)
-    if report is None:
-        return REFUSED
+    data, report = read_report(library, given.sheet)
     try:
         later = converted(data, given.to)
     except InputError as error:
@@ -244,9 +244,7 @@ def mark(given: Namespace) -> int:
 
 def compare(given: Namespace) -> int:
     library = get_library()
-    reports = [report_or_refusal(library, name)[1] for name in (given.a, given.b)]
-    if None in reports:
-        return REFUSED
+    reports = [read_report(library, name)[1] for name in (given.a, given.b)]
     found = show.differences(*reports)
     if given.json:
         print_json({"a": given.a, "b": given.b, "figures": [difference.json() for difference in found]})
@@ -260,9 +258,7 @@ def compare(given: Namespace) -> int:
 
 def species(given: Namespace) -> int:
     library = get_library()
-    _, report = report_or_refusal(library, given.sheet)
-    if report is None:
-        return REFUSED
+    _, report = read_report(library, given.sheet)
     total = report.total.high
     masses = library.species(total)
     if given.csv:
@@ -274,9 +270,7 @@ def species(given: Namespace) -> int:
 
 def cells(given: Namespace) -> int:
     library = get_library()
-    _, report = report_or_refusal(library, given.sheet)
-    if report is None:
-        return REFUSED
+    _, report = read_report(library, given.sheet)
     travels = read_travel(given.travel, len(report.rows))
     text = cells_csv(cells_of(library, report, travels))
     if given.output:
@@ -293,23 +287,19 @@ def pool(given: Namespace) -> int:
     try:
         pooled = library.pool(first, second)
     except Refusal as refusal:
-        _say_pool_refusal(library, refusal, names, (first, second))
-        return REFUSED
+        raise SheetRefused(_pool_refusal(library, refusal, names, (first, second))) from None
     write_file(given.output, pooled, given.force)
     if given.output != "-":
         print("%s: %d bytes, %s" % (name_shown(given.output), len(pooled), explain(library, pooled).line))
     return FINE
 
 
-def _say_pool_refusal(library: Library, refusal: Refusal, names: tuple[str, str], sheets: tuple[bytes, bytes]):
+def _pool_refusal(library: Library, refusal: Refusal, names: tuple[str, str], sheets: tuple[bytes, bytes]) -> str:
     if refusal.sheet == 3:
-        print("%s and %s: %s" % (*map(name_shown, names), call_text(refusal)), file=sys.stderr)
-        return
+        return "%s and %s: %s" % (*map(name_shown, names), call_text(refusal))
     name, data = names[refusal.sheet - 1], sheets[refusal.sheet - 1]
     explanation = explain(library, data)
     line = explanation.line
     if explanation.number != refusal.number:
         line = "%s: only sheets of version 4 are pooled; evp convert --to 4 makes one" % refusal
-    print("%s: %s" % (name_shown(name), line), file=sys.stderr)
-
-
+    return "%s: %s" % (name_shown(name), line)

@@ -15,8 +15,10 @@ from evp.wording import apart, counted
 SHIFT = 32768  # what a finding adds to temperatures
 BYTES = re.compile(r" \(bytes? [0-9]+(?: to [0-9]+)?\)")  # as byte_range has them, in brackets
 
-# What a call refuses besides a sheet.
+# What a call refuses besides a sheet; 5 and 26 of the pool call, where each sheet by itself is fine.
 CALLS = {
+    5: "the two sheets together have more than 1,000 rows",
+    26: "the two sheets together have more than 100,000,000 vehicles",
     22: "the room that was lent is too small",
     23: "there is no such season, row or factor",
     27: "a low is above its high, a mass is above 2^53 mg, or a cell is none",

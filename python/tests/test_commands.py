@@ -177,6 +177,13 @@ class PoolTest(DeskTestCase):
             found = run("pool", first, second, "-o", target)
             self.assertEqual((found.status, target.exists()), (1, False))
             self.assertTrue(found.err.startswith("%s: %s" % (second, said)), found.err)
+        start = GRID_TEXT[:GRID_TEXT.index("row ")] + "version 4\n"
+        for row, said in (("row class=1 technology=0\n" * 501,
+            "refused 5: the two sheets together have more than 1,000 rows"),
+                          ("row class=1 technology=0 vehicles=10000000\n" * 6,
+                           "refused 26: the two sheets together have more than 100,000,000 vehicles")):
+            one, other = (self.put_sheet(name, start + row) for name in ("d.evp", "e.evp"))
+            self.assertEqual(run("pool", one, other, "-o", target).err, "%s and %s: %s\n" % (one, other, said))
         second = self.put_sheet("b.evp", GRID_TEXT.replace("vp=60.0", "vp=61.0") + "version 4")
         self.assertEqual(run("pool", first, second, "-o", target).err,
                          "%s and %s: refused 32: the seasons or the parking of the two sheets differ\n" % (
