@@ -4,6 +4,7 @@ import hashlib
 import re
 from collections import Counter
 from collections.abc import Callable, Iterable, Iterator
+from functools import cache
 from pathlib import Path
 from typing import NamedTuple
 
@@ -90,6 +91,7 @@ def _filing(line: Line, table: Table) -> Filing:
     return Filing(sheet, _figure(row, mechanism), mass, unit, _filed(mass, unit, table))
 
 
+@cache
 def _figure(row: str, mechanism: str) -> Figure:
     if row == TOTAL:
         if mechanism:
