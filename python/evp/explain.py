@@ -200,7 +200,7 @@ def _short(site: Site) -> Words:
 
 def _letters(site: Site) -> Words:
     found = " ".join("%02x" % byte for byte in site.data[:3])
-    return Words("a sheet starts with the letters EVP, 45 56 50 hexadecimal; this one with %s" % found,
+    return Words("a sheet starts with EVP (45 56 50 hexadecimal), this one with %s" % found,
                  _looks_like(site.data))
 
 

@@ -14,8 +14,7 @@ from evp.tables import table_text
 from evp.wording import apart
 
 SHORT_NAMES = {  # of classes, for a table that a terminal has room for
-    1: "car < 1.4 l", 2: "car 1.4-2.0 l", 3: "car > 2.0 l",
-    7: "4-stroke < 250", 8: "4-stroke to 750", 9: "4-stroke > 750",
+    1: "car < 1.4 l", 2: "car 1.4-2.0 l", 3: "car > 2.0 l", 7: "4-stroke <250", 8: "4-stroke -750", 9: "4-stroke >750",
 }
 
 
@@ -51,11 +50,12 @@ def report_lines(file: str, data: bytes, report: Report, unit: str | None = None
 
 
 def _table(data: bytes, report: Report, unit: str | None) -> Iterator[tuple[str, ...]]:
-    yield "row", "vehicle", "technology", "canister", "vehicles", *MECHANISMS
+    yield "row", "vehicle", "tech.", "canister", "vehicles", *MECHANISMS
     for i, masses in enumerate(report.rows):
         row = layout.row(data, i)
-        yield (str(i + 1), SHORT_NAMES.get(row["class"], CLASSES[row["class"]][0]), technology_name(row["technology"]),
-               canister_name(row), apart(row["vehicles"]), *(shown(band, unit) for band in masses))
+        technology = technology_name(row["technology"]) if row["technology"] else "conv."
+        yield (str(i + 1), SHORT_NAMES.get(row["class"], CLASSES[row["class"]][0]), technology, canister_name(row),
+               apart(row["vehicles"]), *(shown(band, unit) for band in masses))
     for name, masses in groups(report):
         yield "", GROUP_NAMES[name], "", "", "", *(shown(band, unit) for band in masses)
 
@@ -123,18 +123,22 @@ def _change(difference: Difference) -> str:
 
 
 def comparison_lines(name_a: str, name_b: str, found: list[Difference]) -> Iterator[str]:
-    counts = Counter(difference.verdict for difference in found)
-    lines = [("", name_a, name_b, "")]
+    words = {"higher": "B higher", "lower": "B lower", "open": "open: the bands meet"}
+    lines = [("", "A", "B", "")]
     for d in found:
-        if d.verdict in ("higher", "lower"):
-            lines.append((d.figure.name, shown(d.a), shown(d.b), "%s for certain %s" % (d.verdict, _change(d))))
-        elif d.verdict == "open":
-            lines.append((d.figure.name, shown(d.a), shown(d.b), "open: the bands meet"))
+        if d.verdict in words:
+            change = "" if d.verdict == "open" else " " + _change(d)
+            lines.append((d.figure.name, shown(d.a), shown(d.b), words[d.verdict] + change))
+    yield "A: %s" % name_a
+    yield "B: %s" % name_b
     if len(lines) > 1:
-        yield from aligned(lines, 1)
         yield ""
-    yield "%d of %d figures are higher for certain in %s, %d lower; %d have the same band in both, %d are open." % (
-        counts["higher"], len(found), name_b, counts["lower"], counts["alike"], counts["open"])
+        yield from aligned(lines, 1)
+    yield ""
+    counts = Counter(difference.verdict for difference in found)
+    yield "For certain, since their bands are apart, %d of %d figures are higher in B and %d lower." % (
+        counts["higher"], len(found), counts["lower"])
+    yield "%d have the same band in both, %d are open." % (counts["alike"], counts["open"])
 
 
 # ------------------------------------------------------------------ species

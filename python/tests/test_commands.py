@@ -22,10 +22,10 @@ class ShowTest(DeskTestCase):
     def test_table(self):
         lines = run("show", REGION).out.splitlines()
         self.assertEqual(lines[0], "%s: version 1, 4 seasons, 24 rows, 582,760 vehicles" % REGION)
-        self.assertEqual(lines[3].split(), "1 car < 1.4 l conventional none 18,400 10.041 t 138.04 t 74.532 t".split())
+        self.assertEqual(lines[3].split(), "1 car < 1.4 l conv. none 18,400 10.041 t 138.04 t 74.532 t".split())
         self.assertEqual(lines[-2:], ["total 589.57 t", "Every digit is certain; --unit mg shows the bands."])
         self.assertEqual(len(lines), 2 + 1 + 24 + 4 + 1 + 2)
-        self.assertLess(max(map(len, lines)), 100)
+        self.assertLessEqual(max(map(len, lines)), 80)
 
     def test_units(self):
         lines = run("show", REGION, "--unit", "mg").out.splitlines()
@@ -98,8 +98,8 @@ class CompareTest(DeskTestCase):
         a, b = self.put_sheet("a.evp", TEXT), self.put_sheet("b.evp", TEXT.replace("vp=60.0", "vp=70.0"))
         found = run("compare", a, b)
         self.assertEqual(found.status, 0)
-        self.assertRegex(found.out, r"row 1 diurnal +[\d.]+ t +[\d.]+ t +higher for certain \(\+\d+\.\d %\)")
-        self.assertIn("figures are higher for certain in %s" % b, found.out)
+        self.assertRegex(found.out, r"row 1 diurnal +[\d.]+ t +[\d.]+ t +B higher \(\+\d+\.\d %\)\n")
+        self.assertRegex(found.out, r"For certain, since their bands are apart, \d+ of 19 figures are higher in B")
         figures = json.loads(run("compare", a, b, "--json").out)["figures"]
         verdicts = {(figure["row"], figure["mechanism"]): figure["verdict"] for figure in figures}
         self.assertEqual([verdicts["1", mechanism] for mechanism in library.MECHANISMS], ["higher"] * 3)
@@ -107,8 +107,9 @@ class CompareTest(DeskTestCase):
 
     def test_alike(self):
         found = run("compare", REGION, REGION)
-        self.assertEqual(found.out, "0 of 85 figures are higher for certain in %s, 0 lower; 85 have the same band in "
-                         "both, 0 are open.\n" % REGION)
+        self.assertEqual(found.out,
+            "A: %s\nB: %s\n\nFor certain, since their bands are apart, 0 of 85 figures are higher in B "
+                         "and 0 lower.\n85 have the same band in both, 0 are open.\n" % (REGION, REGION))
 
     def test_other_rows(self):
         """Sheets with other rows are compared by their sums."""

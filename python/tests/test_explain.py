@@ -36,17 +36,17 @@ refused 1 at 0: sheet
 """),
     ((2, 1), TEXT + "letters 4f5650", """
 refused 2 at 0: head (bytes 0 to 7)
-  a sheet starts with the letters EVP, 45 56 50 hexadecimal; this one with 4f 56 50
+  a sheet starts with EVP (45 56 50 hexadecimal), this one with 4f 56 50
   is this the right file?
 """),
     ((2, 2), TEXT + "letters 455750", """
 refused 2 at 0: head (bytes 0 to 7)
-  a sheet starts with the letters EVP, 45 56 50 hexadecimal; this one with 45 57 50
+  a sheet starts with EVP (45 56 50 hexadecimal), this one with 45 57 50
   is this the right file?
 """),
     ((2, 3), TEXT + "letters 455651", """
 refused 2 at 0: head (bytes 0 to 7)
-  a sheet starts with the letters EVP, 45 56 50 hexadecimal; this one with 45 56 51
+  a sheet starts with EVP (45 56 50 hexadecimal), this one with 45 56 51
   is this the right file?
 """),
     ((3, 1), TEXT + "version 5", """
