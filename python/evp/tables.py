@@ -5,7 +5,7 @@ With ; the decimal sign is a comma, with , a point. A line whose first cell star
 
 import csv
 import io
-from collections.abc import Iterable, Iterator
+from collections.abc import Callable, Iterable, Iterator
 from typing import NamedTuple
 
 from evp.files import InputError
@@ -49,8 +49,10 @@ def _without_separator_line(text: str) -> str:
     return "#" + text if text.lower().startswith("sep=") else text
 
 
-def read_table(text: str, label: str, columns: Iterable[str], needed: Iterable[str]) -> Table:
-    """The table of a text. Its header has these columns in any order, all that are needed, and a note if it likes."""
+def read_table(text: str, label: str, columns: list[str], needed: Iterable[str],
+               rename: Callable[[str], str] = str) -> Table:
+    """The table of a text. Its header has these columns in any order, all that are needed, and a note if it likes;
+    `rename` gives the name of a column that may be written in several ways."""
     text = _without_separator_line(text)
     first = next((line for line in text.splitlines() if line.strip(" ;,\t") and not line.startswith("#")), "")
     separator = ";" if ";" in first else ","
@@ -58,7 +60,8 @@ def read_table(text: str, label: str, columns: Iterable[str], needed: Iterable[s
     number, header = next(records, (1, []))
     if not header:
         raise InputError("%s: the table is empty; its first line names the columns: %s" % (label, ", ".join(columns)))
-    _check_header("%s: line %d" % (label, number), header, list(columns), needed)
+    header = list(map(rename, header))
+    _check_header("%s: line %d" % (label, number), header, columns, needed)
     lines = []
     for number, cells in records:
         if len(cells) > len(header) and any(cells[len(header):]):

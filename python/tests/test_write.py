@@ -102,7 +102,8 @@ class TextTest(DeskTestCase):
         found = run("write", path)
         self.assertEqual((found.status, found.out), (
             1, "%s: 168 bytes, refused 19 at 144\n"
-            "%s: line 6: row 2: load 70.0 g is above m_sat 60.0 g; write at most 60.0\n" % (self.folder / "a.evp", path)))
+            "%s: line 6: row 2: load 70.0 g is above m_sat 60.0 g; write at most 60.0\n" % (self.folder / "a.evp",
+                path)))
         found = run("write", self.put("b.txt", TEXT + "zero 1"))
         self.assertEqual(found.out, "%s: 168 bytes, refused 6 at 7: byte 7 is 1, and it must be 0 up to version 3; "
                          "write 0; more than 255 rows need version 4\n" % (self.folder / "b.evp"))
@@ -221,6 +222,22 @@ class FolderTest(DeskTestCase):
                 found = run("write", folder, "-o", self.folder / "b.evp")
                 self.assert_plain(found, 2)
                 self.assertEqual(found.err.splitlines()[0], "evp: %s/%s" % (folder, said))
+
+    def test_grid_headers(self):
+        """Durations as spreadsheets write them: 1, 1.0 or 1,0."""
+        run("read", self.put_sheet("a.evp", GRID_TEXT), "--csv", self.folder / "g")
+        path = self.folder / "g" / "grid.csv"
+        text = path.read_text(encoding="utf-8-sig")
+        header = text.splitlines()[0]
+        one_place = ",".join(word if "." in word or word == "end_hour" else word + ".0" for word in header.split(","))
+        for changed in (text, text.replace(header, one_place),
+                        text.replace(",", ";").replace(header.replace(",", ";"),
+                            one_place.replace(",", ";").replace(".", ","))):
+            path.write_text(changed, encoding="utf-8")
+            found = run("write", self.folder / "g", "-o", self.folder / "b.evp", "--force")
+            self.assertEqual((found.status, (self.folder / "b.evp").read_bytes()), (0, sheet.write(GRID_TEXT)), found)
+        path.write_text(text.replace(",12\n", ",13\n"), encoding="utf-8")
+        self.assertIn("grid.csv: line 1: '13' is no column of this table", run("write", self.folder / "g").err)
 
     def test_both_parkings_and_none(self):
         folder = self.put_folder(grid="end_hour\n")

@@ -1,12 +1,12 @@
 """A sheet as a folder of tables: seasons.csv, fleet.csv, and parking.csv for two lists or grid.csv for a grid."""
 
 import re
-from collections.abc import Iterable
+from collections.abc import Callable, Iterable
 from pathlib import Path
 
 from evp.files import InputError, read_text
 from evp.layout import (
-    LISTS_END, MILEAGE, ROW_FIELDS, SEASON_FIELDS, Field, counts, decimal, has_grid, has_mileage, length_of, row_count,
+    LISTS_END, MILEAGE, ROW_FIELDS, SEASON_FIELDS, Field, counts, has_grid, has_mileage, length_of, row_count,
     row_place, season_count, season_place, version_of,
 )
 from evp.sheet.builder import Builder
@@ -45,11 +45,12 @@ def _where(folder: Path, name: str, number: int) -> str:
     return "%s: line %d" % (name_shown(folder / name), number)
 
 
-def _table(folder: Path, name: str, columns: Iterable[str], needed: Iterable[str]) -> Table:
+def _table(folder: Path, name: str, columns: list[str], needed: Iterable[str],
+           rename: Callable[[str], str] = str) -> Table:
     if not (folder / name).exists():
         raise InputError("%s: there is no %s; a folder has %s, %s, and %s or %s" % (
             name_shown(folder), name, SEASONS, FLEET, PARKING, GRID))
-    return read_table(read_text(folder / name), name_shown(folder / name), columns, needed)
+    return read_table(read_text(folder / name), name_shown(folder / name), columns, needed, rename)
 
 
 def _numbers(table: Table) -> Iterable[Line]:
@@ -75,8 +76,7 @@ def _take_parking(builder: Builder, folder: Path):
 
 
 def _take_grid(builder: Builder, folder: Path):
-    table = _grid_table(folder)
-    for line in table.lines:
+    for line in _table(folder, GRID, GRID_COLUMNS, GRID_COLUMNS, _plain).lines:
         with builder.at(_where(folder, GRID, line.number)):
             hour = _key(line.cells.get("end_hour", ""), HOURS, "end_hour")
             name = "grid %s" % hour
@@ -85,36 +85,16 @@ def _take_grid(builder: Builder, folder: Path):
             builder.add_counts(name, tuple(line.cells.get(duration, "0") for duration in DURATIONS))
 
 
-def _grid_table(folder: Path) -> Table:
-    """The grid, the durations of its header written as here: 1,0 or 1.0 is 1."""
-    text, label = read_text(folder / GRID), name_shown(folder / GRID)
-    columns = [*GRID_COLUMNS, *(form(d) for d in range(1, 25) for form in (_one_place, _comma))]
-    table = read_table(text, label, columns, ["end_hour"])
-    plain = {form(d): DURATIONS[d - 1] for d in range(1, 25) for form in (_one_place, _comma)}
-    header = [plain.get(name, name) for name in table.header]
-    missing = [duration for duration in DURATIONS if header.count(duration) != 1]
-    if missing:
-        raise InputError("%s: line 1: each duration, 0.5 to 12, has one column; look at %s" % (
-            label, ", ".join(missing)))
-    lines = [line._replace(cells={plain.get(name, name): word for name, word in line.cells.items()})
-             for line in table.lines]
-    return table._replace(header=header, lines=lines)
-
-
-def _one_place(d: int) -> str:
-    return decimal(5 * d, 1)
-
-
-def _comma(d: int) -> str:
-    return DURATIONS[d - 1].replace(".", ",") if d % 2 else _one_place(d).replace(".", ",")
+def _plain(word: str) -> str:
+    """A duration or an end hour as it is written here: 1,0 or 1.0 is 1."""
+    return re.sub(r"\.0$", "", _with_point(word))
 
 
 def _key(word: str, keys: list[str], column: str) -> str:
-    """A duration or an end hour as it is written here."""
-    plain = re.sub(r"\.0$", "", _with_point(word))
-    if plain not in keys:
+    """A duration or an end hour, one of the keys."""
+    if _plain(word) not in keys:
         raise TextError("%s: %s is not %s to %s" % (column, quoted(word), keys[0], keys[-1]))
-    return plain
+    return _plain(word)
 
 
 def _take_lists(builder: Builder, folder: Path):
