@@ -6,7 +6,7 @@ import subprocess
 import unittest
 from ctypes import sizeof
 
-from support import GRID_TEXT, LIBRARY, TEXT, TOP, sample, samples
+from support import GRID_TEXT, LIBRARY, TEXT, TOP, DeskTestCase, sample, samples
 
 from evp import layout, library, sheet
 from evp.library import Band, Cell, Filed, Kind, Masses, MissingCall, Number, Outcome, Refusal, Travel, Unit
@@ -193,6 +193,35 @@ class OtherCallsTest(unittest.TestCase):
         """The names of canisters and tanks are those of the second reckoning."""
         self.assertEqual([(number, tank, canisters) for number, (_, tank, canisters) in layout.CLASSES.items()],
                          [(number, tank, canisters) for number, _, tank, canisters in reckoning.CLASS_TABLE])
+
+
+class LaterCallsTest(DeskTestCase):
+    """How evp_mark and evp_explain are called, with a library that gives back what it is handed."""
+
+    SOURCE = """
+    #include <stddef.h>
+    #include <stdint.h>
+    struct evp_filed { uint64_t digits, places, unit; };
+    struct evp_verdict { uint64_t verdict, off; };
+    struct evp_finding { uint64_t number, place, reason, index, season, at, bytes, value, least, most; };
+    struct evp_verdict evp_mark(struct evp_filed f, uint64_t low, uint64_t high) {
+        return (struct evp_verdict){ f.unit, f.digits * 1000 + f.places * 100 + low * 10 + high };
+    }
+    struct evp_finding evp_explain(const uint8_t *sheet, size_t sheet_bytes) {
+        return (struct evp_finding){ sheet_bytes, sheet[0], 3, 4, 5, 6, 7, 8, 9, UINT64_MAX };
+    }
+    """
+
+    def test_binding(self):
+        source, made = self.put("later.c", self.SOURCE), self.folder / "later.so"
+        subprocess.run(["gcc", "-shared", "-fPIC", "-o", made, source], check=True)
+        later = library.Library(made)
+        self.assertEqual(later.mark(Filed(7, 6, Unit.T), Band(5, 4)), (Outcome.HIGH, 7654))
+        self.assertEqual(later.explain(b"A\0B"), (3, 65, 3, 4, 5, 6, 7, 8, 9, 2 ** 64 - 1))
+        with self.assertRaisesRegex(MissingCall, "evp_report"):
+            later.report(b"")
+        with self.assertRaises(OverflowError):
+            later.mark(Filed(2 ** 64, 0, Unit.T), Band(0, 0))
 
 
 class NoNullTest(unittest.TestCase):
