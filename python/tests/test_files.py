@@ -90,10 +90,11 @@ class BadFilesTest(DeskTestCase):
         os.chmod(self.folder, 0o755)
         path = self.put("secret.evp", sample("region"))
         os.chmod(path, 0)
-        found = subprocess.run([sys.executable, "-I", "-c", "import os, sys; sys.path.insert(0, sys.argv.pop(1)); "
-                                "from evp.cli import main; os.setuid(65534); sys.exit(main())", TOP / "python",
-                                "check", path],
-                               capture_output=True, text=True, env={"EVP_LIBRARY": str(library.find())})
+        # once before, since the other user may not be allowed to read the modules
+        code = ("import os, sys; sys.path.insert(0, sys.argv.pop(1)); from evp.cli import main; "
+                "main(['check', '/dev/null']); os.setuid(65534); sys.exit(main())")
+        found = subprocess.run([sys.executable, "-I", "-c", code, TOP / "python", "check", path], capture_output=True,
+                               text=True, env={"EVP_LIBRARY": str(library.find())})
         self.assertEqual((found.returncode, found.stderr), (2, "evp: %s: you have no right to it\n" % path))
 
     def test_strange_name(self):
