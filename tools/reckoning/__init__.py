@@ -16,7 +16,7 @@ no version.
 """
 
 from tools.reckoning.checks import check, read
-from tools.reckoning.factors import factor, masses, seven_factors
+from tools.reckoning.factors import RIGHT, Reading, factor, masses, seven_factors
 from tools.reckoning.format import (
     Row, Season, Sheet, canister_of, counts_of, is_two_wheeler, row_at, row_count, row_place, seasons_start, tank_of,
     version_of, with_counts,
@@ -28,8 +28,9 @@ from tools.reckoning.tables import CANISTER_S, CLASS_TABLE, NONE, WEIGHTS, table
 from tools.reckoning.text import answer_text, cut, shown
 
 __all__ = [
-    "CANISTER_S", "CLASS_TABLE", "E", "NONE", "Row", "Season", "Sheet", "WEIGHTS", "answer_text", "canister_a_b",
-    "canister_of", "check", "counts_of", "cut", "driven", "factor", "is_two_wheeler", "load_of", "masses", "power_2_5",
+    "CANISTER_S", "CLASS_TABLE", "E", "NONE", "RIGHT", "Reading", "Row", "Season", "Sheet", "WEIGHTS", "answer_text",
+    "canister_a_b", "canister_of", "check", "counts_of", "cut", "driven", "factor", "is_two_wheeler", "load_of",
+    "masses", "power_2_5",
     "read", "row_at", "row_count", "row_place", "seasons_start", "series", "seven_factors", "shown", "start_mark",
     "starting_load", "table_entry", "tank_of", "temperature", "version_of", "weight_exponent", "with_counts",
 ]

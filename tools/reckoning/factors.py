@@ -3,6 +3,7 @@
 import functools
 from collections.abc import Callable
 from fractions import Fraction
+from typing import NamedTuple
 
 from tools.reckoning.format import Grid, Row, Season, Sheet, canister_of, is_two_wheeler, tank_of
 from tools.reckoning.mileage import load_of
@@ -11,14 +12,26 @@ from tools.reckoning.quantities import canister_a_b, start_mark, temperature
 from tools.reckoning.tables import CANISTER_S, NONE
 
 
+class Reading(NamedTuple):
+    """How the guidebook is read: as document 01 settles it, or with one of the
+    misreadings that it names, to see what a sheet would have by it."""
+    cooling: bool = False  # eq. 8 on a parking's extremes
+    divided: bool = False  # by s in eq. 9
+    cut: bool = False  # vapour at m_sat
+
+
+RIGHT = Reading()
+
+
 class Day:
     """A season's day of 48 marks. What depends on the season alone is
     reckoned once and kept, as every row asks for it again."""
 
-    def __init__(self, season, n, mode):
+    def __init__(self, season, n, mode, reading=RIGHT):
         self.season = season
         self.n = n
         self.mode = mode
+        self.reading = reading
         self.numbers = numbers_of(mode, n)
         vp = Fraction(season.vp, 10)
         self.T = tuple(temperature(season, i) for i in range(48))
@@ -59,9 +72,9 @@ def _vapour_share(row: Row) -> Fraction:
 
 
 @functools.lru_cache(maxsize=64)
-def day_of(season: Season, n: int, mode: Mode) -> Day:
+def day_of(season: Season, n: int, mode: Mode, reading: Reading = RIGHT) -> Day:
     """The kept day of a season."""
-    return Day(season, n, mode)
+    return Day(season, n, mode, reading)
 
 
 class Escape:
@@ -70,11 +83,13 @@ class Escape:
 
     def __init__(self, day, row, i):
         self.numbers = day.numbers
+        self.cut = day.reading.cut
         self.fitted = canister_of(row) != NONE
         if self.fitted:
             a, b = canister_a_b(day.season, day.T[i])
+            s = CANISTER_S[canister_of(row)]
             self.a = self.numbers.number(a)
-            self.bs = b * CANISTER_S[canister_of(row)]
+            self.bs = b / s if day.reading.divided else b * s
             self.m1 = self.numbers.number(load_of(row, day.season, day.T[i], day.n, day.mode))
             self.m_sat = self.numbers.number(Fraction(row.saturation, 10))
             self.lost_before = self.lost(self.m1)
@@ -82,7 +97,7 @@ class Escape:
     def lost(self, m):
         """B(m): beyond m_sat the canister holds no more and all of it is lost."""
         if m > self.m_sat:
-            return self.lost(self.m_sat) + m - self.m_sat
+            return self.lost(self.m_sat) + (0 if self.cut else m - self.m_sat)
         return self.numbers.E(self.a + self.numbers.scaled(m, self.bs))
 
     def of(self, v):
@@ -128,11 +143,14 @@ def _diurnal(sheet: Sheet, day: Day, row: Row):
     total = 0
     for start, lengths in by_start.items():
         escape = Escape(day, row, start)
-        heat = 0
-        rates = 0
+        heat = rates = 0
+        least = most = day.heat(start)
         for d in range(1, max(lengths) + 1):
             here, there = (start + d - 1) % 48, (start + d) % 48
-            if day.T[there] > day.T[here]:
+            least, most = min(least, day.heat(there)), max(most, day.heat(there))
+            if day.reading.cooling:
+                heat = most - least
+            elif day.T[there] > day.T[here]:
                 heat += day.heat(there) - day.heat(here)
             rates += day.permeation(here)
             if d in lengths:
@@ -175,29 +193,33 @@ def _factor(sheet: Sheet, day: Day, row: Row, k: int):
     return result
 
 
-def factor(sheet: Sheet, season: int, row: int, k: int, n: int = 40, mode: Mode = "decimal") -> Fraction:
+def factor(sheet: Sheet, season: int, row: int, k: int, n: int = 40, mode: Mode = "decimal",
+           reading: Reading = RIGHT) -> Fraction:
     """Factor k (1 to 7) in grams of a season and row counted from 0, as a
     Fraction: the exact value in mode exact, within 10^-80 of it in mode
     decimal."""
     if not 1 <= k <= 7:
         raise ValueError("factor %r is absent" % (k,))
-    day = day_of(sheet.seasons[season], n, mode)
+    day = day_of(sheet.seasons[season], n, mode, reading)
     return day.numbers.fraction(_factor(sheet, day, sheet.rows[row], k))
 
 
-def seven_factors(sheet: Sheet, season: int, row: int, n: int = 40, mode: Mode = "decimal") -> tuple[Fraction, ...]:
+def seven_factors(sheet: Sheet, season: int, row: int, n: int = 40, mode: Mode = "decimal",
+                  reading: Reading = RIGHT) -> tuple[Fraction, ...]:
     """All seven factors of a season and row, as a tuple."""
-    return tuple(factor(sheet, season, row, k, n, mode) for k in range(1, 8))
+    return tuple(factor(sheet, season, row, k, n, mode, reading) for k in range(1, 8))
 
 
 @functools.lru_cache(maxsize=4096)
-def shared_factors(grid: Grid, season: Season, row: Row, n: int, mode: Mode) -> tuple[Fraction, ...]:
+def shared_factors(grid: Grid, season: Season, row: Row, n: int, mode: Mode,
+                   reading: Reading = RIGHT) -> tuple[Fraction, ...]:
     """The seven factors of all rows that differ from this one in vehicles,
     trips, c and p alone, which no factor depends on."""
-    return seven_factors(Sheet(grid, (season,), (row,)), 0, 0, n, mode)
+    return seven_factors(Sheet(grid, (season,), (row,)), 0, 0, n, mode, reading)
 
 
-def masses(sheet: Sheet, row: int, n: int = 40, mode: Mode = "decimal") -> tuple[Fraction, Fraction, Fraction]:
+def masses(sheet: Sheet, row: int, n: int = 40, mode: Mode = "decimal",
+           reading: Reading = RIGHT) -> tuple[Fraction, Fraction, Fraction]:
     """(diurnal, soak, running) of a row in grams, summed over the seasons."""
     record = sheet.rows[row]
     c = Fraction(record.carburettor, 100)
@@ -208,7 +230,7 @@ def masses(sheet: Sheet, row: int, n: int = 40, mode: Mode = "decimal") -> tuple
         return diurnal, soak, running
     alike = record._replace(carburettor=0, hot=0, vehicles=0, trips=0)
     for season in sheet.seasons:
-        f1, f2, f3, f4, f5, f6, f7 = shared_factors(sheet.grid, season, alike, n, mode)
+        f1, f2, f3, f4, f5, f6, f7 = shared_factors(sheet.grid, season, alike, n, mode, reading)
         many = season.days * record.vehicles
         diurnal += many * f1
         soak += many * trips * (c * (p * f4 + (1 - p) * f3) + (1 - c) * f2)

@@ -8,12 +8,11 @@ does not pass unseen.
 from collections.abc import Iterable
 from dataclasses import dataclass, replace
 
-from tools.sheet import fields
-from tools.sheet.fields import Field
+from tools.sheet import layout
 
 VERSIONS = (1, 2, 3, 4)
-SEASON_FIELDS = fields.SEASON_FIELDS
-ROW_FIELDS = fields.ROW_FIELDS + (fields.MILEAGE,)
+SEASON_FIELDS = layout.SEASON_FIELDS
+ROW_FIELDS = layout.ROW_FIELDS + (layout.MILEAGE,)
 
 Counts = tuple[int, ...]  # of parkings
 Cells = dict[tuple[int, int], int]  # the count of each (half-hours, end hour)
@@ -47,8 +46,8 @@ ROW = {
 EMPTY = {"load": 0, "saturation": 0}  # all that a row without canister may have
 
 
-def record(fields: Iterable[Field], values: Record) -> bytes:
-    return b"".join(values[name].to_bytes(size, "little", signed=signed) for name, size, signed, _ in fields)
+def record(fields: Iterable[layout.Field], values: Record) -> bytes:
+    return b"".join(values[f.name].to_bytes(f.size, "little", signed=f.signed) for f in fields)
 
 
 def counted(counts: Iterable[int]) -> bytes:

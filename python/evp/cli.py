@@ -1,0 +1,149 @@
+"""The command `evp`: its arguments and its exit status."""
+
+import argparse
+import io
+import os
+import signal
+import sys
+
+from evp import commands
+from evp.files import InputError
+from evp.library import MissingCall
+from evp.masses import UNITS
+
+STATUS = "Exit status 0 fine, 1 refused or a figure wrong, 2 not readable or not understood."
+
+
+class Parser(argparse.ArgumentParser):
+    """A parser whose help ends with examples."""
+
+    def __init__(self, *words, example: str, **more):
+        lines = "".join("  %s\n" % line for line in example.splitlines())
+        super().__init__(*words, epilog="example:\n%s\n%s" % (lines, STATUS),
+                         formatter_class=argparse.RawDescriptionHelpFormatter, **more)
+
+
+def _add(subparsers, name: str, run, about: str, example: str, *options: str) -> Parser:
+    """A command with the options that several have."""
+    parser = subparsers.add_parser(name, help=about, description=about[0].upper() + about[1:] + ".", example=example)
+    parser.set_defaults(run=run)
+    if "json" in options:
+        parser.add_argument("--json", action="store_true", help="for other programs")
+    if "force" in options:
+        parser.add_argument("--force", action="store_true", help="write over a file that is there")
+    return parser
+
+
+def parser() -> Parser:
+    top = Parser(
+        prog="evp", description="The desk of the evaporation workbook: sheets written, checked, explained, shown and "
+        "marked. - stands for standard input.",
+        example="evp write north.txt\nevp show north.evp\nevp mark sheets --filed filed.csv -o marks.csv")
+    add = top.add_subparsers(required=True, metavar="COMMAND", parser_class=Parser)
+    _add_sheet_commands(add)
+    _add_table_commands(add)
+    _add_report_commands(add)
+    return top
+
+
+def _add_sheet_commands(add):
+    check = _add(add, "check", commands.check, "says of each sheet whether it is accepted, or why not",
+                 "evp check north.evp south.evp", "json")
+    check.add_argument("sheets", nargs="+", metavar="SHEET")
+    explain = _add(add, "explain", commands.explain_sheet, "says why a sheet is refused, where, and what would pass",
+                   "evp explain north.evp", "json")
+    explain.add_argument("sheet", metavar="SHEET")
+    show = _add(add, "show", commands.show_sheet, "shows the masses of a sheet", "evp show north.evp --unit kg", "json")
+    show.add_argument("sheet", metavar="SHEET")
+    show.add_argument("--unit", choices=UNITS, help="one unit for all; mg shows the bands")
+    show.add_argument("--csv", action="store_true", help="a line for each figure with both ends of its band")
+    convert = _add(add, "convert", commands.convert, "makes the same inventory in a later version of the sheet",
+                   "evp convert north.evp --to 4 -o north4.evp", "force")
+    convert.add_argument("sheet", metavar="SHEET")
+    convert.add_argument("--to", type=int, choices=(2, 3, 4), required=True, metavar="2|3|4")
+    convert.add_argument("-o", dest="output", metavar="FILE", help="SHEET's name with -version-N where none is given")
+
+
+def _add_table_commands(add):
+    write = _add(add, "write", commands.write_sheet,
+                 "makes a sheet from a text, or from a folder with seasons.csv, fleet.csv and parking.csv or grid.csv",
+                 "evp write north.txt\nevp write north -o north.evp", "force")
+    write.add_argument("source", metavar="TEXT|FOLDER")
+    write.add_argument("-o", dest="output", metavar="SHEET",
+                       help="the name of TEXT or FOLDER with .evp where none is given")
+    write.add_argument("--version", type=int, choices=(1, 2, 3, 4), help="another version than the text makes")
+    read = _add(add, "read", commands.read_back, "prints the text of a sheet, or makes its csv files",
+                "evp read north.evp --csv north", "force")
+    read.add_argument("sheet", metavar="SHEET")
+    read.add_argument("--csv", metavar="FOLDER", help="make seasons.csv, fleet.csv and parking.csv or grid.csv there")
+    template = _add(add, "template", commands.template,
+                    "makes empty csv files with every column, its unit and its limits",
+                    "evp template north\nevp template north --grid --semicolon", "force")
+    template.add_argument("folder", metavar="FOLDER")
+    template.add_argument("--grid", action="store_true",
+                          help="parkings by end hour and duration together, and a mileage")
+    for command in (read, template):
+        command.add_argument("--semicolon", action="store_true", help="columns parted by ; and a decimal comma")
+
+
+def _add_report_commands(add):
+    mark = _add(add, "mark", commands.mark, "marks filed masses against the sheets of a folder",
+                "evp mark sheets --filed filed.csv -o marks.csv\n"
+                "evp mark sheets --filed filed.csv -o marks.csv --hints", "json", "force")
+    mark.add_argument("folder", metavar="FOLDER", help="its files whose names end with .evp are the sheets")
+    mark.add_argument("--filed", required=True, metavar="FILE", help="csv: sheet,row,mechanism,mass,unit")
+    mark.add_argument("-o", dest="output", metavar="FILE",
+                      help="csv: the same columns, then verdict,low_mg,high_mg,off_mg,note,sha256")
+    mark.add_argument("--hints", action="store_true", help="guess at the reason of a wrong figure")
+    compare = _add(add, "compare", commands.compare,
+                   "says which masses of two sheets differ for certain, and which way",
+                   "evp compare summer.evp derogation.evp", "json")
+    compare.add_argument("a", metavar="A")
+    compare.add_argument("b", metavar="B")
+    species = _add(add, "species", commands.species, "splits the high total of a sheet among the species of Table 3-14",
+                   "evp species north.evp --csv")
+    species.add_argument("sheet", metavar="SHEET")
+    species.add_argument("--csv", action="store_true")
+    cells = _add(add, "cells", commands.cells,
+                 "makes the urban, rural and highway cells of the rows of a sheet, as csv",
+                 "evp cells north.evp --travel travel.csv -o cells.csv\n\ntravel.csv, a line for a row or for all:\n"
+                 "row,town,urban_mileage,rural_mileage,highway_mileage,rural_speed,highway_speed\n"
+                 "all,yes,40,35,25,60,100", "force")
+    cells.add_argument("sheet", metavar="SHEET")
+    cells.add_argument("--travel", required=True, metavar="FILE")
+    cells.add_argument("-o", dest="output", metavar="FILE")
+    pool = _add(add, "pool", commands.pool, "pools two sheets of version 4 with the same seasons and parking",
+                "evp pool north.evp south.evp -o both.evp", "force")
+    pool.add_argument("first", metavar="FIRST")
+    pool.add_argument("second", metavar="SECOND")
+    pool.add_argument("-o", dest="output", metavar="SHEET", required=True)
+
+
+def _complain(text: str):
+    for line in commands.limited(text.split("\n"), "such messages"):
+        print("evp: %s" % line, file=sys.stderr)
+
+
+def main(words: list[str] | None = None) -> int:
+    """Runs a command; whatever goes wrong is said in words."""
+    if words is None and hasattr(signal, "SIGPIPE"):  # a reader such as head may leave early
+        signal.signal(signal.SIGPIPE, signal.SIG_DFL)
+    for stream in (sys.stdout, sys.stderr):
+        if isinstance(stream, io.TextIOWrapper):  # a terminal may not know a sign
+            stream.reconfigure(errors="replace")
+    given = parser().parse_args(words)
+    try:
+        return given.run(given)
+    except commands.SheetRefused as refused:
+        print(refused, file=sys.stderr)
+        return commands.REFUSED
+    except (InputError, MissingCall) as error:
+        _complain(str(error))
+    except KeyboardInterrupt:
+        _complain("stopped")
+    except Exception as error:  # no traceback reaches a user
+        if os.environ.get("EVP_TRACEBACK"):
+            raise
+        _complain("this is a fault of evp itself: %s: %s\nEVP_TRACEBACK=1 says more" % (
+            type(error).__name__, str(error)[:200]))
+    return 2

@@ -1,0 +1,228 @@
+"""Filed masses marked against the bands of their sheets. The verdict is the library's."""
+
+import hashlib
+import re
+from collections import Counter
+from collections.abc import Callable, Iterable, Iterator
+from functools import cache
+from pathlib import Path
+from typing import NamedTuple
+
+from evp.explain import explain
+from evp.figures import TOTAL, Figure, bands
+from evp.files import InputError, failed, read_sheet, read_text
+from evp.layout import row_count
+from evp.library import GROUPS, MECHANISMS, Band, Filed, Library, Outcome, Refusal
+from evp.masses import UNITS, shown
+from evp.sheet.words import TextError
+from evp.tables import Line, Table, read_table, table_text
+from evp.wording import counted, name_shown, quoted
+
+COLUMNS = ["sheet", "row", "mechanism", "mass", "unit"]
+MOST_WORD = 2 ** 64 - 1
+FINE = ("agrees", "fits")
+# The first five as the library counts them.
+VERDICTS = ("agrees", "fits", "low", "high", "unreadable", "refused", "absent", "missing")
+NOTES = {
+    Outcome.FITS: "the band does not settle it: it reaches over a rounding edge",
+    Outcome.UNREADABLE: "10^18 mg or more, or a last place below 10^-6 mg",
+}
+MASSES = {point: re.compile("([0-9]+)(?:%s([0-9]+))?" % re.escape(point)) for point in ".,"}  # by the decimal sign
+
+
+class Filing(NamedTuple):
+    """A line of filed.csv."""
+    sheet: str
+    figure: Figure
+    mass: str
+    unit: str
+    filed: Filed
+
+
+class Mark(NamedTuple):
+    """A line of marks.csv. What a verdict has not is empty."""
+    sheet: str
+    row: str
+    mechanism: str
+    mass: str
+    unit: str
+    verdict: str
+    low_mg: int | str = ""
+    high_mg: int | str = ""
+    off_mg: int | str = ""
+    note: str = ""
+    sha256: str = ""
+
+
+# ------------------------------------------------------------------ filed.csv
+
+
+class FiledTable(NamedTuple):
+    """The lines of filed.csv, and how its columns are parted."""
+    filings: list[Filing]
+    semicolon: bool
+
+
+def read_filed(name: str) -> FiledTable:
+    """The filed masses; InputError with a message for each line that cannot be read."""
+    label = name_shown(name)
+    table = read_table(read_text(name), label, COLUMNS, COLUMNS)
+    filings, messages, lines = [], [], {}
+    for line in table.lines:
+        try:
+            filing = _filing(line, table)
+            key = filing.sheet, filing.figure
+            if key in lines:
+                raise TextError("%s of %s stands in line %d already" % (
+                    filing.figure.name, quoted(filing.sheet), lines[key]))
+            lines[key] = line.number
+            filings.append(filing)
+        except TextError as error:
+            messages.append("%s: line %d: %s" % (label, line.number, error))
+    if messages:
+        raise InputError("\n".join(messages))
+    return FiledTable(filings, table.separator == ";")
+
+
+def _filing(line: Line, table: Table) -> Filing:
+    sheet, row, mechanism, mass, unit = (line.cells.get(name, "") for name in COLUMNS)
+    if not sheet:
+        raise TextError("sheet: the name of the sheet is missing")
+    return Filing(sheet, _figure(row, mechanism), mass, unit, _filed(mass, unit, table))
+
+
+@cache
+def _figure(row: str, mechanism: str) -> Figure:
+    if row == TOTAL:
+        if mechanism:
+            raise TextError("mechanism: %s beside total, which has none" % quoted(mechanism))
+    elif row not in GROUPS and not re.fullmatch("[1-9][0-9]{0,5}", row):
+        raise TextError("row: %s is no row; write a number from 1, %s or %s" % (quoted(row), ", ".join(GROUPS), TOTAL))
+    elif mechanism not in MECHANISMS:
+        raise TextError("mechanism: %s is none of %s" % (quoted(mechanism), ", ".join(MECHANISMS)))
+    return Figure(row, mechanism)
+
+
+def _filed(mass: str, unit: str, table: Table) -> Filed:
+    """A mass by its digits; never a guess."""
+    point, other = table.point, "." if table.point == "," else ","
+    form = MASSES[point].fullmatch(mass)
+    if form is None:
+        hint = "write digits and at most one decimal sign"
+        if other in mass:
+            name = "a comma" if point == "," else "a point"
+            hint = "with columns parted by %s the decimal sign is %s" % (table.separator, name)
+        raise TextError("mass: %s is no mass; %s" % (quoted(mass), hint))
+    if unit not in UNITS:
+        raise TextError("unit: %s is none of %s" % (quoted(unit), ", ".join(UNITS)))
+    digits, places = (form[1] + (form[2] or "")).lstrip("0"), len(form[2] or "")
+    # more than 64 bits are 10^18 mg or more in any unit, or have a place that is not read
+    value = int(digits or "0") if len(digits) <= 19 else MOST_WORD
+    return Filed(min(value, MOST_WORD), places, UNITS[unit])
+
+
+# ------------------------------------------------------------------ sheets
+
+
+class Marked(NamedTuple):
+    """A sheet of the folder: its digest, and its bands or why it has none."""
+    data: bytes
+    digest: str
+    bands: dict[Figure, Band]
+    refusal: str = ""
+
+
+def _marked(library: Library, path: Path) -> Marked:
+    data = read_sheet(path)
+    digest = hashlib.sha256(data).hexdigest()
+    try:
+        return Marked(data, digest, bands(library.report(data)))
+    except Refusal:
+        return Marked(data, digest, {}, explain(library, data).line)
+
+
+def sheets_of(folder: str | Path) -> list[Path]:
+    """The sheets of a folder by name."""
+    try:
+        found = sorted(path for path in Path(folder).iterdir() if path.suffix.lower() == ".evp" and path.is_file())
+    except OSError as error:
+        raise failed(folder, error) from None
+    if not found:
+        raise InputError("%s: no sheet, that is no file whose name ends with .evp" % name_shown(folder))
+    return found
+
+
+def read_sheets(library: Library, folder: str | Path, progress: Callable[[int, int], None]) -> dict[str, Marked]:
+    """The sheets of a folder by the names of their files."""
+    paths, found = sheets_of(folder), {}
+    for i, path in enumerate(paths):
+        progress(i, len(paths))
+        found[path.name] = _marked(library, path)
+    progress(len(paths), len(paths))
+    return found
+
+
+# ------------------------------------------------------------------ marks
+
+
+def marks_of(library: Library, sheets: dict[str, Marked], filings: Iterable[Filing]) -> list[Mark]:
+    """The marks of all filed masses, and of the sheets that nobody filed for."""
+    marks, filed_for = [], set()
+    for filing in filings:
+        filed_for.add(filing.sheet)
+        marks.append(_mark(library, sheets, filing))
+    for name, sheet in sheets.items():
+        if name not in filed_for:
+            marks.append(Mark(name, "", "", "", "", "missing", note="nobody filed for this sheet", sha256=sheet.digest))
+    return marks
+
+
+def _mark(library: Library, sheets: dict[str, Marked], filing: Filing) -> Mark:
+    filed = filing.sheet, filing.figure.row, filing.figure.mechanism, filing.mass, filing.unit
+    sheet = sheets.get(filing.sheet)
+    if sheet is None:
+        return Mark(*filed, "absent", note=_no_sheet(filing.sheet, sheets))
+    if sheet.refusal:
+        return Mark(*filed, "refused", note=sheet.refusal, sha256=sheet.digest)
+    band = sheet.bands.get(filing.figure)
+    if band is None:
+        note = "the sheet has %s" % counted(row_count(sheet.data), "row")
+        return Mark(*filed, "absent", note=note, sha256=sheet.digest)
+    outcome, off = library.mark(filing.filed, band)
+    wrong = outcome in (Outcome.LOW, Outcome.HIGH)
+    note = "the mass is %s" % shown(band, filing.unit) if wrong else NOTES.get(outcome, "")
+    return Mark(*filed, VERDICTS[outcome], band.low, band.high, off if wrong else "", note, sheet.digest)
+
+
+def _no_sheet(name: str, sheets: dict[str, Marked]) -> str:
+    if name + ".evp" in sheets:
+        return "there is no such sheet; %s is there" % (name + ".evp")
+    return "there is no such sheet in the folder"
+
+
+def marks_csv(marks: Iterable[Mark], semicolon: bool) -> str:
+    return table_text(Mark._fields, marks, semicolon)
+
+
+def summary(marks: list[Mark], sheets: int) -> Iterator[str]:
+    """How many of each verdict, and what to look at, sheet by sheet."""
+    counts = Counter(mark.verdict for mark in marks)
+    figures = len(marks) - counts["missing"]
+    yield "%s, %s: %s" % (counted(sheets, "sheet"), counted(figures, "figure"), ", ".join(
+        "%d %s" % (counts[verdict], verdict) for verdict in VERDICTS if counts[verdict]))
+    wrong: dict[str, list[Mark]] = {}
+    for mark in marks:
+        if mark.verdict not in FINE:
+            wrong.setdefault(mark.sheet, []).append(mark)
+    for sheet, found in wrong.items():
+        yield "  %s: %s" % (name_shown(sheet), _sheet_summary(found))
+
+
+def _sheet_summary(marks: list[Mark]) -> str:
+    first = marks[0]
+    if first.verdict in ("refused", "missing"):
+        return first.note
+    counts = Counter(mark.verdict for mark in marks)
+    words = ", ".join("%d %s" % (counts[verdict], verdict) for verdict in VERDICTS if counts[verdict])
+    filed = Figure(first.row, first.mechanism).name
+    return "%s; first %s: %s %s filed, %s" % (words, filed, first.mass, first.unit, first.note)

@@ -1,0 +1,94 @@
+"""Tables as spreadsheets save them: UTF-8 with or without a byte order mark, parted by ; or by , as the header is.
+
+With ; the decimal sign is a comma, with , a point. A line whose first cell starts with # is a comment.
+"""
+
+import csv
+import io
+from collections.abc import Callable, Iterable, Iterator
+from typing import NamedTuple
+
+from evp.files import InputError
+from evp.wording import quoted
+
+NOTE = "note"  # a column for remarks, which is not read
+
+
+class Line(NamedTuple):
+    """A line of a table: where it stands, and its cells that are not empty by the name of their column."""
+    number: int
+    cells: dict[str, str]
+
+
+class Table(NamedTuple):
+    separator: str
+    header: list[str]
+    lines: list[Line]
+
+    @property
+    def point(self) -> str:
+        """The decimal sign."""
+        return "," if self.separator == ";" else "."
+
+
+def _records(text: str, separator: str, label: str) -> Iterator[tuple[int, list[str]]]:
+    """The lines that are no comment and not empty, counted from 1."""
+    reader, start = csv.reader(io.StringIO(text, newline=""), delimiter=separator), 1
+    try:
+        for cells in reader:
+            cells = [cell.strip() for cell in cells]
+            if any(cells) and not cells[0].startswith("#"):
+                yield start, cells
+            start = reader.line_num + 1
+    except csv.Error as error:
+        raise InputError("%s: line %d: this is no csv: %s" % (label, start, error)) from None
+
+
+def _without_separator_line(text: str) -> str:
+    """Excel's first line `sep=;` as a comment."""
+    return "#" + text if text.lower().startswith("sep=") else text
+
+
+def read_table(text: str, label: str, columns: list[str], needed: Iterable[str],
+               rename: Callable[[str], str] = str) -> Table:
+    """The table of a text. Its header has these columns in any order, all that are needed, and a note if it likes;
+    `rename` gives the name of a column that may be written in several ways."""
+    text = _without_separator_line(text)
+    first = next((line for line in text.splitlines() if line.strip(" ;,\t") and not line.startswith("#")), "")
+    separator = ";" if ";" in first else ","
+    records = _records(text, separator, label)
+    number, header = next(records, (1, []))
+    if not header:
+        raise InputError("%s: the table is empty; its first line names the columns: %s" % (label, ", ".join(columns)))
+    header = list(map(rename, header))
+    _check_header("%s: line %d" % (label, number), header, columns, needed)
+    lines = []
+    for number, cells in records:
+        if len(cells) > len(header) and any(cells[len(header):]):
+            hint = "" if separator == ";" else "; the decimal sign is a point here"
+            raise InputError("%s: line %d: %d cells, and the header has %d columns%s" % (
+                label, number, len(cells), len(header), hint))
+        lines.append(Line(number, {name: cell for name, cell in zip(header, cells) if cell and name != NOTE}))
+    return Table(separator, header, lines)
+
+
+def _check_header(where: str, header: list[str], columns: list[str], needed: Iterable[str]):
+    while header and not header[-1]:  # empty columns behind the last
+        header.pop()
+    for i, name in enumerate(header):
+        if name not in columns and name != NOTE:
+            raise InputError("%s: %s is no column of this table (%s)" % (where, quoted(name), ", ".join(columns)))
+        if name in header[:i]:
+            raise InputError("%s: the column %s is there twice" % (where, name))
+    missing = [name for name in needed if name not in header]
+    if missing:
+        raise InputError("%s: the column %s is missing" % (where, ", ".join(missing)))
+
+
+def table_text(header: Iterable[str], lines: Iterable[Iterable[object]], semicolon: bool = False) -> str:
+    """A table as a spreadsheet reads it."""
+    out = io.StringIO()
+    writer = csv.writer(out, delimiter=";" if semicolon else ",", lineterminator="\n")
+    writer.writerow(header)
+    writer.writerows(lines)
+    return out.getvalue()

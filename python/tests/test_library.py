@@ -1,0 +1,233 @@
+"""The calls in Python: against the header, against the second reckoning, and against what the programs print."""
+
+import random
+import re
+import subprocess
+import unittest
+from ctypes import sizeof
+
+from support import GRID_TEXT, LIBRARY, TEXT, TOP, DeskTestCase, sample, samples
+
+from evp import layout, library, sheet
+from evp.library import Band, Cell, Filed, Kind, Masses, MissingCall, Number, Outcome, Refusal, Travel, Unit
+from tools import reckoning
+from tools.reckoning import cells as second_cells
+from tools.reckoning import pool as second_pool
+from tools.reckoning import species as second_species
+
+HEADER = (TOP / "include" / "evaporation.h").read_text(encoding="utf-8")
+STRUCTS = {
+    "evp_check": library._Check, "evp_factor_band": library._FactorBand, "evp_pool_check": library._PoolCheck,
+    "evp_row_words": library._RowWords, "evp_travel": library._Travel, "evp_cell": library._Cell,
+    "evp_row_cells": library._RowCells, "evp_cell_sum": library._CellSum, "evp_row": library._Row,
+    "evp_totals": library._Totals,
+}
+
+
+class HeaderTest(unittest.TestCase):
+    """What library.py says against include/evaporation.h."""
+
+    def test_numbers(self):
+        body = re.search(r"enum evp_number \{(.*?)\};", HEADER, re.S)[1]
+        found = {name: int(number) for name, number in re.findall(r"EVP_(\w+) = (\d+)", body)}
+        self.assertEqual(found, {number.name: number.value for number in Number})
+
+    def test_calls(self):
+        found = set(re.findall(r"\b(evp_\w+)\(", re.sub(r"/\*.*?\*/", "", HEADER, flags=re.S)))
+        self.assertLessEqual(found, set(library.CALLS))
+
+    def test_sizes(self):
+        for name, value in (("SHEET_BYTES", library.SHEET_BYTES), ("REPORT_WORDS", library.REPORT_WORDS),
+                            ("TEXT_BYTES", library.TEXT_BYTES), ("LISTS_END", layout.LISTS_END),
+                            ("GRID_END", layout.GRID_END)):
+            self.assertIn("#define EVP_%s %d\n" % (name, value), HEADER)
+
+    def test_species(self):
+        body = re.search(r"evp_species_names\[.*?\{(.*?)\};", HEADER, re.S)[1]
+        self.assertEqual(tuple(re.findall(r'"(.*?)"', body)), library.SPECIES)
+
+    def test_members(self):
+        for name, struct in STRUCTS.items():
+            body = re.sub(r"/\*.*?\*/", "", re.search(r"struct %s \{(.*?)\};" % name, HEADER, re.S)[1], flags=re.S)
+            words = [word.split()[-1] for line in body.split(";") for word in line.split(",") if word.strip()]
+            members = [re.sub(r"\W.*", "", word) for word in words]
+            self.assertEqual(members, [field[0] for field in struct._fields_], name)
+        self.assertEqual(sizeof(library._Travel), 48)
+
+
+class ReportTest(unittest.TestCase):
+    """The report of every sample."""
+
+    def test_text(self):
+        for path in samples():
+            printed = path.with_suffix(".report").read_text(encoding="ascii")
+            self.assertEqual(LIBRARY.text(path.read_bytes()), printed, path)
+
+    def test_report(self):
+        for path in samples():
+            lines = [line.split() for line in path.with_suffix(".report").read_text(encoding="ascii").splitlines()]
+            report = LIBRARY.report(path.read_bytes())
+            found = [word for masses in (*report.rows, report.cars, report.light, report.two, report.all)
+                     for band in masses for word in band]
+            expected = [int(word) for line in lines[1:-1] for word in line[-6:]]
+            self.assertEqual((found, report.total), (expected, Band(*map(int, lines[-1][1:]))))
+
+    def test_exact_masses(self):
+        data = sample("table-3-5")
+        second, report = reckoning.read(data), LIBRARY.report(data)
+        for i, masses in enumerate(report.rows):
+            for band, exact in zip(masses, reckoning.masses(second, i)):
+                self.assertTrue(band.low <= 1000 * exact <= band.high)
+
+    def test_refusals(self):
+        """Damaged sheets, as the second reckoning and the program have them."""
+        draw, program = random.Random(30), TOP / "target" / "bin" / "report"
+        for i in range(300):
+            data = bytearray(sample(draw.choice(("region", "survey", "odometer"))))
+            data[draw.choice((draw.randrange(8), draw.randrange(len(data))))] = draw.randrange(256)
+            data = bytes(data)
+            expected, found = reckoning.check(data), LIBRARY.check(data)
+            self.assertEqual(expected, found and (found.number, found.place))
+            if expected:
+                with self.assertRaises(Refusal) as caught:
+                    LIBRARY.report(data)
+                self.assertEqual(str(caught.exception), "refused %d at %d" % expected)
+                self.assertEqual(LIBRARY.text(data), "refused %d at %d\n" % expected)
+            if i < 10 and program.exists():
+                printed = subprocess.run([program], input=data, capture_output=True).stdout
+                self.assertEqual(LIBRARY.text(data), printed.decode())
+
+    def test_factor(self):
+        data = sample("table-3-5")
+        for k in range(1, 8):
+            band, exact = LIBRARY.factor(data, 0, 0, k), 10 ** 6 * reckoning.factor(reckoning.read(data), 0, 0, k)
+            self.assertTrue(band.low <= exact <= band.high <= band.low + 10)
+        with self.assertRaises(Refusal) as caught:
+            LIBRARY.factor(data, 9, 0, 1)
+        self.assertEqual(caught.exception.number, Number.ABSENT)
+
+
+class OtherCallsTest(unittest.TestCase):
+    """Species, cells, ledgers, pools, marks."""
+
+    def test_species(self):
+        for total in (0, 1, 10_001, 589_571_589_654, 2 ** 64 - 1):
+            self.assertEqual(LIBRARY.species(total), second_species.split(total))
+        for total in (-1, 2 ** 64):
+            with self.assertRaises(OverflowError):
+                LIBRARY.species(total)
+
+    def test_cells(self):
+        travel = Travel(True, 40, 35, 25, 60, 100)
+        for masses in LIBRARY.report(sample("survey")).rows:
+            words = second_cells.Words(*(word for band in masses for word in band))
+            _, _, expected = second_cells.cells_of_row(second_cells.Row(words, second_cells.Travel(*travel)))
+            bits = second_cells.bits_of
+            found = LIBRARY.cells_of_row(masses, travel)
+            self.assertEqual([(cell.kind, bits(int(cell.low)), bits(int(cell.high))) for cell in found],
+                             [tuple(cell) for cell in expected])
+        with self.assertRaises(Refusal) as caught:
+            LIBRARY.cells_of_row(masses, travel._replace(rural_speed=0))
+        self.assertEqual(caught.exception.number, Number.TRAVEL)
+        with self.assertRaises(Refusal) as caught:
+            LIBRARY.cells_of_row(Masses(Band(2, 1), Band(0, 0), Band(0, 0)), travel)
+        self.assertEqual(caught.exception.number, Number.CELL)
+
+    def test_sums_of_cells(self):
+        sum_of = LIBRARY.add_cells(Cell(Kind.EXACT, 3.0, 3.0), Cell(Kind.BAND, 4.0, 6.0))
+        self.assertEqual(sum_of, Cell(Kind.BAND, 7.0, 9.0))
+        self.assertEqual(LIBRARY.add_cells(Cell(Kind.EMPTY, 0.0, 0.0), sum_of), sum_of)
+
+    def test_ledger(self):
+        ledger = LIBRARY.ledger(sample("region"))
+        ledger.arrive(23, 12)
+        ledger.depart(0, 400)
+        self.assertEqual(ledger.report, LIBRARY.report(ledger.sheet))
+        self.assertEqual([layout.row(ledger.sheet, i)["vehicles"] for i in (0, 23)], [18_000, 12])
+        with self.assertRaises(Refusal) as caught:
+            ledger.depart(23, 13)
+        self.assertEqual(caught.exception.number, Number.COUNT)
+        with self.assertRaises(Refusal):
+            LIBRARY.ledger(b"EVP")
+
+    def test_shared_ledger(self):
+        shared = LIBRARY.shared_ledger(sample("region"), bytes([1, 2] * 12))
+        shared.arrive(1, 0, 5)
+        self.assertEqual(shared.row(1, 0), (18_405, LIBRARY.report(shared.sheet).rows[0]))
+        self.assertEqual(shared.totals(0).total, LIBRARY.report(shared.sheet).total)
+        for call, *given in ((shared.arrive, 1, 1, 5), (shared.depart, 0, 0, 1), (shared.row, 2, 0),
+            (shared.totals, 1)):
+            with self.assertRaises(Refusal) as caught:
+                call(*given)
+            self.assertEqual(caught.exception.number, Number.RIGHT)
+        with self.assertRaises(Refusal) as caught:
+            LIBRARY.shared_ledger(sample("region"), bytes(24))
+        self.assertEqual(caught.exception.number, Number.SHARE)
+
+    def test_pool(self):
+        first, second = (sheet.write(text + "version 4") for text in (GRID_TEXT, GRID_TEXT.replace("18400", "200")))
+        self.assertEqual(LIBRARY.pool(first, second), second_pool.pooled(first, second))
+        with self.assertRaises(Refusal) as caught:
+            LIBRARY.pool(first, sheet.write(TEXT))
+        self.assertEqual((caught.exception.number, caught.exception.place, caught.exception.sheet), (3, 3, 2))
+
+    def test_mark(self):
+        """The definition's examples: 2.834 t stands for 2.8335 t to 2.8345 t, both included."""
+        filed = Filed(2834, 3, Unit.T)
+        for low, high, outcome, off in (
+            (2_834_491_356, 2_834_497_572, Outcome.AGREES, 0), (2_833_500_000, 2_834_500_000, Outcome.AGREES, 0),
+            (2_834_491_356, 2_834_500_001, Outcome.FITS, 0), (2_834_500_001, 2_834_500_002, Outcome.LOW, 1),
+            (2_833_499_990, 2_833_499_999, Outcome.HIGH, 1), (0, 0, Outcome.HIGH, 2_833_500_000),
+        ):
+            self.assertEqual(LIBRARY.mark(filed, Band(low, high)), (outcome, off))
+        self.assertEqual(LIBRARY.mark(Filed(0, 0, Unit.KG), Band(0, 500_000)).outcome, Outcome.AGREES)
+        self.assertEqual(LIBRARY.mark(Filed(5, 1, Unit.MG), Band(1, 1)), (Outcome.LOW, 0))
+        for filed in (Filed(10 ** 9, 0, Unit.T), Filed(1, 7, Unit.MG), Filed(2 ** 64 - 1, 6, Unit.MG)):
+            self.assertEqual(LIBRARY.mark(filed, Band(0, 1)).outcome, Outcome.UNREADABLE)
+
+    def test_a_call_that_is_not_there(self):
+        with self.assertRaisesRegex(MissingCall, "evp_none"):
+            library._absent("evp_none")()
+
+    def test_table_of_classes(self):
+        """The names of canisters and tanks are those of the second reckoning."""
+        self.assertEqual([(number, tank, canisters) for number, (_, tank, canisters) in layout.CLASSES.items()],
+                         [(number, tank, canisters) for number, _, tank, canisters in reckoning.CLASS_TABLE])
+
+
+class LaterCallsTest(DeskTestCase):
+    """How evp_mark and evp_explain are called, with a library that gives back what it is handed."""
+
+    SOURCE = """
+    #include <stddef.h>
+    #include <stdint.h>
+    struct evp_filed { uint64_t digits, places, unit; };
+    struct evp_verdict { uint64_t verdict, off; };
+    struct evp_finding { uint64_t number, place, reason, index, season, at, bytes, value, least, most; };
+    struct evp_verdict evp_mark(struct evp_filed f, uint64_t low, uint64_t high) {
+        return (struct evp_verdict){ f.unit, f.digits * 1000 + f.places * 100 + low * 10 + high };
+    }
+    struct evp_finding evp_explain(const uint8_t *sheet, size_t sheet_bytes) {
+        return (struct evp_finding){ sheet_bytes, sheet[0], 3, 4, 5, 6, 7, 8, 9, UINT64_MAX };
+    }
+    """
+
+    def test_binding(self):
+        source, made = self.put("later.c", self.SOURCE), self.folder / "later.so"
+        subprocess.run(["gcc", "-shared", "-fPIC", "-o", made, source], check=True)
+        later = library.Library(made)
+        self.assertEqual(later.mark(Filed(7, 6, Unit.T), Band(5, 4)), (Outcome.HIGH, 7654))
+        self.assertEqual(later.explain(b"A\0B"), (3, 65, 3, 4, 5, 6, 7, 8, 9, 2 ** 64 - 1))
+        with self.assertRaisesRegex(MissingCall, "evp_report"):
+            later.report(b"")
+        with self.assertRaises(OverflowError):
+            later.mark(Filed(2 ** 64, 0, Unit.T), Band(0, 0))
+
+
+class NoNullTest(unittest.TestCase):
+    def test_empty(self):
+        self.assertEqual((LIBRARY.check(b"").number, LIBRARY.text(b"")), (1, "refused 1 at 0\n"))
+
+
+if __name__ == "__main__":
+    unittest.main()

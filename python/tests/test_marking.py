@@ -1,0 +1,227 @@
+"""Marks: thirty sheets against stored marks, filed.csv and its mistakes, and guesses."""
+
+import csv
+import json
+import shutil
+import time
+import unittest
+from fractions import Fraction
+from unittest import mock
+
+from support import LIBRARY, SAMPLES, TEXT, DeskTestCase, run, sample
+
+from evp import layout, marking, sheet
+from evp.figures import Figure, bands
+from evp.library import Band, Filed, Unit
+from evp.masses import exact, shown
+from evp.tables import table_text
+
+COURSE = SAMPLES / "course"
+HEADER = "sheet,row,mechanism,mass,unit\n"
+COLUMNS = ["sheet", "row", "mechanism", "mass", "unit", "verdict", "low_mg", "high_mg", "off_mg", "note", "sha256"]
+
+
+class CourseTest(DeskTestCase):
+    """Thirty sheets of a course."""
+
+    def test_stored_marks(self):
+        target = self.folder / "marks.csv"
+        found = run("mark", COURSE, "--filed", COURSE / "filed.csv", "-o", target)
+        self.assert_plain(found, 1)
+        self.assertEqual(target.read_text(encoding="utf-8"), (COURSE / "marks.csv").read_text(encoding="utf-8"))
+        self.assertEqual(found.out.splitlines()[0], "30 sheets, 436 figures: 314 agrees, 24 fits, 33 low, 32 high, "
+                         "1 unreadable, 30 refused, 2 absent, 1 missing")
+        with open(target, encoding="utf-8", newline="") as file:
+            marks = list(csv.DictReader(file))
+        self.assertEqual(list(marks[0]), COLUMNS)
+        self.assertEqual(json.loads(run("mark", COURSE, "--filed", COURSE / "filed.csv", "--json").out), [
+            {name: int(word) if name.endswith("_mg") and word else word for name, word in mark.items()}
+            for mark in marks])
+
+    def test_stored_marks_by_fractions(self):
+        """The verdicts once more, by the interval that a figure stands for."""
+        powers = {"t": 9, "kg": 6, "g": 3, "mg": 0}
+        tried = 0
+        with open(COURSE / "marks.csv", encoding="utf-8", newline="") as file:
+            for mark in csv.DictReader(file):
+                if mark["verdict"] not in ("agrees", "fits", "low", "high"):
+                    self.assertEqual(mark["off_mg"], "")
+                    continue
+                step = Fraction(10) ** (powers[mark["unit"]] - len(mark["mass"].partition(".")[2]))
+                middle = Fraction(mark["mass"]) * Fraction(10) ** powers[mark["unit"]]
+                least, most = middle - step / 2, middle + step / 2
+                low, high = int(mark["low_mg"]), int(mark["high_mg"])
+                inside = least <= low and high <= most
+                verdict = "low" if most < low else "high" if least > high else "agrees" if inside else "fits"
+                off = {"low": low - most, "high": least - high}.get(verdict)
+                self.assertEqual((mark["verdict"], mark["off_mg"]), (verdict, "" if off is None else str(int(off))),
+                                 mark)
+                tried += 1
+        self.assertEqual(tried, 314 + 24 + 33 + 32)
+
+    def test_hints(self):
+        """Each mistake of these sheets is guessed; of glen that it cannot show two of the misreadings."""
+        names = ("south", "lakes", "moor", "delta", "ridge", "fen", "glen", "north")
+        for name in names:
+            shutil.copy(COURSE / (name + ".evp"), self.folder)
+        lines = (COURSE / "filed.csv").read_text().splitlines(True)
+        filed = self.put("filed.csv", lines[0] + "".join(
+            line for line in lines
+            if line.split(".")[0] in names and line.split(",")[1] in ("2", "cars", "light", "two")))
+        found = run("mark", self.folder, "--filed", filed, "-o", self.folder / "marks.csv", "--hints")
+        said = [line for line in found.out.splitlines() if "guess: " in line]
+        for expected in (
+            "  guess: south.evp: 10 figures: the figure is in kg, not in t",
+            "  guess: lakes.evp: 8 figures: load divided by s, not multiplied",
+            "  guess: moor.evp: 4 figures: vapour counted while it cools",
+            "  guess: delta.evp: 6 figures: light-duty and two-wheelers are exchanged",
+            "  guess: ridge.evp: 1 figure: cut, not rounded",
+            "  guess: fen.evp: 5 figures: vapour cut off at m_sat",
+        ):
+            self.assertIn(expected, said)
+        self.assertIn("no guess: glen.evp: ", found.out)
+        for unseen in ("load divided by s, not multiplied (no canister is small or large)",
+                       "vapour cut off at m_sat (no canister overflows)"):
+            self.assertIn("  cannot show: glen.evp: %s\n" % unseen, found.out)
+        notes = (self.folder / "marks.csv").read_text()
+        self.assertIn("; guess: vapour counted while it cools,", notes)
+        self.assertNotIn("guess", "".join(line for line in notes.splitlines() if line.startswith("north")))
+
+
+    def test_hints_without_the_second_reckoning(self):
+        shutil.copy(COURSE / "moor.evp", self.folder)
+        lines = (COURSE / "filed.csv").read_text().splitlines(True)
+        filed = self.put("filed.csv", lines[0] + "".join(line for line in lines if line.startswith("moor")))
+        with mock.patch("evp.hints.reckoning", return_value=None):
+            found = run("mark", self.folder, "--filed", filed, "-o", self.folder / "marks.csv", "--hints")
+        self.assertIn("  no guess: moor.evp: 7 figures\n  cannot show: moor.evp: misreadings (the second reckoning, tools/, "
+                      "is not there)\n", found.out)
+
+
+class FiledTest(DeskTestCase):
+    """filed.csv."""
+
+    def mark(self, lines: str, header: str = HEADER):
+        self.put_sheet("a.evp", TEXT)
+        filed = self.put("filed.csv", header + lines)
+        return run("mark", self.folder, "--filed", filed, "-o", self.folder / "m.csv", "--force")
+
+    def marks(self, lines: str, header: str = HEADER) -> list[str]:
+        found = self.mark(lines, header)
+        self.assertIn(found.status, (0, 1), found)
+        sign = ";" if ";" in header else ","
+        with open(self.folder / "m.csv", encoding="utf-8", newline="") as file:
+            return [mark["verdict"] for mark in csv.DictReader(file, delimiter=sign)]
+
+    def test_mistakes(self):
+        for line, said in (
+            ('a.evp,total,,"2,834",t',
+             "mass: '2,834' is no mass; with columns parted by , the decimal sign is a point"),
+            ("a.evp,total,,2.8.34,t", "mass: '2.8.34' is no mass; write digits and at most one decimal sign"),
+            ("a.evp,total,,-2,t", "mass: '-2' is no mass; write digits and at most one decimal sign"),
+            ("a.evp,total,,2e3,t", "mass: '2e3' is no mass; write digits and at most one decimal sign"),
+            ("a.evp,total,,,t", "mass: '' is no mass; write digits and at most one decimal sign"),
+            ("a.evp,total,,2.,t", "mass: '2.' is no mass; write digits and at most one decimal sign"),
+            ("a.evp,total,,\u0663,t", "mass: '\u0663' is no mass; write digits and at most one decimal sign"),
+            ("a.evp,total,,2,T", "unit: 'T' is none of mg, g, kg, t"),
+            ("a.evp,total,soak,2,t", "mechanism: 'soak' beside total, which has none"),
+            ("a.evp,1,,2,t", "mechanism: '' is none of diurnal, soak, running"),
+            ("a.evp,0,soak,2,t", "row: '0' is no row; write a number from 1, cars, light, two, all or total"),
+            ("a.evp,car,soak,2,t", "row: 'car' is no row; write a number from 1, cars, light, two, all or total"),
+            (",1,soak,2,t", "sheet: the name of the sheet is missing"),
+        ):
+            with self.subTest(said):
+                found = self.mark(line + "\n")
+                self.assert_plain(found, 2)
+                self.assertEqual(found.err, "evp: %s: line 2: %s\n" % (self.folder / "filed.csv", said))
+
+    def test_twice(self):
+        found = self.mark("a.evp,1,soak,2,t\nb.evp,1,soak,2,t\na.evp,1,soak,3,kg\n")
+        self.assertEqual(found.err,
+            "evp: %s: line 4: row 1 soak of 'a.evp' stands in line 2 already\n" % (self.folder / "filed.csv"))
+
+    def test_many_mistakes(self):
+        self.assert_plain(self.mark("a.evp,x,soak,2,t\n" * 5000), 2)
+
+    def test_semicolon(self):
+        total = LIBRARY.report(sheet.write(TEXT)).total
+        word = shown(total, "t").split()[0]
+        header = "\ufeff" + HEADER.replace(",", ";")
+        self.assertEqual(self.marks("a.evp;total;;%s;t\n" % word.replace(".", ","), header), ["agrees"])
+        self.assertTrue((self.folder / "m.csv").read_text().startswith("sheet;row;mechanism;mass;unit;verdict;"))
+        found = self.mark("a.evp;total;;2.834;t\n", header)
+        self.assertIn("'2.834' is no mass; with columns parted by ; the decimal sign is a comma", found.err)
+
+    def test_verdicts(self):
+        total = LIBRARY.report(sheet.write(TEXT)).total
+        self.assertEqual(self.marks("".join("a.evp,%s\n" % line for line in (
+            "total,,%d,mg" % total.low, "1,diurnal,0,mg", "2,soak,99999999,t", "7,soak,1,t",
+            "all,soak,%s,kg" % ("9" * 40),
+            "cars,diurnal,1.%s,kg" % ("0" * 50)))), ["fits", "low", "high", "absent", "unreadable", "unreadable"])
+        self.assertEqual(self.marks("b.evp,total,,1,t\n../a.evp,total,,1,t\na,total,,1,t\n"),
+                         ["absent"] * 3 + ["missing"])
+        self.assertIn("a.evp is there", (self.folder / "m.csv").read_text())
+
+    def test_right_figures(self):
+        """All figures of a sample, as they are shown, agree."""
+        self.put("region.evp", sample("region"))
+        report = bands(LIBRARY.report(sample("region")))
+        masses = {figure: shown(band).replace(",", "").split() for figure, band in report.items()}
+        lines = ["region.evp,%s,%s,%s,%s" % (*figure, *words) for figure, words in masses.items() if "to" not in words]
+        self.assertGreater(len(lines), 80)
+        self.assertEqual(self.marks("\n".join(lines) + "\n"), ["agrees"] * len(lines) + ["missing"])
+
+    def test_other_faults(self):
+        filed = self.put("filed.csv", HEADER)
+        for words, said in (
+            ((self.folder / "none", "--filed", filed, "-o", "x"), "a folder with sheets is wanted"),
+            ((self.folder, "--filed", filed, "-o", self.folder / "x"),
+             "no sheet, that is no file whose name ends with .evp"),
+            ((self.folder, "--filed", self.folder / "none.csv", "-o", "x"), "there is no such file"),
+            ((self.folder, "--filed", filed), "-o FILE names the file for the marks"),
+        ):
+            found = run("mark", *words)
+            self.assert_plain(found, 2)
+            self.assertIn(said, found.err)
+
+    def test_large_digits(self):
+        table = marking.Table(",", [], [])
+        self.assertEqual(marking._filed("0" * 100 + "7", "t", table), Filed(7, 0, Unit.T))
+        self.assertEqual(marking._filed("18446744073709551616", "mg", table).digits, 2 ** 64 - 1)
+
+
+class SpeedTest(DeskTestCase):
+    """Thirty sheets of 300 rows."""
+
+    def test_thirty_sheets(self):
+        data, lines = sample("districts"), []
+        vehicles = [layout.row_place(data, i) + 8 for i in range(layout.row_count(data))]
+        for k in range(30):
+            changed = bytearray(data)
+            for at in vehicles:
+                count = layout.number_at(data, at, 4) * (60 + k) // 100
+                changed[at:at + 4] = count.to_bytes(4, "little")
+            self.put("%d.evp" % k, bytes(changed))
+            lines += [("%d.evp" % k, *figure, exact(5 * 10 ** 9, "t"), "t") for figure in
+                      (Figure(str(row), "soak") for row in range(1, 301))]
+        filed = self.put("filed.csv", table_text(HEADER.strip().split(","), lines))
+        start = time.process_time()
+        found = run("mark", self.folder, "--filed", filed, "-o", self.folder / "m.csv")
+        self.assertLess(time.process_time() - start, 2)
+        self.assertTrue(found.out.startswith("30 sheets, 9,000 figures: "), found.out)
+
+
+class WordsTest(unittest.TestCase):
+    def test_masses(self):
+        for band, unit, said in (
+            (Band(0, 0), None, "0 mg"), (Band(7, 7), None, "7 mg"), (Band(7, 8), None, "7 to 8 mg"),
+            (Band(2_834_491_356, 2_834_497_572), None, "2.8345 t"),
+            (Band(2_834_491_356, 2_834_497_572), "kg", "2,834.5 kg"),
+            (Band(589_567_619_415, 589_571_589_654), None, "589.57 t"), (Band(57_400, 58_600), None, "57 to 59 g"),
+            (Band(1_000_000, 1_000_001), "t", "0.00100 t"),
+        ):
+            self.assertEqual(shown(band, unit), said)
+
+
+if __name__ == "__main__":
+    unittest.main()
