@@ -2,8 +2,8 @@
  * the first against document 01's lines, and tries refusals of each call. Then the same for the sheets of version 2 that have the products of their lists as a grid, and for these
  * in versions 3 and 4, without a mileage, which must answer alike. Then a sample of version 3 with mileages; the species of some totals; the
  * cells of a row of the second sample, from the words of its report, their sum, and cells that are refused; a ledger on the second sample,
- * in versions 1 and 4, and a shared one; and two sheets of version 4 are pooled. Prints what it found; the exit status is 0 only where all of
- * it is as expected.
+ * in versions 1 and 4, and a shared one; two sheets of version 4 are pooled; damaged sheets are explained, and filed masses marked. Prints
+ * what it found; the exit status is 0 only where all of it is as expected.
  *
  * usage: example EXAMPLE.evp TABLE-3-5-DAY.evp ODOMETER.evp NORTH.evp SOUTH.evp POOLED */
 #include <inttypes.h>
@@ -536,6 +536,46 @@ static void expect_shared(size_t seasons_start) {
     expect_untouched(EVP_WORDS_OF(3));
 }
 
+/* What is found on the second sample with something changed; the same without. */
+static void expect_finding(const char *what, struct evp_finding expected) {
+    struct evp_finding found = evp_explain(sheet, sheet_bytes);
+    if (memcmp(&found, &expected, sizeof found) != 0) {
+        printf("%s: found %" PRIu64 " at %" PRIu64 " reason %" PRIu64 " value %" PRIu64 " of %" PRIu64 " to %" PRIu64 "\n", what,
+               found.number, found.place, found.reason, found.value, found.least, found.most);
+        mismatches += 1;
+    }
+}
+
+static void expect_findings(void) {
+    const size_t row = EVP_LISTS_END + 8 * 1 + 24 * 2;
+    expect_finding("a sheet that passes", (struct evp_finding){0});
+    sheet[row + 5] = 101;
+    expect_finding("a fill level", (struct evp_finding){EVP_PERCENT, row, 3, 2, 0, row + 5, 1, 101, 0, 100});
+    put_count(EVP_LISTS_END + 2, 65536 - 301);
+    expect_finding("a lowest temperature",
+                   (struct evp_finding){EVP_TEMPERATURES, EVP_LISTS_END, 1, 0, 0, EVP_LISTS_END + 2, 2, 32768 - 301, 32768 - 300, 32768 + 500});
+    sheet_bytes = 7;
+    expect_finding("seven bytes", (struct evp_finding){EVP_HEAD_SHORT, 0, 1, 0, 0, 0, 0, 7, 8, EVP_SHEET_BYTES});
+}
+
+static void expect_mark(uint64_t digits, uint64_t places, uint64_t unit, uint64_t kind, uint64_t off) {
+    struct evp_verdict found = evp_mark((struct evp_filed){digits, places, unit}, 44140776, 44140793);
+    expect("the verdict on a filed mass", found.verdict, kind);
+    expect("how far it is off", found.off, off);
+}
+
+/* Filed for the grand total of the second sample, 44,140,776 to 44,140,793 mg. */
+static void expect_marks(void) {
+    expect_mark(4414, 2, EVP_KILOGRAM, EVP_AGREES, 0);
+    expect_mark(44140785, 3, EVP_GRAM, EVP_FITS, 0);
+    expect_mark(441, 1, EVP_KILOGRAM, EVP_AGREES, 0);
+    expect_mark(44, 3, EVP_TONNE, EVP_AGREES, 0);
+    expect_mark(44130, 0, EVP_GRAM, EVP_LOW, 10276);
+    expect_mark(4415, 2, EVP_KILOGRAM, EVP_HIGH, 4207);
+    expect_mark(4414, 2, 4, EVP_UNREADABLE, 0);
+    expect_mark(1, 13, EVP_KILOGRAM, EVP_UNREADABLE, 0);
+}
+
 int main(int count, char **paths) {
     if (count != 7) {
         fprintf(stderr, "usage: example EXAMPLE.evp TABLE-3-5-DAY.evp ODOMETER.evp NORTH.evp SOUTH.evp POOLED\n");
@@ -583,6 +623,10 @@ int main(int count, char **paths) {
     if (first_bytes == 0 || second_bytes == 0 || pooled_bytes == 0)
         return 2;
     expect_pools();
+    expect_marks();
+    if (!read_sheet(paths[2]))
+        return 2;
+    expect_findings();
     if (mismatches != 0) {
         printf("%d mismatches\n", mismatches);
         return 1;

@@ -1,6 +1,6 @@
 /* The calls of the evaporation workbook for a program in C: the report of a sheet, in words or as a text, one emission factor, the
  * species of a mass, cells of a map made of a row's words, a ledger, in which vehicles arrive and depart and the report is kept in step, a
- * ledger that eight participants and a marker share, and two sheets pooled into one.
+ * ledger that eight participants and a marker share, two sheets pooled into one, why a sheet is refused, and what a band says of a filed mass.
  *
  * They stand in the static library target/staticlib/libevaporation.a, which `rt staticlib evaporation` makes from the proved
  * crate (x86-64 Linux); it needs only the C library. c/example.c is a program over them.
@@ -266,6 +266,64 @@ struct evp_row evp_shared_row(const uint8_t *sheet, size_t sheet_bytes, const ui
                               size_t words_count, uint64_t who, uint64_t row);
 struct evp_totals evp_shared_totals(const uint8_t *sheet, size_t sheet_bytes, const uint8_t *owners, size_t owners_count,
                                     const uint64_t *words, size_t words_count, uint64_t who);
+
+/* Why a sheet is refused: the first thing that is wrong on it, and what may stand there. All zeros where it is accepted. The number and the
+ * place are those of the report call (which asks EVP_ROOM besides). A number has one reason or several, counted from 1 in the order in which
+ * they are asked:
+ *   EVP_MARK 1 to 3 the letter; EVP_DAYS 1 this season's, 2 with those of the seasons before; EVP_TEMPERATURES 1 the lowest, 2 the highest,
+ *   3 the lowest above the highest; EVP_CLASS 1 the class, 2 the technology; EVP_PERCENT 1 carburettor, 2 hot, 3 fill level; EVP_TRIPS 1
+ *   trips, 2 minutes; EVP_LOAD 1 the load above the saturating load, 2 a load and 3 a saturating load without a canister; EVP_MILEAGE 1 above
+ *   1,000,000 km, 2 one without a canister, 3 a load beside it, 4 the saturating load. All others have one.
+ * The value is outside of least to most, both included. It is what stands in the bytes; for EVP_DURATIONS, EVP_HOURS and EVP_GRID their sum; for
+ * reason 2 of EVP_DAYS and for EVP_FLEET with what stands in the records before. Temperatures are tenths of a degree plus 32768. For
+ * EVP_EXPONENT and reason 4 of EVP_MILEAGE `most` is the largest saturating load that passes in all seasons, exactly, and `season` the first
+ * in which the one that stands there does not. Where the season or row is mended in that field the sheet may be refused further on. */
+struct evp_finding {
+    uint64_t number; /* of enum evp_number */
+    uint64_t place;  /* as above */
+    uint64_t reason; /* which of the reasons of this number, from 1 */
+    uint64_t index;  /* which season or row, from 0; 0 in the head and the parking */
+    uint64_t season; /* for a saturating load the first season in which it is too large, from 0; else 0 */
+    uint64_t at;     /* the first byte to look at */
+    uint64_t bytes;  /* how many bytes belong to it; 0 where the value is the length of the sheet */
+    uint64_t value;
+    uint64_t least;
+    uint64_t most;
+};
+
+struct evp_finding evp_explain(const uint8_t *sheet, size_t sheet_bytes);
+
+/* A filed mass: "2.834 t" has digits 2834, 3 places and the unit EVP_TONNE. It stands for what rounds to it, from half of one in its last
+ * place below to half above, both included: 2.8335 to 2.8345 t. */
+enum evp_unit {
+    EVP_MILLIGRAM = 0,
+    EVP_GRAM = 1,
+    EVP_KILOGRAM = 2,
+    EVP_TONNE = 3
+};
+
+struct evp_filed {
+    uint64_t digits; /* the figure without its point */
+    uint64_t places; /* how many digits stand behind the point */
+    uint64_t unit;   /* of enum evp_unit */
+};
+
+enum evp_verdict_kind {
+    EVP_AGREES = 0,    /* every mass of the band rounds to the figure */
+    EVP_FITS = 1,      /* some masses of the band do and some do not: the band does not settle it */
+    EVP_LOW = 2,       /* every mass of the band is above all that the figure stands for, by `off` milligrams or more */
+    EVP_HIGH = 3,      /* every mass of the band is below it, by `off` milligrams or more */
+    EVP_UNREADABLE = 4 /* not compared: no such unit, a last place below 10^-6 mg, more than 18 digits, or 10^18 mg and more */
+};
+
+struct evp_verdict {
+    uint64_t verdict; /* of enum evp_verdict_kind */
+    uint64_t off;     /* whole milligrams, cut down; 0 but for EVP_LOW and EVP_HIGH */
+};
+
+/* What a band says of a filed mass: `low` and `high` are two words of a report, so that what is said holds of the exact mass. They are not
+ * checked: a low above its high is a band without a mass. */
+struct evp_verdict evp_mark(struct evp_filed filed, uint64_t low, uint64_t high);
 
 #ifdef __cplusplus
 }

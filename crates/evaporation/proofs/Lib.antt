@@ -4,3 +4,4 @@ pub mod CellNumbers
 pub mod ChangeNumbers
 pub mod PoolNumbers
 pub mod SharedNumbers
+pub mod MarkNumbers

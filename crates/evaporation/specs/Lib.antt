@@ -4,3 +4,4 @@ pub mod Cells
 pub mod Change
 pub mod PoolExport
 pub mod Shared
+pub mod MarkExport

@@ -7,8 +7,10 @@ ghost use Rattle.inventory.specs.ReportCall.{reportCheck};
 ghost use Rattle.printout.specs.Text.{TextAnswer};
 ghost use Rattle.evaporation.specs.Export.{checkNumbers, factorNumbers, ReportNumbers, FactorNumbers};
 
+pub mod filed;
 pub mod map_cells;
 mod pool;
+mod reasons;
 mod registrations;
 mod shared;
 pub mod species;

@@ -1,0 +1,9 @@
+pub mod Lines
+pub mod Classes
+pub mod Largest
+pub mod Seasons
+pub mod Agree
+pub mod Right
+pub mod Mended
+pub mod Explained
+pub mod Steps
