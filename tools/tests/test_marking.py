@@ -1,0 +1,67 @@
+"""Filed masses, and why a sheet is refused."""
+
+import unittest
+from fractions import Fraction
+
+from tools.reckoning import check
+from tools.reckoning.findings import NOTHING, explain, largest_saturation
+from tools.reckoning.format import Season
+from tools.reckoning.marking import AGREES, FITS, HIGH, LOW, UNREADABLE, interval, mark
+from tools.reckoning.quantities import canister_a_b
+from tools.reckoning.tables import CANISTER_S
+from tools.tests.support import NAMES, sample
+
+
+class MarkTest(unittest.TestCase):
+    """What a band says of a figure."""
+
+    def test_interval(self):
+        self.assertEqual(interval((2834, 3, 3)), (2_833_500_000, 2_834_500_000))
+        self.assertEqual(interval((0, 0, 0)), (Fraction(-1, 2), Fraction(1, 2)))
+
+    def test_verdicts(self):
+        """Both ends of the rounding count, and a distance is cut down."""
+        for filed, band, expected in (
+            ((2834, 3, 3), (2_834_491_356, 2_834_497_572), (AGREES, 0)),
+            ((2834, 3, 3), (2_834_491_356, 2_834_500_000), (AGREES, 0)),
+            ((2834, 3, 3), (2_834_491_356, 2_834_500_001), (FITS, 0)),
+            ((2834, 3, 3), (2_834_500_001, 2_834_500_002), (LOW, 1)),
+            ((2834, 3, 3), (1, 2_833_499_999), (HIGH, 1)),
+            ((5, 1, 0), (1, 1), (LOW, 0)),
+            ((15, 1, 0), (1, 1), (HIGH, 0)),
+            ((1, 7, 0), (0, 0), (UNREADABLE, 0)),
+            ((10 ** 18, 3, 0), (0, 0), (UNREADABLE, 0)),
+            ((10 ** 9, 0, 3), (0, 0), (UNREADABLE, 0)),
+            ((1, 0, 4), (1, 1), (UNREADABLE, 0)),
+        ):
+            self.assertEqual(mark(filed, band), expected, "%s in %s" % (filed, band))
+
+
+class FindingTest(unittest.TestCase):
+    """What is found on a sheet."""
+
+    def test_samples(self):
+        for name in NAMES:
+            data = sample(name, ".evp")
+            self.assertEqual(explain(data), NOTHING, name)
+
+    def test_every_byte(self):
+        """Number and place are those of the check, whichever byte is changed; the value is outside its limits."""
+        for name in ("example", "odometer"):
+            data = sample(name, ".evp")
+            for at in range(len(data)):
+                for value in (0, 255):
+                    changed = data[:at] + bytes([value]) + data[at + 1:]
+                    found = explain(changed)
+                    self.assertEqual((found.number, found.place), check(changed) or (0, 0), "byte %d of %s" % (at, name))
+                    self.assertTrue(found == NOTHING or not found.least <= found.value <= found.most)
+
+    def test_largest(self):
+        """The largest m_sat passes and the next does not."""
+        for season in (Season(90, 0, 150, 600), Season(1, -300, 500, 1100), Season(1, 500, 500, 300)):
+            a, b = canister_a_b(season, Fraction(season.highest, 10))
+            for canister, s in CANISTER_S.items():
+                for limit in (0, 3):
+                    most = largest_saturation(limit, season, canister)
+                    self.assertLessEqual(a + b * s * Fraction(most, 10), limit)
+                    self.assertGreater(a + b * s * Fraction(most + 1, 10), limit)
