@@ -14,10 +14,9 @@ for _folder in (TOP, TOP / "python"):
     if str(_folder) not in sys.path:
         sys.path.insert(0, str(_folder))
 
-import standin  # noqa: E402
 from evp import cli, library, sheet  # noqa: E402
 
-LIBRARY = standin.Library(library.find())  # library.load() once it has evp_mark and evp_explain
+LIBRARY = library.load()
 library.load = lambda: LIBRARY
 
 SCREEN = 24  # lines

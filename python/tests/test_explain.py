@@ -10,6 +10,7 @@ from evp import layout, sheet
 from evp.explain import CALLS, REASONS, explain
 from evp.library import Finding, Number
 from tools import reckoning
+from tools.reckoning import findings
 
 JSON_KEYS = ["file", "number", "place", "reason", "record", "index", "field", "at", "bytes", "value", "least", "most",
              "unit", "text"]
@@ -375,6 +376,7 @@ class DamagedTest(unittest.TestCase):
             check, finding, second = LIBRARY.check(data), LIBRARY.explain(data), reckoning.check(data)
             self.assertEqual((check.number, check.place) if check else None, second)
             self.assertEqual((finding.number, finding.place), second or (0, 0))
+            self.assertEqual(tuple(finding), tuple(findings.explain(data)))
             said = explain(LIBRARY, data)
             numbers.add((finding.number, finding.reason))
             if finding.number:

@@ -12,6 +12,7 @@ from evp import layout, library, sheet
 from evp.library import Band, Cell, Filed, Kind, Masses, MissingCall, Number, Outcome, Refusal, Travel, Unit
 from tools import reckoning
 from tools.reckoning import cells as second_cells
+from tools.reckoning import marking
 from tools.reckoning import pool as second_pool
 from tools.reckoning import species as second_species
 
@@ -20,7 +21,8 @@ STRUCTS = {
     "evp_check": library._Check, "evp_factor_band": library._FactorBand, "evp_pool_check": library._PoolCheck,
     "evp_row_words": library._RowWords, "evp_travel": library._Travel, "evp_cell": library._Cell,
     "evp_row_cells": library._RowCells, "evp_cell_sum": library._CellSum, "evp_row": library._Row,
-    "evp_totals": library._Totals,
+    "evp_totals": library._Totals, "evp_filed": library._Filed, "evp_verdict": library._Verdict,
+    "evp_finding": library._Finding,
 }
 
 
@@ -195,33 +197,20 @@ class OtherCallsTest(unittest.TestCase):
                          [(number, tank, canisters) for number, _, tank, canisters in reckoning.CLASS_TABLE])
 
 
-class LaterCallsTest(DeskTestCase):
-    """How evp_mark and evp_explain are called, with a library that gives back what it is handed."""
+class MarkTest(unittest.TestCase):
+    """The verdict against the second reckoning."""
 
-    SOURCE = """
-    #include <stddef.h>
-    #include <stdint.h>
-    struct evp_filed { uint64_t digits, places, unit; };
-    struct evp_verdict { uint64_t verdict, off; };
-    struct evp_finding { uint64_t number, place, reason, index, season, at, bytes, value, least, most; };
-    struct evp_verdict evp_mark(struct evp_filed f, uint64_t low, uint64_t high) {
-        return (struct evp_verdict){ f.unit, f.digits * 1000 + f.places * 100 + low * 10 + high };
-    }
-    struct evp_finding evp_explain(const uint8_t *sheet, size_t sheet_bytes) {
-        return (struct evp_finding){ sheet_bytes, sheet[0], 3, 4, 5, 6, 7, 8, 9, UINT64_MAX };
-    }
-    """
+    def test_mark(self):
+        draw = random.Random(31)
+        for _ in range(4000):
+            low = draw.randrange(10 ** draw.randrange(1, 14))
+            band = Band(low, low + draw.randrange(10 ** draw.randrange(1, 7)))
+            filed = Filed(draw.randrange(10 ** draw.randrange(1, 19)), draw.randrange(17), draw.choice(list(Unit)))
+            self.assertEqual(tuple(LIBRARY.mark(filed, band)), tuple(marking.mark(tuple(filed), tuple(band))), (filed, band))
 
-    def test_binding(self):
-        source, made = self.put("later.c", self.SOURCE), self.folder / "later.so"
-        subprocess.run(["gcc", "-shared", "-fPIC", "-o", made, source], check=True)
-        later = library.Library(made)
-        self.assertEqual(later.mark(Filed(7, 6, Unit.T), Band(5, 4)), (Outcome.HIGH, 7654))
-        self.assertEqual(later.explain(b"A\0B"), (3, 65, 3, 4, 5, 6, 7, 8, 9, 2 ** 64 - 1))
-        with self.assertRaisesRegex(MissingCall, "evp_report"):
-            later.report(b"")
+    def test_too_large_for_the_call(self):
         with self.assertRaises(OverflowError):
-            later.mark(Filed(2 ** 64, 0, Unit.T), Band(0, 0))
+            LIBRARY.mark(Filed(2 ** 64, 0, Unit.T), Band(0, 0))
 
 
 class NoNullTest(unittest.TestCase):
