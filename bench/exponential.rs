@@ -5,7 +5,7 @@ use method::exponential::exponential;
 use method::products::{Halves, OneWhole, Products, Wide};
 use std::hint::black_box;
 
-#[link(name = "exponentials", kind = "static")]
+#[link(name = "bench_exponentials", kind = "static")]
 extern "C" {
     fn exponentials_sum(xs: *const u64, count: usize) -> u64;
 }

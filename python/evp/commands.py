@@ -264,7 +264,7 @@ def species(given: Namespace) -> int:
     if given.csv:
         print(show.species_csv(masses), end="")
     else:
-        say(show.species_lines(name_shown(given.sheet), total, masses))
+        say(show.species_report(name_shown(given.sheet), total, masses))
     return FINE
 
 

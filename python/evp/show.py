@@ -144,7 +144,7 @@ def comparison_lines(name_a: str, name_b: str, found: list[Difference]) -> Itera
 # ------------------------------------------------------------------ species
 
 
-def species_lines(file: str, total: int, masses: list[int]) -> Iterator[str]:
+def species_report(file: str, total: int, masses: list[int]) -> Iterator[str]:
     yield "%s: the high total, %s mg, by species" % (file, apart(total))
     yield ""
     yield from aligned(((name, "%s mg" % apart(mass)) for name, mass in zip(SPECIES, masses)), 1)

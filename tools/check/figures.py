@@ -19,7 +19,7 @@ NUMBER = r"(?:\d{1,3}(?:,\d{3})+|\d+)(?:\.\d+)?"
 
 # What the programs print, by program: the line, with facts in braces and * for what does not matter.
 PRINTED = {
-    "bounds_vectors": (
+    "vectors_bounds": (
         "exponentials from 0 below 1/4096: * largest error {quadratic_error} of *",
         "exponentials from 0 below 1/16: * largest error {fine_error} of *",
         "exponentials up to 2.3: * largest error {error_2_3} of {bound_2_3}",
@@ -28,33 +28,33 @@ PRINTED = {
         "exponentials below 4.1: {exponents} enclosed * largest error {error_4_1} of {bound_4_1}",
         "powers up to 65 degrees: {temperatures} enclosed * largest error {error_power} of {bound_power}",
     ),
-    "species_vectors": ("totals: {totals} split as given *",),
-    "sheet_vectors": ("sheets {sheets} agree *",),
-    "factor_vectors": (
+    "vectors_species": ("totals: {totals} split as given *",),
+    "vectors_sheet": ("sheets {sheets} agree *",),
+    "vectors_factor": (
         "factors: {factors} enclosed * widest band {factor_band} ug farthest from its middle {middle_ng} ng",
         "rows with a mileage: {driven_factors} enclosed * widest band {driven_band} ug * middle {driven_middle_ng} ng",
         "refused calls {refused_factors} alike *",
     ),
-    "report_vectors": (
+    "vectors_report": (
         "diurnal bands {rows} right * widest {diurnal_ng} ng *, * {driven_rows} right * widest {driven_diurnal_ng} ng",
         "soak bands * right * widest {soak_ng} ng * with a mileage * right * widest {driven_soak_ng} ng",
         "running bands * right * widest {running_ng} ng * with a mileage * right * widest {driven_running_ng} ng",
         "sums of accepted sheets {reports} right *",
         "refused sheets {refused_reports} right *",
     ),
-    "cell_vectors": (
+    "vectors_map": (
         "rows with cells {rows_with_cells} agree *", "rows refused 27: {rows_27} agree *",
         "rows refused 28: {rows_28} agree *",
         "sums with a cell {sums_with_cell} agree *", "sums refused 27: {sums_27} agree *",
     ),
-    "ledger_vectors": ("calls that pass {ledger_passed} right *", "calls that are refused {ledger_refused} right *"),
-    "rights_vectors": ("openings {shared_ledgers} right *", "calls {shared_calls} right *",
+    "vectors_ledger": ("calls that pass {ledger_passed} right *", "calls that are refused {ledger_refused} right *"),
+    "vectors_shared_ledger": ("openings {shared_ledgers} right *", "calls {shared_calls} right *",
                        "pairs told the same {shared_pairs} right *"),
-    "pool_vectors": ("refused pairs {refused_pools} right *", "pooled sheets {accepted_pools} right *"),
+    "vectors_pool": ("refused pairs {refused_pools} right *", "pooled sheets {accepted_pools} right *"),
 }
 
 CLAIMS = (
-    # what the programs *_vectors were run on
+    # what the programs vectors_* were run on
     "{exponents} exponents and {temperatures} temperatures",
     "{totals} totals, {sheets} sheets, {factors} factors, {masses} masses, {cell_rows} rows",
     "and {cell_sums} sums of cells",

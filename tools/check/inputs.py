@@ -1,4 +1,4 @@
-"""The inputs of the programs *_vectors read back, as far as the documents say how many of what they hold."""
+"""The inputs of the programs vectors_* read back, as far as the documents say how many of what they hold."""
 
 from collections import Counter
 
@@ -37,8 +37,8 @@ def version_in(sheet: bytes) -> int:
 
 
 def sheets_by_version() -> Counter[int]:
-    """The sheets of sheet_vectors: of each only the bytes that differ from what stood there before."""
-    found, data = Counter(), stdin_of("sheet_vectors")
+    """The sheets of vectors_sheet: of each only the bytes that differ from what stood there before."""
+    found, data = Counter(), stdin_of("vectors_sheet")
     here = bytearray(2 ** 16)
     for _ in range(data.number(4)):
         size, start = data.numbers(2, 2)
@@ -50,8 +50,8 @@ def sheets_by_version() -> Counter[int]:
 
 
 def factors_by_version() -> Counter[int]:
-    """The factors that factor_vectors holds its calls against."""
-    found, data = Counter(), stdin_of("factor_vectors")
+    """The factors that vectors_factor holds its calls against."""
+    found, data = Counter(), stdin_of("vectors_factor")
     data.number(4)
     while data.more():
         length, calls = data.numbers(2, 2)
@@ -63,8 +63,8 @@ def factors_by_version() -> Counter[int]:
 
 
 def reports_by_version() -> Counter[int]:
-    """The accepted sheets of report_vectors."""
-    found, data = Counter(), stdin_of("report_vectors")
+    """The accepted sheets of vectors_report."""
+    found, data = Counter(), stdin_of("vectors_report")
     for _ in range(data.number(4)):
         length, rows, _, number, _ = data.numbers(2, 5)
         found[version_in(data.take(length))] += number == 0
@@ -73,8 +73,8 @@ def reports_by_version() -> Counter[int]:
 
 
 def ledgers() -> Counter[bool]:
-    """How many ledgers of ledger_vectors open, and how many do not."""
-    found, data = Counter(), stdin_of("ledger_vectors")
+    """How many ledgers of vectors_ledger open, and how many do not."""
+    found, data = Counter(), stdin_of("vectors_ledger")
     data.number(4)
     while data.more():
         length, calls, _, number, _ = data.numbers(2, 5)

@@ -107,8 +107,8 @@ class FilesTest(unittest.TestCase):
 
     def test_vectors(self):
         """A set that lacks something, or is longer than what the program reads, has no files."""
-        good = VectorSet("a_vectors", lambda: [1], bytes, lambda vectors: [])
-        self.assertEqual([made.path for made in good.files()], ["crates/a_vectors/stdin"])
+        good = VectorSet("vectors_a", lambda: [1], bytes, lambda vectors: [])
+        self.assertEqual([made.path for made in good.files()], ["crates/vectors_a/stdin"])
         for faulty in (good._replace(missing=lambda vectors: ["no second vector"]),
                        good._replace(encode=lambda _: bytes(ROOM + 1))):
             with self.assertRaises(VectorError):

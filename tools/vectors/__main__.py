@@ -46,7 +46,7 @@ def add_options(command: argparse.ArgumentParser):
 
 def parser() -> argparse.ArgumentParser:
     top = argparse.ArgumentParser(prog="python3 -m tools.vectors", **described(
-        "Makes the input of the programs *_vectors, with the answers that are expected of them.",
+        "Makes the input of the programs vectors_*, with the answers that are expected of them.",
         "python3 -m tools.vectors sheets --check"))
     commands = top.add_subparsers(required=True, metavar="SET")
     for name, module in MODULES.items():

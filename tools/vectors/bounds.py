@@ -1,4 +1,4 @@
-"""The input of bounds_vectors: exponents and temperatures with their exact values.
+"""The input of vectors_bounds: exponents and temperatures with their exact values.
 
 Every number has eight bytes, the lowest first: how many exponents, how many
 temperatures, then three numbers for each of them. These are the exponent z as
@@ -145,4 +145,4 @@ def lines(vectors) -> Iterator[str]:
                                      " ".join(map(str, exact)))
 
 
-VECTORS = VectorSet("bounds_vectors", found, encoded, lines)
+VECTORS = VectorSet("vectors_bounds", found, encoded, lines)

@@ -1,4 +1,4 @@
-"""The input of cell_vectors: rows with their cells and sums of two cells, bit by bit.
+"""The input of vectors_map: rows with their cells and sums of two cells, bit by bit.
 
 The file says in four bytes each how many rows and how many sums there are; then
 come the rows and the sums, as numbers of eight bytes, the lowest first. A row:
@@ -230,4 +230,4 @@ def lines(vectors: Vectors) -> Iterator[str]:
         yield answer_line("sum %d: %s + %s" % (i, cell_text(cells.first), cell_text(cells.second)), number, [cell])
 
 
-VECTORS = VectorSet("cell_vectors", found, encoded, lines, missing)
+VECTORS = VectorSet("vectors_map", found, encoded, lines, missing)

@@ -1,4 +1,4 @@
-"""The input of factor_vectors: sheets with calls of single factors and the exact factor of each, at n = 40 and n = 60.
+"""The input of vectors_factor: sheets with calls of single factors and the exact factor of each, at n = 40 and n = 60.
 
 The file says in four bytes how many calls there are. Each sheet follows its
 length and the number of its calls, two bytes each; then come its calls, of
@@ -433,4 +433,4 @@ def lines(found: list[Group]) -> Iterator[str]:
                 sheet, position, *call[:3], answer, group.words)
 
 
-VECTORS = VectorSet("factor_vectors", all_groups, encoded, lines, missing)
+VECTORS = VectorSet("vectors_factor", all_groups, encoded, lines, missing)

@@ -1,4 +1,4 @@
-"""The input of ledger_vectors: ledgers and lists of calls on them, with what the plain machine answers each and
+"""The input of vectors_ledger: ledgers and lists of calls on them, with what the plain machine answers each and
 leaves of the counts.
 
 The file says in four bytes how many calls there are in all. Each ledger starts
@@ -283,4 +283,4 @@ def lines(vectors: list[Vector]) -> Iterator[str]:
                                                           refused, v.case.words)
 
 
-VECTORS = VectorSet("ledger_vectors", all_vectors, encoded, lines, missing)
+VECTORS = VectorSet("vectors_ledger", all_vectors, encoded, lines, missing)

@@ -1,4 +1,4 @@
-"""The input of pool_vectors: pairs of sheets with what pooling them answers and the pooled sheet.
+"""The input of vectors_pool: pairs of sheets with what pooling them answers and the pooled sheet.
 
 And the two sheets that the program `pool` is run on, crates/pool/data, with
 what it writes, crates/pool/stdout.
@@ -281,4 +281,4 @@ def program_files() -> dict[str, bytes]:
     }
 
 
-VECTORS = VectorSet("pool_vectors", all_vectors, encoded, lines, missing, program_files)
+VECTORS = VectorSet("vectors_pool", all_vectors, encoded, lines, missing, program_files)

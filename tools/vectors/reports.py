@@ -1,4 +1,4 @@
-"""The input of report_vectors: sheets with the exact masses of their rows, and sheets and buffers that are refused.
+"""The input of vectors_report: sheets with the exact masses of their rows, and sheets and buffers that are refused.
 
 The file says in four bytes how many sheets there are. Each sheet follows five
 numbers of two bytes: its length, how many rows are given behind it (none where
@@ -354,4 +354,4 @@ def lines(vectors: list[Vector]) -> Iterator[str]:
         yield "%4d  %-17s  %s" % (position, reckoning.answer_text(*v.answer), v.case.words)
 
 
-VECTORS = VectorSet("report_vectors", all_vectors, encoded, lines, missing)
+VECTORS = VectorSet("vectors_report", all_vectors, encoded, lines, missing)

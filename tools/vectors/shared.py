@@ -1,4 +1,4 @@
-"""The input of rights_vectors: shared ledgers and lists of calls on them, with what each call is answered.
+"""The input of vectors_shared_ledger: shared ledgers and lists of calls on them, with what each call is answered.
 
 Pairs of ledgers and lists agree for one participant, who must be told the same
 by both.
@@ -321,4 +321,4 @@ def lines(vectors: list[Vector]) -> Iterator[str]:
                                                           refused, v.case.words)
 
 
-VECTORS = VectorSet("rights_vectors", all_vectors, encoded, lines, missing)
+VECTORS = VectorSet("vectors_shared_ledger", all_vectors, encoded, lines, missing)

@@ -1,4 +1,4 @@
-"""The input of species_vectors: totals with the masses of their species.
+"""The input of vectors_species: totals with the masses of their species.
 
 Every number of the file has eight bytes, the lowest first: how many totals,
 then for each the total and its 29 masses.
@@ -78,4 +78,4 @@ def lines(found: list[Vector]) -> Iterator[str]:
         yield "%4d  %20d  %s" % (position, total, " ".join(map(str, masses)))
 
 
-VECTORS = VectorSet("species_vectors", vectors, encoded, lines, missing)
+VECTORS = VectorSet("vectors_species", vectors, encoded, lines, missing)

@@ -6,7 +6,7 @@ use native.Mathlib.Decide.{decLe}
 use native.Mathlib.Omega.{arith}
 use native.Mathlib.Nat.{pow-zero, mul-comm, mul-pos, mul-le-mul-right, mul-le-mul-left, mul-le-mul, le-of-mul-le-mul-right, le-dest, le-of-lt, lt-of-not-le}
 use lib.Dec.{T}
-use Rattle.numbers.specs.Fraction.{Fraction, _≤ᶠ_, _≈ᶠ_, _+ᶠ_, negᶠ, _*ᶠ_, whole, _/10^_, ten-pos, _over_, inverse}
+use Rattle.numbers.specs.Fraction.{Fraction, _≤ᶠ_, _≈ᶠ_, _+ᶠ_, negᶠ, _*ᶠ_, whole, _/10^_, ten-pos, inverse}
 use Rattle.bounds.specs.Series.{S, E, term, factorial}
 use Rattle.numbers.proofs.Order.{NonNegative, Positive, sub-mul, ratio, ratio-≤, ratio-≈, ratio-positive, ratio-sum, ratio-one, nonNegative-is, decimal-is, ≤-trans, ≤-by, ≈→≤, ≈-refl, ≈-sym, ≈-trans, +-cong, *-cong, ^-cong, over-cong, neg-cong, inverse-cong, test-cases, test-cong, nonNegative, neg-positive, positive→nonNegative, positive-cong}
 use Rattle.bounds.proofs.Product.{den, acc, num, num-mono, num-zero, num-pos, den-pos, product-above, product-below, series-is}

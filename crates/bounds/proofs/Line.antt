@@ -13,7 +13,7 @@ use Rattle.bounds.proofs.Exponential.{E-mono, E-positive, E-tangent}
 use Rattle.bounds.proofs.Sums.{E-most-1}
 use Rattle.bounds.proofs.ExponentialBound.{exponential-within, exponentialError-0}
 use Rattle.bounds.proofs.Ends.{E-to-3}
-use Rattle.bounds.proofs.Within.{widen, within-above, within-below, within-from, within-cross, whole-within, +-within, div-mono}
+use Rattle.bounds.proofs.Within.{widen, within-above, within-below, within-from, within-cross, whole-within, +-within}
 
 -- How steep E is up to an exponent.
 pub record Slope : Type 0 where

@@ -11,7 +11,7 @@ use lib.Dec.{leb}
 use borrow.Author.Tests.{leb-true, leb-false, le-leb, lt-leb}
 use Rattle.numbers.specs.Fraction.{Fraction, _≤ᶠ_, _<ᶠ_, _*ᶠ_, _^ᶠ_, whole, _≤?_}
 use Rattle.numbers.proofs.Order.{NonNegative, test-cases}
-use Rattle.bounds.specs.Series.{rootFrom, root, cutRoot, power2·5, two-pos, multiple, LargestMultiple, CutRootTheorem}
+use Rattle.bounds.specs.Series.{rootFrom, root, cutRoot, power2·5, multiple, CutRootTheorem}
 
 -- the larger square has the larger root
 pub root-less : {a b : ℕ} → a * a < b * b → a < b

@@ -28,7 +28,7 @@ fn root_from_above(x: u64) -> u64
 }
 
 // The same, of 0 too.
-pub fn square_root(x: u64) -> u64
+fn square_root(x: u64) -> u64
     ensures { λ r. ⌜ (r ≡ root x) × (r < 2 ^ 32) ⌝ }
 {
     if x == 0 { 0 } else { root_from_above(x) }

@@ -1,7 +1,7 @@
 // The load of a canister at parking start, and how far what is lost there can be above the computed one.
 use bounds::exp::ONE;
-use classes::halves;
 use exact::Row;
+use fields::classes::halves;
 use starting_loads::mileage::net;
 use starting_loads::steps::starts;
 ghost use mathlib.Core.Path.{_≡_};

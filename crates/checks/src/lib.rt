@@ -2,8 +2,8 @@
 use crate::head::head_check;
 use crate::head::length_check;
 use crate::parking::parking_check;
-use row_checks::rows_check;
-use season_checks::seasons_check;
+use crate::rows::rows_check;
+use crate::seasons::seasons_check;
 use sheet::Check;
 ghost use mathlib.Core.Path.{_≡_};
 ghost use Rattle.sheet.specs.Check.{numberOf, placeOf};
@@ -12,6 +12,8 @@ ghost use Rattle.sheet.specs.Demands.{Says, demands};
 
 pub mod head;
 mod parking;
+mod rows;
+mod seasons;
 
 // The stages one after another, in table and file order. Each reads only what the stages before it showed to be there.
 fn stages(s: &[u8]) -> Check

@@ -7,24 +7,24 @@ use native.Mathlib.Omega.{arith}
 use lib.Dec.{eqb}
 use lib.Ieee.{Float, fin, up, down, eq}
 use borrow.Author.Tests.{eq-eqb, ne-eqb}
-use Rattle.cells.specs.declared.Cell.{Cell}
-use Rattle.cells.specs.declared.Cell.the-variants.{Empty, Exact, Band}
-use Rattle.cells.specs.declared.CellAnswer.{CellAnswer}
-use Rattle.cells.specs.declared.CellAnswer.the-variants as sum
-use Rattle.cells.specs.Sums.{cellSum}
-use Rattle.cells.specs.Values.{Plus, NoMinus}
-use Rattle.cells.specs.Promise.{SumPromise}
-use Rattle.cells.proofs.Promised.{promised}
-use Rattle.shares.specs.declared.Travel.{Travel}
-use Rattle.shares.specs.declared.Words.{Words}
-use Rattle.row_cells.specs.Promise.{RowPromise}
-use Rattle.evaporation.specs.declared.map_cells.EvpCellSum.{EvpCellSum}
-use Rattle.row_cells.specs.declared.RowCells.{RowCells}
-use Rattle.row_cells.specs.declared.RowAnswer.{RowAnswer}
-use Rattle.row_cells.specs.declared.RowAnswer.the-variants as row
-use Rattle.evaporation.specs.declared.map_cells.EvpCell.{EvpCell}
-use Rattle.evaporation.specs.declared.map_cells.Handed.{Handed}
-use Rattle.evaporation.specs.declared.map_cells.Handed.the-variants.{Given, NoCell}
+use Rattle.map_cells.specs.declared.Cell.{Cell}
+use Rattle.map_cells.specs.declared.Cell.the-variants.{Empty, Exact, Band}
+use Rattle.map_cells.specs.declared.CellAnswer.{CellAnswer}
+use Rattle.map_cells.specs.declared.CellAnswer.the-variants as sum
+use Rattle.map_cells.specs.Sums.{cellSum}
+use Rattle.map_cells.specs.Values.{Plus, NoMinus}
+use Rattle.map_cells.specs.Promise.{SumPromise}
+use Rattle.map_cells.proofs.Promised.{promised}
+use Rattle.map_shares.specs.declared.Travel.{Travel}
+use Rattle.map_shares.specs.declared.Words.{Words}
+use Rattle.map_rows.specs.Promise.{RowPromise}
+use Rattle.evaporation.specs.declared.map.EvpCellSum.{EvpCellSum}
+use Rattle.map_rows.specs.declared.RowCells.{RowCells}
+use Rattle.map_rows.specs.declared.RowAnswer.{RowAnswer}
+use Rattle.map_rows.specs.declared.RowAnswer.the-variants as row
+use Rattle.evaporation.specs.declared.map.EvpCell.{EvpCell}
+use Rattle.evaporation.specs.declared.map.Handed.{Handed}
+use Rattle.evaporation.specs.declared.map.Handed.the-variants.{Given, NoCell}
 use Rattle.evaporation.specs.Cells.{cellNumbers, noCell, rowNumbers, sumNumbers, exactHanded, cellHanded, handedSum, RowCellsNone, RowCellsGiven, CellSumNumbers}
 
 module _ {a : RowAnswer} {u r h : EvpCell} where

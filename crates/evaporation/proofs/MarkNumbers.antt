@@ -1,6 +1,6 @@
 -- The numbers of a mark that leave the library say what the verdict says.
 use mathlib.Core.Path.{_≡_, refl, sym}
-use Prim.Native.Nat.{ℕ, _≤_, _<_}
+use Prim.Native.Nat.{ℕ, _<_}
 use native.Mathlib.Omega.{arith}
 use borrow.Author.Tests.{eq-eqb, ne-eqb}
 use Rattle.marking.specs.declared.Unit.{Unit}
@@ -15,7 +15,7 @@ use Rattle.evaporation.specs.declared.filed.EvpFiled.{EvpFiled}
 use Rattle.evaporation.specs.declared.filed.EvpVerdict.{EvpVerdict}
 use Rattle.evaporation.specs.declared.filed.UnitHanded.{UnitHanded}
 use Rattle.evaporation.specs.declared.filed.UnitHanded.the-variants.{Named, NoUnit}
-use Rattle.evaporation.specs.MarkExport.{unitHanded, figure, handedVerdict, verdictNumbers, NumbersTell, NumbersMark, MarkNumbers}
+use Rattle.evaporation.specs.MarkExport.{unitHanded, figure, handedVerdict, verdictNumbers, NumbersMark, MarkNumbers}
 
 -- by the unit's number: 0, 1, 2, 3, or any other
 module _ (u : ℕ) where

@@ -1,14 +1,13 @@
 -- The species written to a buffer: 29 words at its front, or none.
 -- Assumes nothing.
-use mathlib.Core.List.{List, _++_}
-use mathlib.Core.Path.{_≡_, refl, sym, _∙_, ap}
+use mathlib.Core.List.{List}
+use mathlib.Core.Path.{_≡_, _∙_}
 use Prim.Native.Nat.{ℕ, _≤_, _<_}
 use native.Mathlib.Omega.{arith}
 use borrow.Author.Tests.{lt-ltb, le-ltb}
-use lib.ListN.{length, getD, drop}
+use lib.ListN.{length}
 use Rattle.numbers.specs.Lists.{at}
 use Rattle.numbers.proofs.Lists.{tab-length, getD-tab, sum-ext}
-use Rattle.sheet.specs.declared.Check.{Check}
 use Rattle.sheet.specs.declared.Check.the-variants.{Pass, Refused}
 use Rattle.sheet.specs.Check.{refuse}
 use Rattle.report_words.specs.Years.{filled}

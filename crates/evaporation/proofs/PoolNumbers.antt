@@ -3,9 +3,9 @@ use mathlib.Core.List.{List}
 use mathlib.Core.Path.{_≡_, refl, ap, _∙_}
 use Rattle.sheet.specs.Check.{numberOf, placeOf}
 use Prim.Native.Nat.{ℕ}
-use Rattle.pooled.specs.declared.PoolAnswer.{PoolAnswer}
-use Rattle.pooled.specs.declared.PoolAnswer.the-variants.{Accepted, First, Second, Pooled}
-use Rattle.pooled.specs.PoolCall.{checkOf, PoolReply}
+use Rattle.pooling.specs.declared.PoolAnswer.{PoolAnswer}
+use Rattle.pooling.specs.declared.PoolAnswer.the-variants.{Accepted, First, Second, Pooled}
+use Rattle.pooling.specs.PoolCall.{checkOf, PoolReply}
 use Rattle.evaporation.specs.declared.pool.EvpPool.{EvpPool}
 use Rattle.evaporation.specs.PoolExport.{poolNumbers, PoolNumbers}
 

@@ -5,10 +5,10 @@ use mathlib.Core.Path.{_≡_, _∙_, ap}
 use Prim.Native.Nat.{ℕ}
 use Rattle.sheet.specs.declared.Check.{Check}
 use Rattle.ledger.specs.declared.Call.{Call}
-use Rattle.rights.specs.declared.RowAnswer.{RowAnswer}
-use Rattle.rights.specs.declared.TotalsAnswer.{TotalsAnswer}
-use Rattle.rights.specs.Opening.{OpenAnswer}
-use Rattle.rights.specs.Calls.{SharedChange, SharedRow, SharedTotals}
+use Rattle.shared_ledger.specs.declared.RowAnswer.{RowAnswer}
+use Rattle.shared_ledger.specs.declared.TotalsAnswer.{TotalsAnswer}
+use Rattle.shared_ledger.specs.Opening.{OpenAnswer}
+use Rattle.shared_ledger.specs.Calls.{SharedChange, SharedRow, SharedTotals}
 use Rattle.evaporation.specs.declared.EvpCheck.{EvpCheck}
 use Rattle.evaporation.specs.declared.shared.EvpRow.{EvpRow}
 use Rattle.evaporation.specs.declared.shared.EvpTotals.{EvpTotals}

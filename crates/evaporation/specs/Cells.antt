@@ -5,24 +5,24 @@ use mathlib.Core.Path.{_≡_}
 use lib.Dec.{eqb}
 use lib.IntN.{pos}
 use lib.Ieee.{Float, fin, eq}
-use Rattle.cells.specs.declared.Cell.{Cell}
-use Rattle.cells.specs.declared.Cell.the-variants.{Empty, Exact, Band}
-use Rattle.cells.specs.declared.CellAnswer.{CellAnswer}
-use Rattle.cells.specs.declared.CellAnswer.the-variants as sum
-use Rattle.cells.specs.Sums.{cellSum}
-use Rattle.cells.specs.Promise.{SumPromise}
-use Rattle.shares.specs.declared.Travel.{Travel}
-use Rattle.shares.specs.declared.Words.{Words}
-use Rattle.row_cells.specs.declared.RowCells.{RowCells}
-use Rattle.row_cells.specs.declared.RowAnswer.{RowAnswer}
-use Rattle.row_cells.specs.declared.RowAnswer.the-variants as row
-use Rattle.row_cells.specs.Promise.{RowPromise}
-use Rattle.row_cells.specs.Rows.{rowAnswer}
-use Rattle.evaporation.specs.declared.map_cells.EvpCell.{EvpCell}
-use Rattle.evaporation.specs.declared.map_cells.EvpRowCells.{EvpRowCells}
-use Rattle.evaporation.specs.declared.map_cells.EvpCellSum.{EvpCellSum}
-use Rattle.evaporation.specs.declared.map_cells.Handed.{Handed}
-use Rattle.evaporation.specs.declared.map_cells.Handed.the-variants.{Given, NoCell}
+use Rattle.map_cells.specs.declared.Cell.{Cell}
+use Rattle.map_cells.specs.declared.Cell.the-variants.{Empty, Exact, Band}
+use Rattle.map_cells.specs.declared.CellAnswer.{CellAnswer}
+use Rattle.map_cells.specs.declared.CellAnswer.the-variants as sum
+use Rattle.map_cells.specs.Sums.{cellSum}
+use Rattle.map_cells.specs.Promise.{SumPromise}
+use Rattle.map_shares.specs.declared.Travel.{Travel}
+use Rattle.map_shares.specs.declared.Words.{Words}
+use Rattle.map_rows.specs.declared.RowCells.{RowCells}
+use Rattle.map_rows.specs.declared.RowAnswer.{RowAnswer}
+use Rattle.map_rows.specs.declared.RowAnswer.the-variants as row
+use Rattle.map_rows.specs.Promise.{RowPromise}
+use Rattle.map_rows.specs.Rows.{rowAnswer}
+use Rattle.evaporation.specs.declared.map.EvpCell.{EvpCell}
+use Rattle.evaporation.specs.declared.map.EvpRowCells.{EvpRowCells}
+use Rattle.evaporation.specs.declared.map.EvpCellSum.{EvpCellSum}
+use Rattle.evaporation.specs.declared.map.Handed.{Handed}
+use Rattle.evaporation.specs.declared.map.Handed.the-variants.{Given, NoCell}
 
 -- kind 0 empty, with 0 in both doubles; 1 one mass, in both; 2 a low and a high
 unfoldable pub cellNumbers : Cell → EvpCell

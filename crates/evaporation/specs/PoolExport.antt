@@ -5,10 +5,10 @@ use Prim.Native.Nat.{ℕ}
 use lib.ListN.{length}
 use Rattle.sheet.specs.Check.{numberOf, placeOf}
 use Rattle.inventory.specs.ReportCall.{written}
-use Rattle.pooled.specs.declared.PoolAnswer.{PoolAnswer}
-use Rattle.pooled.specs.declared.PoolAnswer.the-variants.{Accepted, First, Second, Pooled}
-use Rattle.pooled.specs.Pool.{pool, poolCheck}
-use Rattle.pooled.specs.PoolCall.{poolAnswer, PoolSays}
+use Rattle.pooling.specs.declared.PoolAnswer.{PoolAnswer}
+use Rattle.pooling.specs.declared.PoolAnswer.the-variants.{Accepted, First, Second, Pooled}
+use Rattle.pooling.specs.Pool.{pool, poolCheck}
+use Rattle.pooling.specs.PoolCall.{poolAnswer, PoolSays}
 use Rattle.evaporation.specs.declared.pool.EvpPool.{EvpPool}
 
 -- the number and the place of an answer, and which sheet they are of: 1 the first, 2 the second, 3 the two together

@@ -11,10 +11,10 @@ use Rattle.report_words.specs.Promise.{ReportPromise}
 use Rattle.inventory.specs.ReportCall.{written}
 use Rattle.ledger.specs.declared.Call.{Call}
 use Rattle.ledger.specs.Ledger.{sheetAfter, wordsAfter}
-use Rattle.rights.specs.declared.RowAnswer.{RowAnswer}
-use Rattle.rights.specs.declared.TotalsAnswer.{TotalsAnswer}
-use Rattle.rights.specs.Opening.{sharedCheck, sharedDemands}
-use Rattle.rights.specs.Calls.{changeCheck, changeDemands, rowAnswer, rowDemands, totalsAnswer, totalsDemands}
+use Rattle.shared_ledger.specs.declared.RowAnswer.{RowAnswer}
+use Rattle.shared_ledger.specs.declared.TotalsAnswer.{TotalsAnswer}
+use Rattle.shared_ledger.specs.Opening.{sharedCheck, sharedDemands}
+use Rattle.shared_ledger.specs.Calls.{changeCheck, changeDemands, rowAnswer, rowDemands, totalsAnswer, totalsDemands}
 use Rattle.evaporation.specs.declared.EvpCheck.{EvpCheck}
 use Rattle.evaporation.specs.declared.shared.EvpRow.{EvpRow}
 use Rattle.evaporation.specs.declared.shared.EvpTotals.{EvpTotals}

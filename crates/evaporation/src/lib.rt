@@ -2,13 +2,11 @@
 use inventory::FactorAnswer;
 use sheet::Check;
 ghost use mathlib.Core.Path.{_≡_};
-ghost use Rattle.inventory.specs.FactorCall.{factorAnswer};
-ghost use Rattle.inventory.specs.ReportCall.{reportCheck};
-ghost use Rattle.printout.specs.Text.{TextAnswer};
+ghost use Rattle.report_text.specs.Text.{TextAnswer};
 ghost use Rattle.evaporation.specs.Export.{checkNumbers, factorNumbers, ReportNumbers, FactorNumbers};
 
 pub mod filed;
-pub mod map_cells;
+pub mod map;
 mod pool;
 mod reasons;
 mod registrations;
@@ -83,5 +81,5 @@ pub extern "C" fn evp_report(sheet: &[u8], words: &mut [u64]) -> EvpCheck
 pub extern "C" fn evp_text(sheet: &[u8], words: &mut [u64], text: &mut [u8]) -> usize
     ensures { λ r. ⌜ TextAnswer (now (sheet .entry)) (now (words .entry)) (now (words .exit)) (now (text .entry)) (now (text .exit)) r ⌝ }
 {
-    printout::report_text(sheet, words, text)
+    report_text::report_text(sheet, words, text)
 }

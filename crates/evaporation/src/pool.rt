@@ -1,5 +1,5 @@
 // The pool call for a program in another language.
-use pooled::PoolAnswer;
+use pooling::PoolAnswer;
 ghost use mathlib.Core.Path.{_≡_};
 ghost use Rattle.evaporation.specs.PoolExport.{poolNumbers, PoolNumbers};
 
@@ -43,5 +43,5 @@ fn pool_numbers(answer: PoolAnswer) -> EvpPool
 pub extern "C" fn evp_pool(first: &[u8], second: &[u8], pool: &mut [u8]) -> EvpPool
     ensures { λ r. ⌜ PoolNumbers (now (first .entry)) (now (second .entry)) (now (pool .entry)) (now (pool .exit)) r ⌝ }
 {
-    pool_numbers(pooling::pool(first, second, pool))
+    pool_numbers(pooling_calls::pool(first, second, pool))
 }

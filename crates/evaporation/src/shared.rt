@@ -1,8 +1,8 @@
 // The calls on a shared ledger for a program in another language.
 use crate::EvpCheck;
 use crate::check_numbers;
-use rights::RowAnswer;
-use rights::TotalsAnswer;
+use shared_ledger::RowAnswer;
+use shared_ledger::TotalsAnswer;
 ghost use mathlib.Core.Path.{_≡_};
 ghost use Rattle.ledger.specs.declared.Call.the-variants.{Arrival, Departure};
 ghost use Rattle.evaporation.specs.Shared.{rowNumbers, totalsNumbers, OpenNumbers, SharedNumbers, RowNumbers, TotalsNumbers};
@@ -56,7 +56,7 @@ fn totals_numbers(a: TotalsAnswer) -> EvpTotals
 pub extern "C" fn evp_shared_open(sheet: &[u8], owners: &[u8], words: &mut [u64]) -> EvpCheck
     ensures { λ r. ⌜ OpenNumbers (now (sheet .entry)) (now (owners .entry)) (now (words .entry)) (now (words .exit)) r ⌝ }
 {
-    check_numbers(rights_calls::open(sheet, owners, words))
+    check_numbers(shared_ledger_calls::open(sheet, owners, words))
 }
 
 // Vehicles arrive at a row, counted from 0, where its owner calls.
@@ -72,7 +72,7 @@ pub extern "C" fn evp_shared_arrive(
     ensures { λ r. ⌜ SharedNumbers (now (sheet .entry)) (now (owners .entry)) (now (words .entry)) who (Arrival row vehicles)
         (now (sheet .exit)) (now (words .exit)) r ⌝ }
 {
-    check_numbers(rights_calls::arrive(sheet, owners, words, who, row, vehicles))
+    check_numbers(shared_ledger_calls::arrive(sheet, owners, words, who, row, vehicles))
 }
 
 // Vehicles depart from it.
@@ -88,7 +88,7 @@ pub extern "C" fn evp_shared_depart(
     ensures { λ r. ⌜ SharedNumbers (now (sheet .entry)) (now (owners .entry)) (now (words .entry)) who (Departure row vehicles)
         (now (sheet .exit)) (now (words .exit)) r ⌝ }
 {
-    check_numbers(rights_calls::depart(sheet, owners, words, who, row, vehicles))
+    check_numbers(shared_ledger_calls::depart(sheet, owners, words, who, row, vehicles))
 }
 
 // A row's count and six words.
@@ -102,7 +102,7 @@ pub extern "C" fn evp_shared_row(
 ) -> EvpRow
     ensures { λ r. ⌜ RowNumbers (now (sheet .entry)) (now (owners .entry)) (now (words .entry)) who row r ⌝ }
 {
-    row_numbers(rights_calls::read_row(sheet, owners, words, who, row))
+    row_numbers(shared_ledger_calls::read_row(sheet, owners, words, who, row))
 }
 
 // The 26 words after the rows.
@@ -115,5 +115,5 @@ pub extern "C" fn evp_shared_totals(
 ) -> EvpTotals
     ensures { λ r. ⌜ TotalsNumbers (now (sheet .entry)) (now (owners .entry)) (now (words .entry)) who r ⌝ }
 {
-    totals_numbers(rights_calls::read_totals(sheet, owners, words, who))
+    totals_numbers(shared_ledger_calls::read_totals(sheet, owners, words, who))
 }

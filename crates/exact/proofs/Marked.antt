@@ -1,16 +1,13 @@
 -- The examples that document 01 marks P, "shown together as a table with one proof".
 -- Assumes nothing.
 use mathlib.Core.Path.{_≡_, refl, ap, _∙_}
-use Prim.Native.Nat.{ℕ, _+_, _*_, _^_, _/_}
+use Prim.Native.Nat.{ℕ, _*_, _^_, _/_}
 use native.Mathlib.Omega.{arith}
-use Rattle.numbers.specs.Fraction.{Fraction, _≈ᶠ_, _≤ᶠ_, _+ᶠ_, _-ᶠ_, negᶠ, _*ᶠ_, whole, _/10^_, _over_}
-use Rattle.bounds.specs.Series.{S, E, root, power2·5}
+use Rattle.numbers.specs.Fraction.{Fraction, _≈ᶠ_, _≤ᶠ_, _+ᶠ_, _-ᶠ_, _*ᶠ_, whole}
+use Rattle.bounds.specs.Series.{root}
 use Rattle.numbers.proofs.Order.{≈-refl, ≈-sym, ≈-trans, ≈→≤, ≈→≥, ≤-refl, ≤-trans, ≤-antisym, +-cong, +-assoc, +-comm, +-zero, *-cong, sub-cong, sub-mono, sub-self, add-sub, test-cases}
 use Rattle.bounds.proofs.Root.{root-square, four-power}
 use Rattle.bounds.proofs.Exponential.{E-cong, E-zero}
-use Rattle.bounds.specs.Weights.{w}
-use Rattle.exact.specs.Day.{startMark}
-use Rattle.exact.specs.Permeation.{bracket}
 use Rattle.exact.specs.Canister.{a, b, curve, breakthrough}
 use Rattle.exact.specs.Marked.{Marked}
 use Rattle.exact.proofs.Loss.{B-up-to, B-above}

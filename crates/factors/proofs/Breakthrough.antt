@@ -2,14 +2,15 @@
 -- Assumes nothing.
 use mathlib.Core.Bool.{Bool, true, false}
 use mathlib.Core.Path.{_≡_}
-use Prim.Native.Nat.{ℕ, _+_, _*_, _-_, _/_, _^_, _≤_, min}
+use Prim.Native.Nat.{ℕ, _+_, _*_, _/_, _^_, _≤_, min}
 use native.Mathlib.Omega.{arith}
 use native.Mathlib.Nat.{mul-comm}
-use Rattle.numbers.specs.Fraction.{Fraction, _≤ᶠ_, _≈ᶠ_, _+ᶠ_, negᶠ, _-ᶠ_, _*ᶠ_, whole, _/10^_, ten-pos}
+use Rattle.numbers.specs.Fraction.{Fraction, _≤ᶠ_, _≈ᶠ_, _+ᶠ_, negᶠ, _-ᶠ_, _*ᶠ_, whole}
 use Rattle.bounds.specs.Series.{E}
 use Rattle.bounds.specs.Enclosure.{Within}
 use Rattle.bounds.specs.Exponential.{exponent}
-use Rattle.numbers.proofs.Order.{NonNegative, nonNegative-up, test-cases, ≤-refl, ≤-trans, ≤-antisym, ≤-by, ≈-refl, ≈-sym, ≈-trans, ≈→≤, ≈→≥, sub-cong, +-mono, +-cong, +-assoc, +-zero, +-grows, *-mono-right, *-cong, *-comm, *-assoc, *-distrib, ratio-nonNegative}
+use Rattle.numbers.proofs.Order.{NonNegative, nonNegative-up, test-cases, ≤-refl, ≤-trans, ≤-antisym, ≤-by, ≈-refl, ≈-sym, ≈-trans, ≈→≤, ≈→≥}
+use Rattle.numbers.proofs.Order.{sub-cong, +-mono, +-cong, +-assoc, +-zero, +-grows, *-mono-right, *-comm, ratio-nonNegative}
 use Rattle.bounds.proofs.Exponential.{E-cong, E-mono}
 use Rattle.bounds.specs.Short.{short, lineExponent, reach}
 use Rattle.bounds.proofs.Line.{double-unit-pos, rising, along, along-is, along-risen, along-mono}

@@ -1,7 +1,6 @@
 -- How large the computed values are, for every accepted season and row, so that nothing overflows.
 -- Assumes nothing.
 use mathlib.Core.Bool.{Bool, true, false}
-use mathlib.Core.Path.{_≡_, refl}
 use mathlib.Core.List.{List}
 use Prim.Native.Nat.{ℕ, _+_, _*_, _^_, _/_, _≤_, _<_, min}
 use native.Mathlib.Omega.{arith}
@@ -29,7 +28,9 @@ use Rattle.sheet.specs.Range.{RowInRange}
 use Rattle.factors.specs.Means.{meanUnits}
 use Rattle.sheet.specs.Range.{halves}
 use Rattle.factors.specs.Escape.{tenthGrams, risenLoss, breakUnits}
-use Rattle.factors.specs.Units.{startOf, endOf, parkingRise, parkingRates, rowStart, baseAt, growthAt, vapourUnits, throughUnits, escapeUnits, escapeOverUnits, openUnits, diurnalUnits, soakUnits, runningUnits, carUnits, twoWheelerUnits, factorUnits, highMicrograms}
+use Rattle.factors.specs.Units.{startOf, endOf, parkingRise, parkingRates, baseAt, growthAt, vapourUnits, throughUnits, escapeUnits}
+use Rattle.factors.specs.Units.{escapeOverUnits, openUnits, diurnalUnits, soakUnits, runningUnits, carUnits, twoWheelerUnits, factorUnits}
+use Rattle.factors.specs.Units.{highMicrograms}
 use Rattle.factors.proofs.Gain.{gain-most}
 use Rattle.factors.proofs.Starts.{start-below}
 use Rattle.factors.proofs.Canister.{saturated, unsaturated, saturation-most, tenthGrams-within}

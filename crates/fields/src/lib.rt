@@ -1,10 +1,10 @@
 // The fields of a sheet where documents 01 and 02 place them. Integers are little-endian.
+use crate::classes::canister_of;
+use crate::classes::equipment_of;
+use crate::classes::tank_of;
 use crate::limits::COLD_LIMIT;
 use crate::limits::MANY_ROWS_LIMIT;
 use crate::limits::ROWS_LIMIT;
-use classes::canister_of;
-use classes::equipment_of;
-use classes::tank_of;
 use exact::Canister;
 use exact::Equipment;
 use exact::Row;
@@ -18,6 +18,7 @@ ghost use Rattle.sheet.specs.Bytes.{seasonsOf, rowsOf, countsAt, durationCounts
 ghost use Rattle.sheet.specs.Bytes.{seasonPlace, rowPlace, seasonFrom, seasonAt, equipmentAt, canisterOf, tankOf, rowFrom, rowAt};
 ghost use Rattle.sheet.specs.Range.{warmth};
 
+pub mod classes;
 pub mod limits;
 pub mod refusal;
 

@@ -15,7 +15,7 @@ ghost use Rattle.report_words.specs.Report.{reportLength};
 ghost use Rattle.inventory.specs.ReportCall.{reportCheck};
 
 // The words of a report: six for each row, 24 of subtotals and two of totals.
-pub fn report_length(s: &[u8]) -> usize
+fn report_length(s: &[u8]) -> usize
     requires { ⌜ 8 ≤ length (now s) ⌝ }
     ensures { λ r. ⌜ r ≡ reportLength (now (s .entry)) ⌝ }
 {

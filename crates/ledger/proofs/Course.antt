@@ -1,17 +1,15 @@
 -- What the functions' contracts say, call by call, is the run of which the theorem of the ledger speaks.
 -- Assumes nothing.
-use mathlib.Core.List.{List, [], _∷_}
+use mathlib.Core.List.{List, _∷_}
 use mathlib.Core.Path.{_≡_, refl, sym, ap, ap₂, _∙_}
 use Prim.Native.Nat.{ℕ}
 use lib.ListN.{length}
 use Rattle.sheet.specs.declared.Check.{Check}
 use Rattle.sheet.specs.declared.Check.the-variants.{Pass}
-use Rattle.report_words.specs.Report.{report}
-use Rattle.inventory.specs.ReportCall.{reportCheck, written, ReportAnswer}
+use Rattle.inventory.specs.ReportCall.{reportCheck, ReportAnswer}
 use Rattle.ledger.specs.declared.Call.{Call}
-use Rattle.ledger.specs.Ledger.{changeCheck, sheetAfter, wordsAfter, ChangeAnswer, Ledger, answer, after, opened, run, answers}
-use Rattle.ledger.specs.Kept.{Kept}
-use Rattle.ledger.specs.Course.{Made, none, next, Course, CourseKept, CourseTheorem}
+use Rattle.ledger.specs.Ledger.{ChangeAnswer, Ledger, answer, after, opened, run, answers}
+use Rattle.ledger.specs.Course.{Made, none, next, CourseTheorem}
 use Rattle.ledger.proofs.Kept.{ledger-kept}
 
 -- two buffers

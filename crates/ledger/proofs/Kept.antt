@@ -25,8 +25,8 @@ use Rattle.report_words.specs.Years.{reportWord}
 use Rattle.report_words.proofs.Places.{row-there}
 use Rattle.report_words.proofs.Promised.{promise}
 use Rattle.report_words.proofs.ReportPlaces.{report-length, row-word-at}
-use Rattle.row_renewal.specs.RowYear.{RestHolds}
-use Rattle.row_renewal.proofs.OneRow.{renewed-is}
+use Rattle.report_sums.specs.RowYear.{RestHolds}
+use Rattle.report_sums.proofs.OneRow.{renewed-is}
 use Rattle.inventory.specs.ReportCall.{reportCheck, written}
 use Rattle.inventory.proofs.CallConditions.{report-accepted, report-sheet}
 use Rattle.inventory.proofs.ReportPromise.{report-written}

@@ -7,7 +7,7 @@ use fields::rows_of;
 use fields::vehicles_of;
 use inventory::check::report_check;
 use ledger::Call;
-use row_renewal::renew_row;
+use report_sums::renewal::renew_row;
 use sheet::Check;
 ghost use mathlib.Core.Bool.{false, _&&_, _||_};
 ghost use mathlib.Core.Path.{_≡_};

@@ -40,7 +40,7 @@ const PLACES_LIMIT: u64 = 6;
 const POWER_LIMIT: u64 = 18;
 
 // A unit as a power of ten of milligrams.
-pub fn exponent_of(unit: Unit) -> u64
+fn exponent_of(unit: Unit) -> u64
     ensures { λ r. ⌜ (r ≡ exponent unit) × (r ≤ 9) ⌝ }
 {
     match unit {

@@ -1,5 +1,5 @@
 -- A season's mark temperatures are those that are held, exactly, and the raised ones too.
-use Prim.Native.Nat.{ℕ, _+_, _*_, _^_}
+use Prim.Native.Nat.{ℕ, _+_, _*_}
 use native.Mathlib.Omega.{arith}
 use Rattle.numbers.specs.Fraction.{_≈ᶠ_, _+ᶠ_, whole, _/10^_}
 use Rattle.bounds.specs.Power.{degrees}

@@ -2,9 +2,9 @@
 -- multiple.
 use mathlib.Core.Bool.{Bool, true, false}
 use mathlib.Core.Path.{_≡_, sym, subst}
-use Prim.Native.Nat.{ℕ, suc, zero, _+_, _*_, _-_, _^_, _%_, _≤_, _<_}
+use Prim.Native.Nat.{ℕ, suc, zero, _+_, _*_, _^_, _%_, _≤_, _<_}
 use native.Mathlib.Omega.{arith}
-use Rattle.numbers.specs.Fraction.{Fraction, _≤ᶠ_, _≈ᶠ_, _≤?_, _+ᶠ_, _-ᶠ_, _*ᶠ_, whole, _/10^_}
+use Rattle.numbers.specs.Fraction.{Fraction, _≤ᶠ_, _≈ᶠ_, _-ᶠ_, _*ᶠ_, whole, _/10^_}
 use Rattle.bounds.specs.Series.{E}
 use Rattle.numbers.proofs.Order.{NonNegative, nonNegative-up, whole-nonNegative, either, ≤-antisym, ≈→≥, ≈-refl, ≈-sym, ≈-trans, test-cases, test-true, test-cong, +-cong, sub-cong, sub-self, sub-nonNegative, *-cong, *-zero, *-distrib}
 use Rattle.bounds.proofs.Exponential.{E-cong}

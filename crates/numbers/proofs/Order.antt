@@ -299,17 +299,6 @@ pub +-cancel : (x y z : Fraction) → x +ᶠ y ≤ᶠ x +ᶠ z → y ≤ᶠ z
 pub regain : (x y : Fraction) → y +ᶠ (x -ᶠ y) ≈ᶠ x
 regain x y = ≈-trans (+-comm y (x -ᶠ y)) (sub-add x y)
 
--- (x − y) + (z − w) = (x + z) − (y + w)
-pub differences : (x y z w : Fraction) → x -ᶠ y +ᶠ (z -ᶠ w) ≈ᶠ x +ᶠ z -ᶠ (y +ᶠ w)
-unfolding _-ᶠ_ _+ᶠ_ negᶠ
-differences x y z w = +-exchange x (negᶠ y) z (negᶠ w)
-
--- (x + y) − (x + z) = y − z
-pub cancel-left : (x y z : Fraction) → x +ᶠ y -ᶠ (x +ᶠ z) ≈ᶠ y -ᶠ z
-cancel-left x y z =
-    ≈-by (≈-sym (differences x x y z)) (≈-sym (+-zero (y -ᶠ z)))
-    (≈-trans (+-cong (sub-self x) (≈-refl (y -ᶠ z))) (+-comm (whole 0) (y -ᶠ z)))
-
 -- The product.
 
 -- (b − a)·(d − c) ≥ 0, with every term on the side where it is added
@@ -380,11 +369,6 @@ pub *-swap : (x y z : Fraction) → x *ᶠ y *ᶠ z ≈ᶠ x *ᶠ z *ᶠ y
 pub +-times : (x y z : Fraction) → (x +ᶠ y) *ᶠ z ≈ᶠ x *ᶠ z +ᶠ y *ᶠ z
 +-times x y z =
     ≈-by (*-comm (x +ᶠ y) z) (+-cong (*-comm x z) (*-comm y z)) (*-distrib z x y)
-
--- x·y − x·z = x·(y − z)
-pub *-sub : (x y z : Fraction) → x *ᶠ y -ᶠ x *ᶠ z ≈ᶠ x *ᶠ (y -ᶠ z)
-unfolding _-ᶠ_ negᶠ _*ᶠ_
-*-sub x y z = ≈-sym (*-distrib x y (negᶠ z))
 
 -- 0 ≤ x, y gives 0 ≤ x·y
 pub *-nonNegative : {x y : Fraction} → NonNegative x → NonNegative y → NonNegative (x *ᶠ y)

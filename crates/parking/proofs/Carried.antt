@@ -4,7 +4,7 @@ use mathlib.Core.Bool.{false}
 use mathlib.Core.Path.{_≡_, refl, sym, _∙_, ap₂}
 use Prim.Native.Nat.{ℕ, zero, suc, _+_, _*_, _-_, _/_, _%_, _^_, _≤_, _<_}
 use native.Mathlib.Omega.{arith}
-use Rattle.numbers.specs.Fraction.{Fraction, _≈ᶠ_, _*ᶠ_, _/10^_}
+use Rattle.numbers.specs.Fraction.{_/10^_}
 use Rattle.numbers.specs.Lists.{tab, at}
 use Rattle.numbers.proofs.Order.{≈-sym}
 use Rattle.bounds.specs.Enclosure.{WithinAll}
@@ -25,8 +25,8 @@ use Rattle.marks.proofs.Runs.{shape, rise-within}
 use Rattle.marks.proofs.Curve.{season-rise-within}
 use Rattle.marks.proofs.Permeation.{rateError, permeation-within}
 use Rattle.parking.specs.Grid.{passedIn}
-use Rattle.parking.specs.Walk.{stepsBack, walked}
-use Rattle.parking.specs.Carried.{SeasonAllowed, carriedAfter, seasonSteps, CarriedRise, CarriedTheorem}
+use Rattle.parking.specs.Walk.{walked}
+use Rattle.parking.specs.Carried.{SeasonAllowed, carriedAfter, CarriedRise, CarriedTheorem}
 use Rattle.parking.proofs.Passed.{passed-tab}
 use Rattle.parking.proofs.Walked.{none-passed, steps-at, walked-at}
 

@@ -3,12 +3,12 @@
 use mathlib.Core.Bool.{Bool, true, false, cond, _&&_}
 use mathlib.Core.List.{List, [], _∷_, _++_}
 use mathlib.Core.Path.{_≡_, refl, sym, subst, _∙_, ap}
-use Prim.Native.Nat.{ℕ, zero, suc, _+_, _*_, _-_, _^_, _≤_, _<_, zero-le}
+use Prim.Native.Nat.{ℕ, suc, _+_, _*_, _-_, _^_, _≤_, _<_, zero-le}
 use native.Mathlib.Decide.{ℕ-discrete, decLe}
 use native.Mathlib.Nat.{add-mul}
 use native.Mathlib.Numerals.{add-one}
 use native.Mathlib.Omega.{arith}
-use borrow.Author.Tests.{eqb-true, eqb-false, eq-eqb, ne-eqb}
+use borrow.Author.Tests.{eqb-true, eq-eqb, ne-eqb}
 use lib.Dec.{T, eqb}
 use lib.ListN.{length, set, replicate, length-set, length-replicate, length-append, List·getD-append}
 use lib.Seq.{getD-set-same, getD-set-other, getD-append-add}
@@ -18,7 +18,7 @@ use Rattle.exact.specs.Factors.{total}
 use Rattle.parking.specs.Grid.{CellsInRange, apartOf}
 use Rattle.parking.proofs.Sums.{sum-next, sum-part, sum-within, sum-but-one, sum-short, total-is}
 use Rattle.parking.proofs.Tally.{apartOf-below, blank}
-use Rattle.parking.specs.SeasonList.{byCell, byEntry, entryCount, ListFits, ListReady}
+use Rattle.parking.specs.SeasonList.{byCell, ListReady}
 
 -- what an entry gives
 abbrev part : (ℕ → ℕ → ℕ) → List ℕ → List ℕ → List ℕ → ℕ → ℕ

@@ -9,8 +9,7 @@ use native.Mathlib.Decide.{ℕ-discrete}
 use lib.ListN.{length, set, replicate, length-set, length-replicate}
 use lib.Seq.{getD-set-same, getD-set-other}
 use Rattle.numbers.specs.Lists.{at, sum}
-use Rattle.numbers.proofs.Lists.{sum-none, sum-ext, sum-le}
-use Rattle.bounds.specs.Weights.{apart}
+use Rattle.numbers.proofs.Lists.{sum-none, sum-le}
 use Rattle.bounds.proofs.Weights.{apart-most}
 use Rattle.exact.specs.Day.{startMark}
 use Rattle.factors.specs.Units.{startOf, endOf}

@@ -1,7 +1,7 @@
 -- The walk gives what passed in every parking.
 use mathlib.Core.List.{List, _++_, append-assoc}
 use mathlib.Core.Path.{_≡_, refl, sym, _∙_, ap, ap₂}
-use Prim.Native.Nat.{ℕ, zero, suc, _+_, _*_, _/_, _%_, _≤_, _<_}
+use Prim.Native.Nat.{ℕ, zero, suc, _+_, _*_, _/_, _%_, _<_}
 use native.Mathlib.Nat.{le-dest, lt-of-not-le}
 use native.Mathlib.Decide.{decLe}
 use native.Mathlib.Numerals.{add-one}

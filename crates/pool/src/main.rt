@@ -3,12 +3,12 @@
 // not all of the pooled sheet could be written, it says so on standard error.
 use libc::STDERR_FILENO;
 use libc::STDOUT_FILENO;
-use pooled::PoolAnswer;
-use pooling::pool_length;
+use pooling::PoolAnswer;
+use pooling_calls::pool_length;
 use text::lines::put_refusal;
 ghost use mathlib.Core.Path.{_≡_};
 ghost use Rattle.sheet.specs.declared.Check.the-variants.{Pass};
-ghost use Rattle.pooled.specs.Pool.{pool, poolCheck};
+ghost use Rattle.pooling.specs.Pool.{pool, poolCheck};
 
 // The longest sheet, pooled or not: 1,160 + 8 · 12 + 24 · 1,000 bytes.
 const LONGEST: usize = 25256;
@@ -37,7 +37,7 @@ fn refuse(sheet: &[u8], number: u64, place: u64) {
 // Pools two sheets and writes the pool, or the refusal.
 fn answer(a: &[u8], b: &[u8]) {
     let mut out = [0u8; LONGEST];
-    match pooling::pool(a, b, &mut out) {
+    match pooling_calls::pool(a, b, &mut out) {
         PoolAnswer::Accepted => {
             let end = pool_length(a, b);
             if !write(a, b, &out[..end]) {

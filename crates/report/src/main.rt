@@ -3,9 +3,9 @@
 use libc::STDERR_FILENO;
 use libc::STDIN_FILENO;
 use libc::STDOUT_FILENO;
-use printout::report_text;
+use report_text::report_text;
 ghost use mathlib.Core.Path.{_≡_};
-ghost use Rattle.printout.specs.Text.{reportText};
+ghost use Rattle.report_text.specs.Text.{reportText};
 
 // One byte more than the longest sheet, of 12 seasons and 1,000 rows: 1,160 + 8 · 12 + 24 · 1,000.
 const ROOM: usize = 25257;

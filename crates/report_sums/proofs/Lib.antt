@@ -1,3 +1,4 @@
+pub mod OneRow
 pub mod SumSizes
 pub mod ReportSizes
 pub mod GrandTotal

@@ -1,1 +1,3 @@
+pub mod Renewed
+pub mod RowYear
 pub mod Sums

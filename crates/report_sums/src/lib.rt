@@ -14,6 +14,8 @@ ghost use Rattle.report_words.specs.Report.{counted};
 ghost use Rattle.report_words.specs.Years.{category, filled, reportWord};
 ghost use Rattle.report_sums.specs.Sums.{bufferSum, summed, threeWord, totalled, resummed};
 
+pub mod renewal;
+
 // How many words a row has, and a category.
 const SIX: usize = 6;
 

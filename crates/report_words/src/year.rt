@@ -14,7 +14,7 @@ use row_factors::season::AtSeason;
 use row_factors::season::at_season;
 ghost use mathlib.Core.Path.{_≡_};
 ghost use Prim.Native.Nat.{ℕ, _+_, _*_, _≤_, _<_};
-ghost use lib.ListN.{length, take};
+ghost use lib.ListN.{length};
 ghost use lib.Seq.{sets};
 ghost use Rattle.numbers.specs.Lists.{tab};
 ghost use Rattle.sheet.specs.declared.Check.the-variants.{Pass};

@@ -6,7 +6,6 @@ use mathlib.Core.Path.{_≡_}
 use Prim.Native.Nat.{ℕ, suc, zero, _+_, _*_, _≤_, _<_}
 use native.Mathlib.Omega.{arith}
 use lib.ListN.{length, getD}
-use Rattle.numbers.specs.Fraction.{Fraction}
 use Rattle.exact.specs.declared.Canister.the-variants.{None}
 use Rattle.exact.specs.declared.Equipment.the-variants.{Absent}
 use Rattle.exact.specs.Classes.{equipment}

@@ -5,10 +5,9 @@ use mathlib.Core.Bool.{Bool, true, false}
 use mathlib.Core.List.{List}
 use mathlib.Core.Logic.{_⊎_}
 use mathlib.Core.Path.{_≡_, refl, sym, ap, _∙_}
-use Prim.Native.Nat.{ℕ, suc, zero, _+_, _*_, _≤_, _<_}
+use Prim.Native.Nat.{ℕ, suc, zero, _≤_, _<_}
 use native.Mathlib.Omega.{arith}
-use lib.ListN.{length}
-use Rattle.numbers.specs.Fraction.{Fraction, _≤ᶠ_, negᶠ, whole, _/10^_}
+use Rattle.numbers.specs.Fraction.{_≤ᶠ_, whole, _/10^_}
 use Rattle.exact.specs.declared.Canister.{Canister}
 use Rattle.exact.specs.declared.Canister.the-variants.{None, Small, Medium, Large}
 use Rattle.exact.specs.declared.Equipment.{Equipment}
@@ -17,14 +16,14 @@ use Rattle.exact.specs.declared.Season.{Season}
 use Rattle.exact.specs.declared.Row.{Row}
 use Rattle.exact.specs.Day.{signedTenths}
 use Rattle.exact.specs.Canister.{size}
-use Rattle.exact.specs.Factors.{total}
 use Rattle.sheet.specs.declared.Check.the-variants.{Pass, Refused}
-use Rattle.sheet.specs.Integers.{u8At, u16At}
-use Rattle.sheet.specs.Versions.{versionOf, rowsMost, seasonsStart}
-use Rattle.sheet.specs.Bytes.{seasonsOf, rowsOf, durationCounts, hourCounts, gridCounts, rowPlace, seasonAt, rowAt, equipmentAt}
-use Rattle.sheet.specs.Sheet.{outside, lettersMissing, markCheck, numbersCheck, headCheck, lengthCheck, parkingCheck, daysBefore, vehiclesBefore, temperaturesWrong, seasonCheck, isAbsent, codeWrong, percentWrong, loadWrong, exponentAbove, saturationAbove, someSeason, noCanister, mileageWrong, rowCheck, sheetCheck}
+use Rattle.sheet.specs.Bytes.{seasonsOf, rowsOf, seasonAt}
+use Rattle.sheet.specs.Sheet.{outside, lettersMissing, markCheck, numbersCheck, headCheck, lengthCheck, parkingCheck, temperaturesWrong}
+use Rattle.sheet.specs.Sheet.{seasonCheck, isAbsent, codeWrong, percentWrong, loadWrong, exponentAbove, saturationAbove, someSeason, noCanister}
+use Rattle.sheet.specs.Sheet.{mileageWrong, rowCheck, sheetCheck}
 use Rattle.sheet.specs.Check.{numberOf, placeOf}
-use Rattle.sheet.specs.Demands.{Met, FirstUnmet, Says, markDemands, numbersDemands, headDemands, lengthDemand, parkingDemands, seasonDemands, exponentAt, ExponentMost, MileageRight, rowDemands, demands}
+use Rattle.sheet.specs.Demands.{Met, FirstUnmet, Says, markDemands, numbersDemands, headDemands, lengthDemand, parkingDemands, seasonDemands}
+use Rattle.sheet.specs.Demands.{exponentAt, MileageRight, rowDemands, demands}
 use Rattle.sheet.specs.Conditions.{ConditionsTheorem}
 use Rattle.sheet.proofs.Checks.{Tests, Judges, numbers, among, number-among, Once, Unmet, unmet, Broken, broken, met-passes, says, true-is-not-false, below-suc, judges-refuse, judges-then, judges-each, _⊳_, ltb-tests, ||-tests, &&-tests, tests-as, not-tests, eqb-shows, ≤-shows, &&-shows, leb-shows, not-leb-shows, guarded}
 

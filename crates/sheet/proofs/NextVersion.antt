@@ -10,11 +10,11 @@ use lib.ListN.{length}
 use Rattle.exact.specs.declared.Season.{Season}
 use Rattle.sheet.specs.declared.Check.the-variants.{Pass}
 use Rattle.sheet.specs.Integers.{u8At, u16At}
-use Rattle.sheet.specs.Versions.{versionOf, hasGrid, hasManyRows, seasonsStart}
-use Rattle.sheet.specs.Bytes.{seasonsOf, rowsOf, gridCounts, cellsOf, seasonPlace, rowPlace, seasonAt, seasonsFrom, seasonList, rowAt}
+use Rattle.sheet.specs.Versions.{hasGrid, hasManyRows, seasonsStart}
+use Rattle.sheet.specs.Bytes.{seasonsOf, rowsOf, gridCounts, cellsOf, rowPlace, seasonAt, seasonsFrom, seasonList, rowAt}
 use Rattle.sheet.specs.Limits.{fleetLimit}
 use Rattle.sheet.specs.Sheet.{daysBefore, vehiclesBefore, someSeason, sheetCheck}
-use Rattle.sheet.specs.Demands.{Met, MileageRight, numbersDemands, rowDemands}
+use Rattle.sheet.specs.Demands.{Met, MileageRight, numbersDemands}
 use Rattle.sheet.specs.NextVersion.{NextVersion, SameRow, FourthVersion}
 use Rattle.sheet.proofs.Versions.{grid-version, rows-many, rows-few, most-many, most-few, start-grid, cells-grid}
 use Rattle.sheet.proofs.Conditions.{sheet-judged, met-accepted}

@@ -11,7 +11,6 @@ use Rattle.exact.specs.Factors.{total}
 use Rattle.exact.proofs.Products.{products-total}
 use Rattle.sheet.specs.declared.Check.the-variants.{Pass}
 use Rattle.sheet.specs.Limits.{countsLimit, gridLimit}
-use Rattle.sheet.specs.Integers.{u8At, u16At}
 use Rattle.sheet.specs.Versions.{versionOf, hasGrid, seasonsStart}
 use Rattle.sheet.specs.Bytes.{seasonsOf, durationCounts, hourCounts, gridCounts, cellsOf, rowPlace, seasonAt, seasonsFrom, seasonList, rowAt}
 use Rattle.sheet.specs.Sheet.{daysBefore, sheetCheck}

@@ -1,6 +1,6 @@
 -- Masses of the species, computed. Those of 1,000 mg are held against tools/reckoning/species.py.
 -- Assumes nothing.
-use mathlib.Core.List.{List, [], _∷_}
+use mathlib.Core.List.{[], _∷_}
 use mathlib.Core.Path.{_≡_, refl}
 use Rattle.numbers.specs.Lists.{tab, sum}
 use Rattle.speciation.specs.Table.{alkanes, alkenes, alkines, aromatics, table, shares}

@@ -4,9 +4,9 @@
 use libc::STDERR_FILENO;
 use libc::STDIN_FILENO;
 use libc::STDOUT_FILENO;
-use species_text::species_text;
+use species_report::species_text;
 ghost use mathlib.Core.Path.{_≡_};
-ghost use Rattle.species_text.specs.SpeciesText.{speciesText};
+ghost use Rattle.species_report.specs.SpeciesText.{speciesText};
 
 // One byte more than the longest sheet, of 12 seasons and 1,000 rows: 1,160 + 8 · 12 + 24 · 1,000.
 const ROOM: usize = 25257;

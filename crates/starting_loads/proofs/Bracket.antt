@@ -7,7 +7,8 @@ use native.Mathlib.Omega.{arith}
 use native.Mathlib.Decide.{decLe}
 use native.Mathlib.Nat.{mul-le-mul-right, pow-le-pow-right, le-refl}
 use Rattle.numbers.specs.Fraction.{Fraction, _≤ᶠ_, _≈ᶠ_, _+ᶠ_, _-ᶠ_, _*ᶠ_, whole}
-use Rattle.numbers.proofs.Order.{NonNegative, positive→nonNegative, nonNegative→≤, ≤-refl, ≤-trans, ≈-refl, ≈→≤, ≈→≥, +-mono, +-cong, +-comm, +-grows, +-nonNegative, sub-cong, sub-≤, regain, *-cong, ratio, ratio-nonNegative}
+use Rattle.numbers.proofs.Order.{NonNegative, positive→nonNegative, nonNegative→≤, ≤-refl, ≤-trans, ≈-refl, ≈→≤, ≈→≥, +-mono, +-comm, +-grows}
+use Rattle.numbers.proofs.Order.{+-nonNegative, sub-cong, sub-≤, regain, ratio, ratio-nonNegative}
 use Rattle.bounds.specs.Series.{E, multiple}
 use Rattle.bounds.specs.Enclosure.{Within}
 use Rattle.bounds.specs.Exponential.{exponent}

@@ -1,9 +1,7 @@
 -- A number put as its definition has it: one digit, or n / 10 and the last digit.
 -- Assumes nothing.
 use mathlib.Core.List.{List, [], _∷_}
-use mathlib.Core.Path.{_≡_}
-use Prim.Native.Nat.{ℕ, _+_, _/_, _%_, _≤_, _<_}
-use native.Mathlib.Omega.{arith}
+use Prim.Native.Nat.{ℕ, _/_, _%_, _≤_, _<_}
 use Rattle.text.specs.Decimal.{digit, digits}
 use Rattle.text.specs.Put.{Room, Put}
 use Rattle.text.proofs.Digits.{digits-small, digits-large}

@@ -11,7 +11,7 @@ use Rattle.numbers.specs.Fraction.{Fraction, _≤ᶠ_, whole, one-pos}
 use Rattle.bounds.specs.Series.{E, two-pos}
 use Rattle.numbers.proofs.Order.{≤-trans, ≈→≤, ≈→≥, ratio, whole-is}
 use Rattle.bounds.proofs.Tail.{belowTest}
-use Rattle.bounds.proofs.Table.{every, at}
+use Rattle.bounds.proofs.Table.{at}
 use Rattle.bounds.proofs.Exponential.{E-mono, E-≤-ratio, ratio-≤-E}
 use Rattle.thresholds.specs.Thresholds.{far, nearError, margin}
 

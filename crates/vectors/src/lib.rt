@@ -1,4 +1,4 @@
-// What the programs *_vectors share: the numbers of their input, a tally of what was tried, and the phrases that they print.
+// What the programs vectors_* share: the numbers of their input, a tally of what was tried, and the phrases that they print.
 pub mod answer;
 pub mod bytes;
 pub mod factor;

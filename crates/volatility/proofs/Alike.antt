@@ -3,11 +3,11 @@
 use mathlib.Core.Bool.{Bool, true, false}
 use mathlib.Core.List.{List}
 use mathlib.Core.Path.{_≡_, refl, sym, _∙_, subst}
-use Prim.Native.Nat.{ℕ, suc, zero, _+_, _*_, _≤_, _<_}
+use Prim.Native.Nat.{ℕ, suc, zero, _+_, _≤_}
 use native.Mathlib.Decide.{decLe}
 use native.Mathlib.Omega.{arith}
 use Rattle.exact.proofs.Volatile.{atPressure, MoreVolatile, none, next}
-use Rattle.sheet.specs.Integers.{u8At, u16At}
+use Rattle.sheet.specs.Integers.{u16At}
 use Rattle.sheet.specs.Versions.{versionOf, hasGrid, hasManyRows, seasonsStart}
 use Rattle.sheet.specs.Bytes.{seasonsOf, rowsOf, durationCounts, hourCounts, gridCounts, cellsOf, seasonPlace, rowPlace, seasonFrom, seasonAt, seasonsFrom, seasonList, rowAt}
 use Rattle.sheet.proofs.Versions.{rows-many, rows-few, start-grid, start-lists, start-same, start-between, cells-grid, cells-lists}

@@ -1,4 +1,4 @@
-"""The input of sheet_vectors: sheets with the number and place at which the reckoning stops them.
+"""The input of vectors_sheet: sheets with the number and place at which the reckoning stops them.
 
 The file says in four bytes how many sheets there are. Before each sheet stand
 how many bytes follow in two bytes, the place in the sheet where they stand in
@@ -125,4 +125,4 @@ def lines(cases: list[Case]) -> Iterator[str]:
         yield "%4d  %-17s  %s" % (position, reckoning.answer_text(*case.answer), case.words)
 
 
-VECTORS = VectorSet("sheet_vectors", all_cases, encoded, lines, missing)
+VECTORS = VectorSet("vectors_sheet", all_cases, encoded, lines, missing)

@@ -4,7 +4,7 @@ use mathlib.Core.Path.{sym, ap}
 use native.Mathlib.Omega.{arith}
 use borrow.Author.Needs.{needs}
 use lib.ListN.{length}
-use Rattle.pooled.proofs.PoolWritten.{pools}
+use Rattle.pooling.proofs.PoolWritten.{pools}
 use Rattle.pool.proofs.answer.Statement.{statement}
 use Rattle.pool.proofs.answer.Tie as tie
 

@@ -1,10 +1,10 @@
 -- `report::answer` is safe and ends, and what it hands on to be written is the text.
 -- Assumes nothing.
-use mathlib.Core.Path.{_≡_, sym, _∙_, ap}
+use mathlib.Core.Path.{sym, _∙_, ap}
 use native.Mathlib.Omega.{arith}
 use borrow.Author.Needs.{needs}
 use lib.ListN.{length}
-use Rattle.printout.proofs.SheetText.{text-first}
+use Rattle.report_text.proofs.SheetText.{text-first}
 use Rattle.report.proofs.answer.Statement.{statement}
 use Rattle.report.proofs.answer.Tie as tie
 

@@ -1,6 +1,6 @@
 -- `speciation::part_of` meets its contract: with at most 10,001 parts each product fits, and both cuts are one.
 -- Assumes nothing.
-use mathlib.Core.Path.{_≡_, sym, _∙_, ap}
+use mathlib.Core.Path.{_≡_, ap}
 use Prim.Native.Nat.{ℕ, _+_, _*_, _/_, _%_, _≤_}
 use native.Mathlib.Nat.{mul-le-mul-left, div-add-mod'}
 use native.Mathlib.Omega.{arith}

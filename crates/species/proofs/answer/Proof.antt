@@ -1,10 +1,10 @@
 -- `species::answer` is safe and ends, and what it hands on to be written is the text.
 -- Assumes nothing.
-use mathlib.Core.Path.{_≡_, sym, _∙_, ap}
+use mathlib.Core.Path.{sym, _∙_, ap}
 use native.Mathlib.Omega.{arith}
 use borrow.Author.Needs.{needs}
 use lib.ListN.{length}
-use Rattle.species_text.proofs.SpeciesPrinted.{text-first}
+use Rattle.species_report.proofs.SpeciesPrinted.{text-first}
 use Rattle.species.proofs.answer.Statement.{statement}
 use Rattle.species.proofs.answer.Tie as tie
 

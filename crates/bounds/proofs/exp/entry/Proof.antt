@@ -1,8 +1,7 @@
 -- `bounds::exp::entry` meets its contract: each of the three parts of the list is read or made where it stands.
-use mathlib.Core.Path.{_≡_, sym, _∙_, ap}
-use Prim.Native.Nat.{ℕ, _+_, _/_, _^_}
+use mathlib.Core.Path.{sym, _∙_, ap}
+use Prim.Native.Nat.{ℕ, _/_, _^_}
 use native.Mathlib.Omega.{arith}
-use lib.ListN.{getD}
 use borrow.Author.Needs.{needs}
 use Rattle.bounds.proofs.Tables.{constant-at, middle-constant, high-made, finest-made}
 use Rattle.bounds.proofs.exp.entry.Statement.{statement}

@@ -1,6 +1,6 @@
 -- `bounds::exp::fine` meets its contract: the entry and the quadratic fit a product.
 use mathlib.Core.Path.{_≡_}
-use Prim.Native.Nat.{_+_, _/_}
+use Prim.Native.Nat.{_/_}
 use native.Mathlib.Omega.{arith}
 use borrow.Author.Needs.{needs}
 use Rattle.bounds.specs.Exponential.{fine}

@@ -1,16 +1,15 @@
 -- `breakthrough::curves::curves_of` meets its contract: each list is the one of its definition.
 use mathlib.Core.List.{List}
 use mathlib.Core.Path.{_≡_, refl, _∙_, ap}
-use Prim.Native.Nat.{ℕ, _*_, _^_, _≤_, _<_}
+use Prim.Native.Nat.{ℕ, _*_, _^_}
 use native.Mathlib.Omega.{arith}
 use lib.ListN.{replicate}
 use Rattle.numbers.specs.Lists.{tab, at, AllAtMost}
 use Rattle.numbers.proofs.Lists.{tab-ext, tab-at-most, tab-constant}
-use Rattle.bounds.specs.Short.{lineExponent, lineOf}
+use Rattle.bounds.specs.Short.{lineExponent}
 use Rattle.bounds.proofs.ShortLine.{binary-size, binary-most, lineExponent-mono}
 use Rattle.breakthrough.specs.Curves.{CurvesFit}
 use Rattle.breakthrough.proofs.Fitted.{lines-are, reaches-are, firsts-are, same-at}
-use borrow.Author.Needs.{needs}
 use Rattle.breakthrough.proofs.curves.curves_of.Statement.{statement}
 use Rattle.breakthrough.proofs.curves.curves_of.Tie as tie
 

@@ -1,7 +1,6 @@
 -- `breakthrough::curves::fit` meets its contract: each list is the one of its definition.
 use mathlib.Core.Path.{_≡_, _∙_, ap, ap₂}
 use Prim.Native.Nat.{ℕ, _+_, _*_, _-_, _^_, _≤_, _<_}
-use native.Mathlib.Omega.{arith}
 use Rattle.numbers.specs.Lists.{tab, at, AllAtMost}
 use Rattle.numbers.proofs.Lists.{tab-ext, getD-tab, tab-at-most}
 use Rattle.bounds.specs.Weights.{ahead}

@@ -1,6 +1,6 @@
 -- `breakthrough::curves::lines` meets its contract: the first distances hold their exponents.
-use mathlib.Core.Path.{refl, ap}
-use Prim.Native.Nat.{ℕ, _+_, _*_, _-_, _/_, _^_}
+use mathlib.Core.Path.{refl}
+use Prim.Native.Nat.{ℕ, _-_}
 use native.Mathlib.Omega.{arith}
 use lib.ListN.{replicate}
 use Rattle.numbers.specs.Lists.{at}

@@ -2,7 +2,6 @@
 use borrow.Author.Needs.{needs}
 use borrow.Author.Tests.{eq-eqb, ne-eqb}
 use native.Mathlib.Omega.{arith}
-use native.Mathlib.Numerals.{add-one}
 use Rattle.parking.proofs.season_list.grown.Statement.{statement}
 use Rattle.parking.proofs.season_list.grown.Tie as tie
 

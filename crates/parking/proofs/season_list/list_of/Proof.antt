@@ -1,11 +1,10 @@
 -- `parking::season_list::list_of` meets its contract: the first cells are counted.
 use mathlib.Core.Bool.{false}
-use mathlib.Core.List.{List}
-use mathlib.Core.Path.{_≡_, refl, sym, _∙_, ap}
-use Prim.Native.Nat.{ℕ, _+_, _-_, _≤_, _<_}
+use mathlib.Core.Path.{_≡_, _∙_, ap}
+use Prim.Native.Nat.{ℕ, _-_, _≤_, _<_}
 use native.Mathlib.Omega.{arith}
 use borrow.Author.Needs.{needs}
-use lib.ListN.{length, length-set, length-replicate, replicate}
+use lib.ListN.{length, length-set, length-replicate}
 use Rattle.numbers.specs.Lists.{at, AllAtMost}
 use Rattle.bounds.specs.Weights.{apart}
 use Rattle.parking.specs.Grid.{cellsIn, apartOf}

@@ -1,6 +1,5 @@
 -- `parking::season_list::slot` meets its contract.
 use mathlib.Core.Path.{refl}
-use borrow.Author.Needs.{needs}
 use borrow.Author.Tests.{eq-eqb, ne-eqb}
 use Rattle.parking.proofs.season_list.slot.Statement.{statement}
 use Rattle.parking.proofs.season_list.slot.Tie as tie

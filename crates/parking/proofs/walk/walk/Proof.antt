@@ -1,6 +1,6 @@
 -- `parking::walk::walk` meets its contract: the first end hours have their columns, in 24 steps each.
 use mathlib.Core.Path.{_≡_, refl, sym, _∙_}
-use Prim.Native.Nat.{ℕ, suc, _+_, _*_, _-_, _^_, _≤_}
+use Prim.Native.Nat.{_+_, _*_, _-_, _≤_}
 use native.Mathlib.Omega.{arith}
 use lib.ListN.{length, take, length-take, length-drop}
 use lib.Seq.{take-all}

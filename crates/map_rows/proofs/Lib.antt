@@ -1,0 +1,4 @@
+pub mod Digits
+pub mod Demanded
+pub mod SharedOut
+pub mod Promised

@@ -1,3 +1,0 @@
-pub mod Demanded
-pub mod SharedOut
-pub mod Promised

@@ -1,0 +1,129 @@
+-- Each outcome of a call on a shared ledger, as its definition has it.
+-- Assumes nothing.
+use mathlib.Core.Bool.{Bool, true, _&&_, _||_}
+use mathlib.Core.List.{List}
+use mathlib.Core.Path.{_≡_, refl, sym, _∙_}
+use Prim.Native.Nat.{ℕ, _+_, _*_, _-_, _≤_, _<_}
+use native.Mathlib.Omega.{arith}
+use borrow.Author.Tests.{leb-false}
+use lib.Dec.{leb, ltb, eqb}
+use lib.ListN.{length}
+use Rattle.sheet.specs.declared.Check.{Check}
+use Rattle.sheet.specs.declared.Check.the-variants.{Pass, Refused}
+use Rattle.sheet.specs.Bytes.{rowsOf, rowAt}
+use Rattle.sheet.specs.Check.{refuse, _then_}
+use Rattle.sheet.specs.Sheet.{sheetCheck}
+use Rattle.sheet.proofs.Checks.{then-pass, refuse-pass}
+use Rattle.inventory.specs.ReportCall.{written, ReportAnswer}
+use Rattle.inventory.proofs.CallConditions.{allowed}
+use Rattle.ledger.specs.declared.Call.{Call}
+use Rattle.ledger.specs.declared.Call.the-variants.{Arrival}
+use Rattle.ledger.specs.Ledger.{sheetAfter, wordsAfter, ChangeAnswer}
+use Rattle.ledger.specs.Ledger as bare
+use Rattle.ledger.proofs.Kept.{answer-open}
+use Rattle.ledger_calls.proofs.Outcome.{room-left}
+use Rattle.shared_ledger.specs.declared.RowAnswer.{RowAnswer}
+use Rattle.shared_ledger.specs.declared.TotalsAnswer.{TotalsAnswer}
+use Rattle.shared_ledger.specs.Opening.{vehiclesEach, sharedCheck, OpenAnswer}
+use Rattle.shared_ledger.specs.Calls.{ownerOf, mayChange, mayRead, pastShare, changeCheck, rowCheck, totalsCheck, wordsFrom, zeros, rowTold}
+use Rattle.shared_ledger.specs.Calls.{rowAnswer, totalsTold, totalsAnswer, SharedChange, SharedRow, SharedTotals}
+use Rattle.shared_ledger.proofs.Conditions.{shared-report, shared-sheet, shared-room, shared-says, shared-zero, change-says, row-says, totals-says}
+use Rattle.shared_ledger.proofs.Changed.{change-passed}
+
+-- what is left of the limit says whether an arrival passes a participant's vehicles
+pub arrival-share : (held : ℕ) {call : Call} {row k : ℕ} → call ≡ Arrival row k → held ≤ vehiclesEach → ltb (vehiclesEach - held) k ≡ pastShare held call
+unfolding pastShare
+arrival-share held {call} {row} {k} e h = rw e (room-left held k h)
+
+-- a number that applies first
+pub at-once : {b : Bool} (number place : ℕ) (d : Check) → b ≡ true → Refused number place ≡ (refuse b number place then d)
+unfolding refuse _then_
+at-once number place d h = rw h refl
+
+pub may-change-is : (s owners : List ℕ) (who : ℕ) {owner i j : ℕ} → owner ≡ ownerOf s owners i → i ≡ j → (ltb 0 who && eqb owner who) ≡ mayChange s owners who j
+unfolding mayChange
+may-change-is s owners who e f = rw (e, f) refl
+
+pub may-read-is : (s owners : List ℕ) (who i : ℕ) {owner : ℕ} → owner ≡ ownerOf s owners i → (eqb who 0 || eqb owner who) ≡ mayRead s owners who i
+unfolding mayRead
+may-read-is s owners who i e = rw e refl
+
+-- An opening.
+module _ (s owners w : List ℕ) where
+  pub open-refused : {r : Check} {n p : ℕ} → r ≡ sharedCheck s owners (length w) → r ≡ Refused n p → OpenAnswer s owners w w r
+  unfolding written
+  open-refused {r} {n} {p} e h = record {
+    answer-is = e;
+    words-are = rw h refl;
+    says = rw e (shared-says s owners (length w));
+    promise = λ zero.
+        let passes : r ≡ Pass = e ∙ shared-zero s owners (length w) (rw e at zero) in
+        absurd (let z : _≡_ {A = ℕ} 0 1 = cc (h, passes) in omega arith);
+  }
+
+  pub open-done : {r a : Check} {w' : List ℕ} → r ≡ sharedCheck s owners (length w) → r ≡ Pass → ReportAnswer s w w' a → OpenAnswer s owners w w' a
+  open-done {r} {a} e h done =
+      let c : sharedCheck s owners (length w) ≡ Pass = sym e ∙ h in
+      let same : a ≡ sharedCheck s owners (length w) = done .answer-is ∙ shared-report s owners (length w) c ∙ sym c in
+      record { answer-is = same; words-are = done .words-are; says = rw same (shared-says s owners (length w)); promise = done .promise }
+
+-- A change.
+module _ (s owners w : List ℕ) (who : ℕ) (call : Call) where
+  pub change-refused : {r : Check} {n p : ℕ} → r ≡ changeCheck s owners (length w) who call → r ≡ Refused n p → SharedChange s owners w who call s w r
+  unfolding sheetAfter wordsAfter
+  change-refused {r} {n} {p} e h = record { answer-is = e; sheet-is = rw h refl; words-are = rw h refl; says = rw e (change-says s owners (length w) who call) }
+
+  -- what passes here, passes the ledger's own check
+  own : changeCheck s owners (length w) who call ≡ Pass → bare.changeCheck s (length w) call ≡ Pass
+  own c =
+      let met = change-passed s owners (length w) who call c in
+      answer-open s (length w) call (shared-report s owners (length w) (met .shared)) ∙ sym (allowed 29 0 (met .right))
+
+  pub change-done : {r a : Check} {s' w' : List ℕ} → r ≡ changeCheck s owners (length w) who call → r ≡ Pass → ChangeAnswer s w call s' w' a
+      → SharedChange s owners w who call s' w' a
+  change-done {r} {a} e h done =
+      let c : changeCheck s owners (length w) who call ≡ Pass = sym e ∙ h in
+      let same : a ≡ changeCheck s owners (length w) who call = done .answer-is ∙ own c ∙ sym c in
+      record { answer-is = same; sheet-is = done .sheet-is; words-are = done .words-are; says = rw same (change-says s owners (length w) who call) }
+
+-- A read of a row.
+module _ (s owners w : List ℕ) (who i : ℕ) where
+  -- says what its check says
+  row-answer : {r : RowAnswer} → r .check ≡ rowCheck s owners (length w) who i → r ≡ rowAnswer s owners w who i → SharedRow s owners w who i r
+  row-answer e same = record { answer-is = same; says = rw e (row-says s owners (length w) who i) }
+
+  pub row-refused : {r : Check} {n p : ℕ} → r ≡ rowCheck s owners (length w) who i → r ≡ Refused n p → SharedRow s owners w who i (record { check = r; count = 0; words = zeros 6 })
+  unfolding rowAnswer rowTold
+  row-refused {r} {n} {p} e h = let c : rowCheck s owners (length w) who i ≡ Refused n p = sym e ∙ h in row-answer e (rw (c, h) refl)
+
+  pub row-done : {r : Check} {v : ℕ} {six : List ℕ} → r ≡ rowCheck s owners (length w) who i → r ≡ Pass → v ≡ (rowAt s i) .vehicles → six ≡ wordsFrom w (6 * i) 6
+      → SharedRow s owners w who i (record { check = r; count = v; words = six })
+  unfolding rowAnswer rowTold
+  row-done e h f g = let c : rowCheck s owners (length w) who i ≡ Pass = sym e ∙ h in row-answer e (rw (c, h, f, g) refl)
+
+  pub read-there : rowCheck s owners (length w) who i ≡ Pass → (sheetCheck s ≡ Pass) × (i < rowsOf s) × (6 * rowsOf s + 26 ≤ length w)
+  unfolding rowCheck
+  read-there c =
+      let (shared, rest) = then-pass _ _ c in
+      let (right, last) = then-pass _ _ rest in
+      (shared-sheet s owners (length w) shared, leb-false (rowsOf s) i (refuse-pass (leb (rowsOf s) i) 29 0 last), shared-room s owners (length w) shared)
+
+-- A read of the totals.
+module _ (s owners w : List ℕ) (who : ℕ) where
+  totals-answer : {r : TotalsAnswer} → r .check ≡ totalsCheck s owners (length w) who → r ≡ totalsAnswer s owners w who → SharedTotals s owners w who r
+  totals-answer e same = record { answer-is = same; says = rw e (totals-says s owners (length w) who) }
+
+  pub totals-refused : {r : Check} {n p : ℕ} → r ≡ totalsCheck s owners (length w) who → r ≡ Refused n p → SharedTotals s owners w who (record { check = r; words = zeros 26 })
+  unfolding totalsAnswer totalsTold
+  totals-refused {r} {n} {p} e h = let c : totalsCheck s owners (length w) who ≡ Refused n p = sym e ∙ h in totals-answer e (rw (c, h) refl)
+
+  pub totals-done : {r : Check} {last : List ℕ} {place : ℕ} → r ≡ totalsCheck s owners (length w) who → r ≡ Pass → last ≡ wordsFrom w place 26 → place ≡ 6 * rowsOf s
+      → SharedTotals s owners w who (record { check = r; words = last })
+  unfolding totalsAnswer totalsTold
+  totals-done e h f g = let c : totalsCheck s owners (length w) who ≡ Pass = sym e ∙ h in totals-answer e (rw (c, h, f, g) refl)
+
+  pub totals-there : totalsCheck s owners (length w) who ≡ Pass → (sheetCheck s ≡ Pass) × (6 * rowsOf s + 26 ≤ length w)
+  unfolding totalsCheck
+  totals-there c =
+      let (shared, last) = then-pass _ _ c in
+      (shared-sheet s owners (length w) shared, shared-room s owners (length w) shared)

@@ -1,0 +1,4 @@
+pub mod Composition
+pub mod Lines
+pub mod Names
+pub mod SpeciesText
