@@ -3,13 +3,13 @@
 from collections.abc import Iterable, Iterator
 
 from evp.layout import (
-    CANISTER_NAMES, MILEAGE, MOST_ROWS, ROW_FIELDS, SEASON_FIELDS, Field, counts, has_grid, has_mileage, length_of,
-    row_count, row_place, season_count, season_place, version_of,
+    CANISTER_NAMES, GRID_END, LISTS_END, MILEAGE, MOST_ROWS, ROW_FIELDS, SEASON_FIELDS, Field, counts, has_grid,
+    has_mileage, length_of, row_count, row_place, season_count, season_place, version_of,
 )
 from evp.sheet.builder import GRID, LISTS, version_for
 from evp.sheet.words import TextError
 
-MOST_TAIL = 1000  # bytes behind the records that a text tells
+MOST_TAIL = GRID_END - LISTS_END  # bytes behind the records that a text tells: what a grid has more than two lists
 
 
 def read(data: bytes) -> str:
