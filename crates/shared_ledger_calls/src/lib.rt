@@ -4,6 +4,8 @@ use crate::opening::VEHICLES_EACH;
 use crate::opening::owner_at;
 use crate::opening::shared_check;
 use crate::opening::vehicles_held;
+use fields::refusal::or_else;
+use fields::refusal::when;
 use fields::rows_of;
 use fields::vehicles_of;
 use inventory::report;
@@ -66,16 +68,14 @@ fn change_check(s: &[u8], owners: &[u8], room: usize, who: u64, call: Call) -> C
         return check;
     }
     let owner = owner_of(s, owners, row_named(call));
-    if !((0 < who) & (owner == who)) {
-        return Check::Refused(30, 0);
-    }
-    if call_wrong(s, call) {
-        return Check::Refused(29, 0);
-    }
-    if past_share(vehicles_held(s, owners, who, rows_of(s)), call) {
-        return Check::Refused(31, 0);
-    }
-    Check::Pass
+    let barred = when(!((0 < who) & (owner == who)), 30, 0);
+    let wrong = when(call_wrong(s, call), 29, 0);
+    let past = when(
+        past_share(vehicles_held(s, owners, who, rows_of(s)), call),
+        31,
+        0,
+    );
+    or_else(barred, or_else(wrong, past))
 }
 
 // Vehicles arrive at a row or depart from it, where its owner calls. A refused call changes neither buffer.

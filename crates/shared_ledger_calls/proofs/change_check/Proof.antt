@@ -1,22 +1,20 @@
 -- `shared_ledger_calls::change_check` meets its contract.
 -- Assumes nothing.
-use mathlib.Core.Path.{_≡_, sym, ap, _∙_}
-use mathlib.Core.Bool.{false, not, _&&_}
+use mathlib.Core.Path.{_≡_, sym, ap, ap₂, _∙_}
+use mathlib.Core.Bool.{Bool, not, _&&_}
 use Prim.Native.Nat.{ℕ}
 use lib.Dec.{ltb, eqb}
 use Rattle.sheet.specs.declared.Check.the-variants.{Pass}
+use Rattle.sheet.specs.Check.{refuse, _then_}
 use Rattle.sheet.specs.Bytes.{rowsOf}
 use borrow.Author.Needs.{needs}
 use native.Mathlib.Omega.{arith}
-use Rattle.sheet.proofs.Stages.{stop, go, passed}
+use Rattle.sheet.proofs.Stages.{stop, go}
 use Rattle.report_words.proofs.Places.{parking-there}
-use Rattle.inventory.proofs.CallConditions.{refused, allowed}
-use Rattle.ledger.specs.Machine.{rowOf, wrong}
-use Rattle.sheet.specs.Counts.{countsOf}
-use Rattle.sheet.specs.Versions.{hasManyRows}
+use Rattle.ledger.specs.Machine.{rowOf}
 use Rattle.shared_ledger.specs.Opening.{vehiclesHeld, sharedCheck}
 use Rattle.shared_ledger.specs.Calls.{mayChange, changeCheck, pastShare}
-use Rattle.shared_ledger_calls.proofs.Outcome.{at-once, may-change-is}
+use Rattle.shared_ledger_calls.proofs.Outcome.{may-change-is}
 use Rattle.shared_ledger.proofs.Conditions.{shared-sheet}
 use Rattle.shared_ledger.proofs.Holdings.{held-most}
 use Rattle.shared_ledger_calls.proofs.change_check.Statement.{statement}
@@ -30,14 +28,6 @@ shared c = sym (c .before .before .shared-check .ensures) ∙ c .enum-told2 .giv
 right-is : (c : tie.After-owner-of) → let x = c .before .before .before .before .before .before .before .args in (ltb 0 (x .who) && eqb (c .owner-of .result) (x .who)) ≡ mayChange (x .s .now) (x .owners .now) (x .who) (rowOf (x .call))
 right-is c = may-change-is _ _ _ (c .owner-of .ensures) (c .before .row-named .ensures)
 
--- the call is by the row's owner
-right : (c : tie.Else1) → let x = c .before .before .before .before .before .before .before .before .args in not (mayChange (x .s .now) (x .owners .now) (x .who) (rowOf (x .call))) ≡ false
-right c = ap not (sym (right-is (c .before))) ∙ c .if1 .left
-
--- and not wrong
-good : (c : tie.Else2) → let x = c .before .before .before .before .before .before .before .before .before .before .args in wrong (hasManyRows (x .s .now)) (countsOf (x .s .now)) (x .call) ≡ false
-good c = sym (c .before .call-wrong .ensures) ∙ c .if2 .left
-
 -- the test of 31
 past-is : (c : tie.After-past-share) → let x = c .before .before .before .before .before .before .before .before .before .before .before .before .before .args in c .past-share .result ≡ pastShare (vehiclesHeld (x .s .now) (x .owners .now) (x .who) (rowsOf (x .s .now))) (x .call)
 past-is c =
@@ -49,20 +39,6 @@ returns : tie.Need-returns
 unfolding changeCheck
 returns c = stop _ _ (c .before .before .shared-check .ensures) (c .enum-told .given .1)
 
-returns-2 : tie.Need-returns-2
-unfolding changeCheck
-returns-2 c =
-    let told = c .before .before .before in
-    go _ _ (told .before .before .shared-check .ensures) (told .enum-told2 .given .1)
-    (at-once 30 0 _ (ap not (sym (right-is (c .before))) ∙ c .if1 .taken))
-
-returns-3 : tie.Need-returns-3
-unfolding changeCheck
-returns-3 c =
-    let told = c .before .before .before .before .before in
-    go _ _ (told .before .before .shared-check .ensures) (told .enum-told2 .given .1)
-    (passed 30 0 _ (right (c .before .before)) (at-once 29 0 _ (sym (c .before .call-wrong .ensures) ∙ c .if2 .taken)))
-
 vehicles-held-requires : tie.Need-vehicles-held-requires
 vehicles-held-requires c κs = (shared-sheet _ _ _ (shared (c .before .before .before .before .before .before)), omega (arith, c .rows-of .ensures .0))
 
@@ -71,19 +47,20 @@ past-share-requires c κs =
     let x = c .before .before .before .before .before .before .before .before .before .before .before .before .args in
     rw (c .vehicles-held .ensures) (held-most _ _ _ (shared (c .before .before .before .before .before .before .before)) (x .who) (c .before .rows-of .result) (omega (arith, c .before .rows-of .ensures .0)))
 
-returns-4 : tie.Need-returns-4
+-- 30, then 29, then 31
+returns-2 : tie.Need-returns-2
 unfolding changeCheck
-returns-4 c =
-    let told = c .before .before .before .before .before .before .before .before .before in
+returns-2 c =
+    let last = c .before .before in
+    let counted = last .before .before .before .before in
+    let first = counted .before .before in
+    let told = first .before .before .before in
     go _ _ (told .before .before .shared-check .ensures) (told .enum-told2 .given .1)
-    (passed 30 0 _ (right (c .before .before .before .before .before .before)) (passed 29 0 _ (good (c .before .before .before .before)) (refused 31 0 (sym (past-is (c .before)) ∙ c .if3 .taken))))
-
-returns-5 : tie.Need-returns-5
-unfolding changeCheck
-returns-5 c =
-    let told = c .before .before .before .before .before .before .before .before .before in
-    go _ _ (told .before .before .shared-check .ensures) (told .enum-told2 .given .1)
-    (passed 30 0 _ (right (c .before .before .before .before .before .before)) (passed 29 0 _ (good (c .before .before .before .before)) (allowed 31 0 (sym (past-is (c .before)) ∙ c .if3 .left))))
+    (c .or-else2 .ensures ∙
+    ap₂ _then_ (first .when .ensures ∙ ap (λ (b : Bool). refuse (not b) 30 0) (right-is (first .before)))
+    (c .before .or-else .ensures ∙
+    ap₂ _then_ (counted .when2 .ensures ∙ ap (λ (b : Bool). refuse b 29 0) (counted .before .call-wrong .ensures))
+    (last .when3 .ensures ∙ ap (λ (b : Bool). refuse b 31 0) (past-is (last .before)))))
 
 pub change-check-spec : {M : Type 1} → statement M
 change-check-spec =
@@ -95,11 +72,13 @@ change-check-spec =
     (λ c. search needs)
     (λ c κs. search needs)
     (λ c κs. shared-sheet _ _ _ (shared (c .before)))
-    returns-2
+    (λ c κs. search needs)
     (λ c κs. shared-sheet _ _ _ (shared (c .before .before .before)))
-    returns-3
+    (λ c κs. search needs)
     (λ c κs. omega (arith, parking-there _ (shared-sheet _ _ _ (shared (c .before .before .before .before .before)))))
     vehicles-held-requires
     past-share-requires
-    returns-4
-    returns-5)
+    (λ c κs. search needs)
+    (λ c κs. search needs)
+    (λ c κs. search needs)
+    returns-2)
