@@ -14,7 +14,7 @@ use Rattle.sheet.proofs.Accepted.{Bytes}
 use Rattle.inventory.specs.declared.FactorAnswer.{FactorAnswer}
 use Rattle.inventory.specs.declared.FactorAnswer.the-variants as answer
 use Rattle.inventory.specs.FactorCall.{numbered, factorCheck, unitsAt, answered, factorAnswer, FactorBand, answerNumber, answerPlace, answerLow, answerHigh, factorDemands, FactorReply}
-use Rattle.report_words.proofs.AcceptedRange.{enclosed}
+use Rattle.sheet_factors.proofs.AcceptedRange.{enclosed}
 use Rattle.inventory.proofs.CallConditions.{factor-accepted, factor-judged, factor-says, number-zero}
 
 module _ (s : List ℕ) (season row k : ℕ) (bytes : Bytes s) where

@@ -2,10 +2,10 @@
 use crate::check::factor_check;
 use crate::check::report_check;
 use report_sums::write_report;
-use report_words::factors_at::factors_at;
 use row_factors::micrograms::high_micrograms;
 use row_factors::micrograms::low_micrograms;
 use sheet::Check;
+use sheet_factors::factors_at::factors_at;
 ghost use mathlib.Core.Path.{_≡_};
 ghost use Prim.Native.Nat.{_^_, _<_};
 ghost use Rattle.sheet.specs.declared.Check.the-variants.{Pass};

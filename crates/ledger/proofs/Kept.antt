@@ -22,7 +22,7 @@ use Rattle.sheet.proofs.BeforeRows.{BeforeRows, version, start, seasons, rows, 
 use Rattle.sheet.proofs.Count.{before, beyond, bytes-kept, before-rows, row-kept, still-accepted}
 use Rattle.report_words.specs.Report.{reportLength, wordsOf, report}
 use Rattle.report_words.specs.Years.{reportWord}
-use Rattle.report_words.proofs.Places.{row-there}
+use Rattle.sheet.proofs.Places.{row-there}
 use Rattle.report_words.proofs.Promised.{promise}
 use Rattle.report_words.proofs.ReportPlaces.{report-length, row-word-at}
 use Rattle.report_sums.specs.RowYear.{RestHolds}

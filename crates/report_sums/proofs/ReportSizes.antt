@@ -9,7 +9,7 @@ use Rattle.sheet.proofs.Fleet.{vehicles-most}
 use Rattle.sheet.proofs.Accepted.{Bytes, Accepted}
 use Rattle.report_words.specs.Report.{subtotal, grandTotal}
 use Rattle.report_sums.proofs.SumSizes.{subtotal-most, grand-total-most, sums-fit}
-use Rattle.report_words.proofs.AcceptedRange.{row-sized}
+use Rattle.sheet_factors.proofs.AcceptedRange.{row-sized}
 
 module _ {s : List ℕ} (bytes : Bytes s) (a : Accepted s) where
   -- a sum over the first rows

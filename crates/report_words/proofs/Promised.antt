@@ -17,7 +17,7 @@ use Rattle.report_words.specs.Report.{wordsOf, car, lightDuty, twoWheele
 use Rattle.report_words.specs.Promise.{RowPromise, rowsSum, categoryWord, SumsPromise, ReportPromise}
 use Rattle.report_words.specs.Years.{category}
 use Rattle.report_words.proofs.ReportPlaces.{row-word-at, category-word-at, total-at}
-use Rattle.report_words.proofs.AcceptedRange.{row-shares, enclosed, every-season}
+use Rattle.sheet_factors.proofs.AcceptedRange.{row-shares, enclosed, every-season}
 
 -- the first words of a buffer are the report's
 pub record Holds (s words : List ℕ) : Type 0 where

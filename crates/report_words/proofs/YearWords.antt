@@ -22,7 +22,7 @@ use Rattle.report_words.specs.Report.{wordsOf}
 use Rattle.masses.specs.Day.{dayFigures}
 use Rattle.report_words.specs.Years.{seasonFigure, yearWord, reportWord}
 use Rattle.masses.proofs.MassSizes.{factorMost, dayMost, yearMost, day-most}
-use Rattle.report_words.proofs.AcceptedRange.{row-shares, sized}
+use Rattle.sheet_factors.proofs.AcceptedRange.{row-shares, sized}
 use Rattle.report_words.proofs.ReportPlaces.{row-word-at}
 
 -- A year's figure is the sum over its seasons.

@@ -5,35 +5,10 @@ use mathlib.Core.Path.{_≡_}
 use Prim.Native.Nat.{ℕ, suc, zero, _+_, _*_, _/_, _%_, _^_, _≤_, _<_}
 use lib.ListN.{length, getD, take, drop}
 use Rattle.numbers.specs.Lists.{tab, sum}
-use Rattle.bounds.specs.Exponential.{entries}
 use Rattle.exact.specs.declared.Season.{Season}
-use Rattle.sheet.specs.Range.{RowInRange}
-use Rattle.parking.specs.Grid.{cellsIn, GridReady}
-use Rattle.breakthrough.specs.Curves.{KeptOf}
-use Rattle.row_factors.specs.declared.season.AtSeason.{AtSeason}
-use Rattle.row_factors.specs.Season.{Lent}
 use Rattle.masses.specs.Day.{dayFigures}
-use Rattle.sheet.specs.declared.Check.the-variants.{Pass}
 use Rattle.sheet.specs.Bytes.{rowsOf, cellsOf, seasonAt, rowAt}
-use Rattle.sheet.specs.Sheet.{sheetCheck}
 use Rattle.report_words.specs.Report.{car, lightDuty, twoWheeler, anyClass, report}
-
--- an accepted sheet, and what is made of it once: the tables of E and the grid
-pub record SheetLent (s tables grid : List ℕ) : Type 0 where
-  pub passes : sheetCheck s ≡ Pass
-  pub tables-are : tables ≡ entries
-  pub grid-ready : GridReady grid
-  pub cells-are : cellsIn grid ≡ cellsOf s
-
--- what the canister of each of its rows keeps of its load
-pub record RowsKept (s kept : List ℕ) : Type 0 where
-  pub kept-of : (i : ℕ) → i < rowsOf s → KeptOf (rowAt s i) (getD kept i 0)
-
--- with one of its seasons, for all its rows
-pub record SeasonLent (s tables grid list : List ℕ) (at : AtSeason) : Type 0 where
-  pub sheet : SheetLent s tables grid
-  pub lent : Lent tables grid list at
-  pub rows-in : (i : ℕ) → i < rowsOf s → RowInRange (at .season) (rowAt s i)
 
 -- figure m of row i in season j, over its days
 unfoldable pub seasonFigure : List ℕ → ℕ → ℕ → ℕ → ℕ

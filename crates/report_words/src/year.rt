@@ -1,17 +1,14 @@
 // The figures of a year, added up season by season in the six words of each row.
-use crate::kept::rows_kept;
-use crate::parkings::sheet_grid;
 use bounds::exp::tables;
 use fields::row_at;
 use fields::rows_of;
 use fields::season_at;
 use fields::seasons_of;
-use marks::at_marks;
 use masses::figures::row_figures;
-use parking::season_list::list_of;
-use parking::walk::rises;
 use row_factors::season::AtSeason;
-use row_factors::season::at_season;
+use row_factors::season::prepare;
+use sheet_factors::kept::rows_kept;
+use sheet_factors::parkings::sheet_grid;
 ghost use mathlib.Core.Path.{_≡_};
 ghost use Prim.Native.Nat.{ℕ, _+_, _*_, _≤_, _<_};
 ghost use lib.ListN.{length};
@@ -20,7 +17,8 @@ ghost use Rattle.numbers.specs.Lists.{tab};
 ghost use Rattle.sheet.specs.declared.Check.the-variants.{Pass};
 ghost use Rattle.sheet.specs.Bytes.{seasonsOf, rowsOf};
 ghost use Rattle.sheet.specs.Sheet.{sheetCheck};
-ghost use Rattle.report_words.specs.Years.{SheetLent, RowsKept, SeasonLent, RowsHold, SeasonFits, SumsFit};
+ghost use Rattle.sheet_factors.specs.Lent.{SheetLent, RowsKept, SeasonLent};
+ghost use Rattle.report_words.specs.Years.{RowsHold, SeasonFits, SumsFit};
 ghost use Rattle.report_words.specs.Years.{daysAdded, seasonAdded, yearWord, filled};
 
 // The first n words are set to 0.
@@ -72,7 +70,7 @@ fn add_rows(
     }
 }
 
-// Season j: its values at the marks, its rises, their list and its means are made once, for all rows.
+// Season j is made ready once, for all rows.
 fn add_season(
     tables: &[u64; 1907],
     grid: &[u64; 627],
@@ -85,12 +83,8 @@ fn add_season(
         × RowsKept (now s) (now kept) ⌝ }
     ensures { λ _. ⌜ now (words .exit) ≡ filled (yearWord (now (s .entry)) (j + 1)) (6 * rowsOf (now (s .entry))) (now (words .entry)) ⌝ }
 {
-    let season = season_at(s, j);
-    let marks = at_marks(tables, season);
-    let rises = rises(&marks.step);
-    let list = list_of(grid, &rises);
-    let at = at_season(grid, &rises, season, marks);
-    add_rows(tables, grid, &list, kept, at, s, words);
+    let prepared = prepare(tables, grid, season_at(s, j));
+    add_rows(tables, grid, &prepared.list, kept, prepared.at, s, words);
 }
 
 // All seasons.

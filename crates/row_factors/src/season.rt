@@ -1,16 +1,21 @@
-// What a season gives to every row: its values at the marks, and the means that no row changes.
+// What a season gives to every row: its values at the marks, the list of its parkings, and the means that no row changes.
 use exact::Season;
 use marks::Marks;
+use marks::at_marks;
 use parking::means::mean_by_cell;
 use parking::means::mean_by_mark;
+use parking::season_list::list_of;
 use parking::walk::halved;
+use parking::walk::rises;
 use parking::walk::walk;
 ghost use mathlib.Core.Path.{_≡_};
 ghost use Prim.Native.Nat.{ℕ, _/_, _^_};
 ghost use Rattle.numbers.specs.Lists.{AllAtMost};
+ghost use Rattle.bounds.specs.Exponential.{entries};
+ghost use Rattle.sheet.specs.Range.{SeasonInRange};
 ghost use Rattle.factors.specs.Means.{meanUnits};
 ghost use Rattle.parking.specs.Grid.{cellsIn, GridReady, passedIn};
-ghost use Rattle.row_factors.specs.Season.{MarksReady, risesOf, AtSeasonOf};
+ghost use Rattle.row_factors.specs.Season.{MarksReady, risesOf, AtSeasonOf, Lent};
 
 // Means over the cells, in units of 2^-28.
 pub struct Means {
@@ -34,6 +39,12 @@ pub struct AtSeason {
     pub season: Season,
     pub marks: Marks,
     pub means: Means,
+}
+
+// With the list of its parkings, which is lent to each row.
+pub struct Prepared {
+    pub list: [u64; 1732],
+    pub at: AtSeason,
 }
 
 // The permeation in a parking: half of the hourly rates at its marks.
@@ -68,5 +79,19 @@ pub fn at_season(grid: &[u64; 627], rises: &[u64; 576], season: Season, marks: M
         season,
         marks,
         means,
+    }
+}
+
+// All that the rows of a season share, made once.
+pub fn prepare(tables: &[u64; 1907], grid: &[u64; 627], season: Season) -> Prepared
+    requires { ⌜ (now tables ≡ entries) × GridReady (now grid) × SeasonInRange season ⌝ }
+    ensures { λ r. ⌜ (r .at .season ≡ season) × Lent (now (tables .entry)) (now (grid .entry)) (r .list) (r .at) ⌝ }
+{
+    let marks = at_marks(tables, season);
+    let rises = rises(&marks.step);
+    let list = list_of(grid, &rises);
+    Prepared {
+        list,
+        at: at_season(grid, &rises, season, marks),
     }
 }

@@ -3,7 +3,7 @@
 use mathlib.Core.Path.{_∙_}
 use borrow.Author.Needs.{needs}
 use native.Mathlib.Omega.{arith}
-use Rattle.report_words.proofs.Places.{parking-there, row-there}
+use Rattle.sheet.proofs.Places.{parking-there, row-there}
 use Rattle.ledger_calls.proofs.Outcome.{absent-wrong, count-most, past-wrong}
 use Rattle.ledger_calls.proofs.call_wrong.Statement.{statement}
 use Rattle.ledger_calls.proofs.call_wrong.Tie as tie

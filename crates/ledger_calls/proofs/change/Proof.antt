@@ -9,7 +9,7 @@ use lib.ListN.{length}
 use Rattle.sheet.specs.declared.Check.the-variants.{Pass}
 use Rattle.sheet.specs.Versions.{hasManyRows}
 use Rattle.sheet.specs.Counts.{countsOf, withCount}
-use Rattle.report_words.proofs.Places.{row-there}
+use Rattle.sheet.proofs.Places.{row-there}
 use Rattle.report_sums.specs.Renewed.{renewed}
 use Rattle.inventory.specs.ReportCall.{reportCheck}
 use Rattle.inventory.proofs.CallConditions.{report-sheet}

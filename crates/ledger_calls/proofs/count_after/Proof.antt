@@ -8,7 +8,7 @@ use Rattle.numbers.specs.Lists.{at}
 use Rattle.exact.specs.Factors.{total}
 use Rattle.sheet.specs.Versions.{hasManyRows}
 use Rattle.sheet.specs.Counts.{countsOf}
-use Rattle.report_words.proofs.Places.{row-there}
+use Rattle.sheet.proofs.Places.{row-there}
 use Rattle.ledger.specs.Machine.{rowOf, moved, past}
 use Rattle.ledger_calls.proofs.Outcome.{row-named-there, entry-is, past-wrong, arrival-fits, departure-fits}
 use Rattle.ledger_calls.proofs.count_after.Statement.{statement}

@@ -8,7 +8,7 @@ use Rattle.sheet.specs.Bytes.{rowsOf}
 use Rattle.sheet.specs.Sheet.{vehiclesBefore}
 use Rattle.sheet.proofs.Accepted.{accepted}
 use Rattle.sheet.proofs.Fleet.{vehicles-none, vehicles-more, vehicles-most}
-use Rattle.report_words.proofs.Places.{parking-there, row-there}
+use Rattle.sheet.proofs.Places.{parking-there, row-there}
 use Rattle.ledger.proofs.Counts.{total-counts}
 use Rattle.ledger_calls.proofs.fleet_of.Statement.{statement}
 use Rattle.ledger_calls.proofs.fleet_of.Tie as tie

@@ -2,7 +2,7 @@
 -- Assumes nothing.
 use borrow.Author.Needs.{needs}
 use native.Mathlib.Omega.{arith}
-use Rattle.report_words.proofs.Places.{parking-there}
+use Rattle.sheet.proofs.Places.{parking-there}
 use Rattle.ledger_calls.proofs.fleet_past.Statement.{statement}
 use Rattle.ledger_calls.proofs.fleet_past.Tie as tie
 

@@ -10,7 +10,7 @@ use Rattle.numbers.specs.Lists.{tab}
 use Rattle.sheet.specs.Bytes.{rowsOf}
 use Rattle.report_words.specs.Years.{category}
 use Rattle.report_words.proofs.Filled.{run-more}
-use Rattle.report_words.proofs.Places.{parking-there}
+use Rattle.sheet.proofs.Places.{parking-there}
 use Rattle.report_sums.specs.Sums.{sumWord, summed}
 use Rattle.report_sums.proofs.BufferSums.{sum-kept}
 use Rattle.report_sums.proofs.subtotals.Statement.{statement}

@@ -6,7 +6,7 @@ use borrow.Author.Needs.{needs}
 use native.Mathlib.Omega.{arith}
 use Rattle.sheet.specs.Bytes.{rowsOf}
 use Rattle.report_words.specs.Years.{category}
-use Rattle.report_words.proofs.Places.{parking-there, row-there}
+use Rattle.sheet.proofs.Places.{parking-there, row-there}
 use Rattle.report_sums.specs.Sums.{bufferSum}
 use Rattle.report_sums.proofs.BufferSums.{sum-none, sum-more}
 use Rattle.report_sums.proofs.sum_of.Statement.{statement}

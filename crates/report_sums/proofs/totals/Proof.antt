@@ -4,7 +4,7 @@ use mathlib.Core.Path.{refl}
 use borrow.Author.Needs.{needs}
 use native.Mathlib.Omega.{arith}
 use lib.ListN.{length-set}
-use Rattle.report_words.proofs.Places.{parking-there}
+use Rattle.sheet.proofs.Places.{parking-there}
 use Rattle.report_sums.specs.Sums.{totalled}
 use Rattle.report_sums.proofs.totals.Statement.{statement}
 use Rattle.report_sums.proofs.totals.Tie as tie

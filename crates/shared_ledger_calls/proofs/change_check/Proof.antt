@@ -10,7 +10,7 @@ use Rattle.sheet.specs.Bytes.{rowsOf}
 use borrow.Author.Needs.{needs}
 use native.Mathlib.Omega.{arith}
 use Rattle.sheet.proofs.Stages.{stop, go}
-use Rattle.report_words.proofs.Places.{parking-there}
+use Rattle.sheet.proofs.Places.{parking-there}
 use Rattle.ledger.specs.Machine.{rowOf}
 use Rattle.shared_ledger.specs.Opening.{vehiclesHeld, sharedCheck}
 use Rattle.shared_ledger.specs.Calls.{mayChange, changeCheck, pastShare}

@@ -3,7 +3,7 @@
 use mathlib.Core.Path.{sym, _∙_}
 use borrow.Author.Needs.{needs}
 use native.Mathlib.Omega.{arith}
-use Rattle.report_words.proofs.Places.{parking-there}
+use Rattle.sheet.proofs.Places.{parking-there}
 use Rattle.shared_ledger.proofs.Holdings.{owner-there, owner-absent}
 use Rattle.shared_ledger_calls.proofs.owner_of.Statement.{statement}
 use Rattle.shared_ledger_calls.proofs.owner_of.Tie as tie

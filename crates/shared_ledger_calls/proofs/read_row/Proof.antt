@@ -11,7 +11,7 @@ use Rattle.sheet.specs.Bytes.{rowsOf}
 use Rattle.sheet.specs.Sheet.{sheetCheck}
 use Rattle.sheet.proofs.Accepted.{accepted}
 use Rattle.sheet.proofs.Versions.{rows-limit}
-use Rattle.report_words.proofs.Places.{row-there}
+use Rattle.sheet.proofs.Places.{row-there}
 use Rattle.shared_ledger.specs.Calls.{zeros}
 use Rattle.shared_ledger_calls.proofs.Outcome.{row-refused, row-done, read-there}
 use Rattle.shared_ledger_calls.proofs.read_row.Statement.{statement}

@@ -9,7 +9,7 @@ use Rattle.numbers.specs.Lists.{tab}
 use Rattle.sheet.specs.declared.Check.the-variants.{Pass}
 use Rattle.sheet.specs.Bytes.{rowsOf}
 use Rattle.sheet.specs.Sheet.{sheetCheck}
-use Rattle.report_words.proofs.Places.{parking-there}
+use Rattle.sheet.proofs.Places.{parking-there}
 use Rattle.shared_ledger.specs.Calls.{zeros}
 use Rattle.shared_ledger_calls.proofs.Outcome.{totals-refused, totals-done, totals-there}
 use Rattle.shared_ledger_calls.proofs.read_totals.Statement.{statement}

@@ -9,7 +9,7 @@ use Rattle.sheet.specs.Bytes.{rowsOf}
 use borrow.Author.Needs.{needs}
 use native.Mathlib.Omega.{arith}
 use Rattle.sheet.proofs.Stages.{stop, go, passed}
-use Rattle.report_words.proofs.Places.{parking-there}
+use Rattle.sheet.proofs.Places.{parking-there}
 use Rattle.inventory.proofs.CallConditions.{refused, allowed}
 use Rattle.shared_ledger.specs.Opening.{sharedCheck}
 use Rattle.shared_ledger.specs.Calls.{mayRead, rowCheck}

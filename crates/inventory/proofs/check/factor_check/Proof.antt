@@ -6,7 +6,7 @@ use native.Mathlib.Omega.{arith}
 use Rattle.sheet.proofs.Stages.{stop, go}
 use Rattle.inventory.specs.FactorCall.{factorCheck}
 use Rattle.inventory.proofs.CallConditions.{refused, allowed}
-use Rattle.report_words.proofs.Places.{parking-there}
+use Rattle.sheet.proofs.Places.{parking-there}
 use Rattle.inventory.proofs.check.factor_check.Statement.{statement}
 use Rattle.inventory.proofs.check.factor_check.Tie as tie
 

@@ -8,7 +8,7 @@ use Rattle.sheet.proofs.Stages.{stop, go}
 use Rattle.report_words.specs.Report.{reportLength}
 use Rattle.inventory.specs.ReportCall.{reportCheck}
 use Rattle.inventory.proofs.CallConditions.{refused, allowed}
-use Rattle.report_words.proofs.Places.{parking-there}
+use Rattle.sheet.proofs.Places.{parking-there}
 use Rattle.inventory.proofs.check.report_check.Statement.{statement}
 use Rattle.inventory.proofs.check.report_check.Tie as tie
 

@@ -4,8 +4,8 @@ use mathlib.Core.Path.{_∙_}
 use borrow.Author.Needs.{needs}
 use Rattle.sheet.proofs.Accepted.{accepted}
 use Rattle.masses.proofs.FigureSizes.{figures-are}
-use Rattle.report_words.proofs.Places.{row-there}
-use Rattle.report_words.proofs.SeasonWork.{use-in-range}
+use Rattle.sheet.proofs.Places.{row-there}
+use Rattle.sheet_factors.proofs.SeasonWork.{use-in-range}
 use Rattle.report_sums.proofs.renewal.day_of.Statement.{statement}
 use Rattle.report_sums.proofs.renewal.day_of.Tie as tie
 

@@ -10,7 +10,7 @@ use Rattle.numbers.proofs.Lists.{Filled, filled-none, filled-more, filled-all, 
 use Rattle.sheet.specs.Bytes.{seasonsOf}
 use Rattle.sheet.proofs.Accepted.{Bytes, accepted}
 use Rattle.report_words.specs.Report.{wordsOf}
-use Rattle.report_words.proofs.Places.{row-there}
+use Rattle.sheet.proofs.Places.{row-there}
 use Rattle.report_words.proofs.YearWords.{word-from-year}
 use Rattle.report_sums.specs.RowYear.{rowYear}
 use Rattle.report_sums.proofs.OneRow.{year-bits, words-tab}

@@ -9,7 +9,7 @@ use Rattle.numbers.specs.Lists.{tab}
 use Rattle.numbers.proofs.Lists.{tab-length}
 use Rattle.sheet.specs.Bytes.{seasonsOf}
 use Rattle.sheet.proofs.Accepted.{Bytes, accepted}
-use Rattle.report_words.proofs.Places.{parking-there, season-there}
+use Rattle.sheet.proofs.Places.{parking-there, season-there}
 use Rattle.report_sums.specs.RowYear.{rowYear}
 use Rattle.report_sums.proofs.OneRow.{year-none, season-fits, season-more}
 use Rattle.report_sums.proofs.renewal.year_of.Statement.{statement}

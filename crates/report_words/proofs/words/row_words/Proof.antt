@@ -10,7 +10,7 @@ use Rattle.sheet.proofs.Accepted.{Bytes, accepted}
 use Rattle.report_words.specs.Years.{yearWord, filled, reportWord}
 use Rattle.masses.proofs.MassSizes.{year-fits}
 use Rattle.report_words.proofs.Filled.{filled-none, filled-more, filled-all, filled-beyond, first-at}
-use Rattle.report_words.proofs.Places.{parking-there, row-there}
+use Rattle.sheet.proofs.Places.{parking-there, row-there}
 use Rattle.report_words.proofs.YearWords.{report-from-year, year-word-most}
 use Rattle.report_words.proofs.words.row_words.Statement.{statement}
 use Rattle.report_words.proofs.words.row_words.Tie as tie

@@ -8,7 +8,7 @@ use lib.ListN.{take}
 use Rattle.sheet.specs.Bytes.{rowsOf}
 use Rattle.report_words.specs.Years.{filled}
 use Rattle.report_words.proofs.Filled.{filled-less, filled-twice}
-use Rattle.report_words.proofs.Places.{parking-there}
+use Rattle.sheet.proofs.Places.{parking-there}
 use Rattle.report_words.proofs.SeasonWords.{cleared}
 use Rattle.report_words.proofs.words.write_rows.Statement.{statement}
 use Rattle.report_words.proofs.words.write_rows.Tie as tie

@@ -8,8 +8,8 @@ use Rattle.sheet.proofs.Accepted.{accepted}
 use Rattle.masses.specs.Day.{dayFigures}
 use Rattle.report_words.specs.Years.{seasonAdded, filled}
 use Rattle.report_words.proofs.Filled.{filled-none, filled-all}
-use Rattle.report_words.proofs.Places.{parking-there, rows-fit, row-there}
-use Rattle.report_words.proofs.SeasonWork.{use-in-range}
+use Rattle.sheet.proofs.Places.{parking-there, rows-fit, row-there}
+use Rattle.sheet_factors.proofs.SeasonWork.{use-in-range}
 use Rattle.report_words.proofs.SeasonWords.{row-sums-fit, row-stored}
 use borrow.Author.Needs.{needs}
 use Rattle.report_words.proofs.year.add_rows.Statement.{statement}

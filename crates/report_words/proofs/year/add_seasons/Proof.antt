@@ -8,7 +8,7 @@ use lib.ListN.{length, take}
 use Rattle.sheet.specs.Bytes.{seasonsOf, rowsOf}
 use Rattle.report_words.specs.Years.{yearWord, filled}
 use Rattle.report_words.proofs.Filled.{filled-same, filled-less, filled-again}
-use Rattle.report_words.proofs.Places.{parking-there}
+use Rattle.sheet.proofs.Places.{parking-there}
 use Rattle.report_words.proofs.year.add_seasons.Statement.{statement}
 use Rattle.report_words.proofs.year.add_seasons.Tie as tie
 

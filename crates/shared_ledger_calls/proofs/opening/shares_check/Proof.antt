@@ -16,7 +16,7 @@ use Rattle.sheet.specs.declared.Check.the-variants.{Pass}
 use Rattle.sheet.specs.Bytes.{rowAt}
 use Rattle.sheet.specs.Check.{each}
 use Rattle.sheet.proofs.Stages.{each-none, each-more, each-stop, each-all}
-use Rattle.report_words.proofs.Places.{parking-there, row-there}
+use Rattle.sheet.proofs.Places.{parking-there, row-there}
 use Rattle.shared_ledger.specs.Opening.{rowsEach, vehiclesEach, shareWrong, shareCheck}
 use Rattle.shared_ledger_calls.proofs.Tallies.{share-refused, share-passed, share-unowned, share-owned, heldOf, tally-size, owned-range}
 use Rattle.shared_ledger_calls.proofs.Tallies.{tally-more, rows-tally, vehicles-tally}

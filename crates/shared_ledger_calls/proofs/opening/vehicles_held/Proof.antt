@@ -7,7 +7,7 @@ use native.Mathlib.Omega.{arith}
 use Rattle.numbers.proofs.Lists.{sum-none, sum-more, sum-all}
 use Rattle.sheet.proofs.Accepted.{accepted}
 use Rattle.sheet.proofs.Versions.{rows-limit}
-use Rattle.report_words.proofs.Places.{row-there}
+use Rattle.sheet.proofs.Places.{row-there}
 use Rattle.shared_ledger.specs.Opening.{vehiclesHeld}
 use Rattle.shared_ledger_calls.proofs.opening.vehicles_held.Statement.{statement}
 use Rattle.shared_ledger_calls.proofs.opening.vehicles_held.Tie as tie

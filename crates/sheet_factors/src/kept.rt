@@ -9,7 +9,7 @@ ghost use Rattle.breakthrough.specs.Curves.{KeptOf};
 ghost use Rattle.sheet.specs.declared.Check.the-variants.{Pass};
 ghost use Rattle.sheet.specs.Bytes.{rowsOf, rowAt};
 ghost use Rattle.sheet.specs.Sheet.{sheetCheck};
-ghost use Rattle.report_words.specs.Years.{RowsKept};
+ghost use Rattle.sheet_factors.specs.Lent.{RowsKept};
 
 // Of one row.
 pub fn row_kept(tables: &[u64; 1907], s: &[u8], row: usize) -> u64

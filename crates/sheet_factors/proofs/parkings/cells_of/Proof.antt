@@ -1,14 +1,14 @@
--- `report_words::parkings::cells_of` meets its contract: an accepted sheet has a grid or both lists of counts, and their sums are within
+-- `sheet_factors::parkings::cells_of` meets its contract: an accepted sheet has a grid or both lists of counts, and their sums are within
 -- limits.
 use mathlib.Core.Path.{_≡_, sym, _∙_}
 use native.Mathlib.Omega.{arith}
 use Rattle.sheet.specs.Bytes.{cellsOf}
 use Rattle.sheet.proofs.Versions.{cells-grid, cells-lists}
 use Rattle.sheet.proofs.Accepted.{accepted}
-use Rattle.report_words.proofs.AcceptedRange.{cells-in-range, lists-most, durations-length, hours-length}
-use Rattle.report_words.proofs.Places.{parking-there, grid-there}
-use Rattle.report_words.proofs.parkings.cells_of.Statement.{statement}
-use Rattle.report_words.proofs.parkings.cells_of.Tie as tie
+use Rattle.sheet_factors.proofs.AcceptedRange.{cells-in-range, lists-most, durations-length, hours-length}
+use Rattle.sheet.proofs.Places.{parking-there, grid-there}
+use Rattle.sheet_factors.proofs.parkings.cells_of.Statement.{statement}
+use Rattle.sheet_factors.proofs.parkings.cells_of.Tie as tie
 
 products-requires : tie.Need-products-requires
 products-requires c κs =

@@ -4,10 +4,7 @@ use crate::parkings::sheet_grid;
 use bounds::exp::tables;
 use fields::row_at;
 use fields::season_at;
-use marks::at_marks;
-use parking::season_list::list_of;
-use parking::walk::rises;
-use row_factors::season::at_season;
+use row_factors::season::prepare;
 use row_factors::units::row_units;
 ghost use mathlib.Core.Path.{_≡_};
 ghost use Prim.Native.Nat.{_<_};
@@ -17,7 +14,7 @@ ghost use Rattle.row_factors.specs.Seven.{sevenUnits};
 ghost use Rattle.sheet.specs.declared.Check.the-variants.{Pass};
 ghost use Rattle.sheet.specs.Bytes.{seasonsOf, rowsOf, cellsOf, seasonAt, rowAt};
 ghost use Rattle.sheet.specs.Sheet.{sheetCheck};
-ghost use Rattle.report_words.specs.Years.{SheetLent};
+ghost use Rattle.sheet_factors.specs.Lent.{SheetLent};
 
 // With the tables, the grid and what the row's canister keeps of its load, in units of 2^-28 g.
 pub fn units_with(
@@ -32,12 +29,15 @@ pub fn units_with(
         × KeptOf (rowAt (now s) row) kept ⌝ }
     ensures { λ r. ⌜ (r ≡ sevenUnits (seasonAt (now (s .entry)) season) (rowAt (now (s .entry)) row) (cellsOf (now (s .entry)))) × UnitsInRange r ⌝ }
 {
-    let season = season_at(s, season);
-    let marks = at_marks(tables, season);
-    let rises = rises(&marks.step);
-    let list = list_of(grid, &rises);
-    let at = at_season(grid, &rises, season, marks);
-    row_units(tables, grid, &list, at, row_at(s, row), kept)
+    let prepared = prepare(tables, grid, season_at(s, season));
+    row_units(
+        tables,
+        grid,
+        &prepared.list,
+        prepared.at,
+        row_at(s, row),
+        kept,
+    )
 }
 
 // The same from the sheet alone.

@@ -1,4 +1,4 @@
--- `report_words::kept::rows_kept` meets its contract: the first i rows have theirs.
+-- `sheet_factors::kept::rows_kept` meets its contract: the first i rows have theirs.
 use mathlib.Core.Path.{_≡_, _∙_}
 use Prim.Native.Nat.{ℕ, _-_, _≤_, _<_}
 use native.Mathlib.Decide.{ℕ-discrete}
@@ -7,10 +7,10 @@ use lib.ListN.{length, getD, length-set, length-replicate}
 use lib.Seq.{getD-set-same, getD-set-other}
 use Rattle.breakthrough.specs.Curves.{KeptOf}
 use Rattle.sheet.specs.Bytes.{rowAt}
-use Rattle.report_words.proofs.Places.{parking-there, rows-fit}
+use Rattle.sheet.proofs.Places.{parking-there, rows-fit}
 use borrow.Author.Needs.{needs}
-use Rattle.report_words.proofs.kept.rows_kept.Statement.{statement}
-use Rattle.report_words.proofs.kept.rows_kept.Tie as tie
+use Rattle.sheet_factors.proofs.kept.rows_kept.Statement.{statement}
+use Rattle.sheet_factors.proofs.kept.rows_kept.Tie as tie
 
 abbrev Inv-loop : tie.InvT-loop
 Inv-loop tables s rows out₀ i₀ out i = (i ≤ rows) × (length out ≡ 1000) × ((k : ℕ) → k < i → KeptOf (rowAt s k) (getD out k 0))

@@ -1,9 +1,9 @@
--- `report_words::kept::row_kept` meets its contract: the row is there, and its mileage within the limit.
+-- `sheet_factors::kept::row_kept` meets its contract: the row is there, and its mileage within the limit.
 use Rattle.sheet.proofs.Accepted.{accepted}
-use Rattle.report_words.proofs.Places.{row-there}
-use Rattle.report_words.proofs.SeasonWork.{mileage-within}
-use Rattle.report_words.proofs.kept.row_kept.Statement.{statement}
-use Rattle.report_words.proofs.kept.row_kept.Tie as tie
+use Rattle.sheet.proofs.Places.{row-there}
+use Rattle.sheet_factors.proofs.SeasonWork.{mileage-within}
+use Rattle.sheet_factors.proofs.kept.row_kept.Statement.{statement}
+use Rattle.sheet_factors.proofs.kept.row_kept.Tie as tie
 
 kept-of-requires : tie.Need-kept-of-requires
 kept-of-requires c κs =

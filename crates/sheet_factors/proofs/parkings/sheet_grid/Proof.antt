@@ -1,8 +1,8 @@
--- `report_words::parkings::sheet_grid` meets its contract.
+-- `sheet_factors::parkings::sheet_grid` meets its contract.
 use mathlib.Core.Path.{_∙_}
 use borrow.Author.Needs.{needs}
-use Rattle.report_words.proofs.parkings.sheet_grid.Statement.{statement}
-use Rattle.report_words.proofs.parkings.sheet_grid.Tie as tie
+use Rattle.sheet_factors.proofs.parkings.sheet_grid.Statement.{statement}
+use Rattle.sheet_factors.proofs.parkings.sheet_grid.Tie as tie
 
 returns : tie.Need-returns
 returns c = (c .grid-of .ensures .0, c .grid-of .ensures .1 ∙ c .before .cells-of .ensures .0)

@@ -1,0 +1,41 @@
+-- `row_factors::season::prepare` meets its contract: the marks, the rises and the list are those of its season.
+use mathlib.Core.Path.{_≡_}
+use Rattle.row_factors.specs.Season.{MarksReady, risesOf}
+use Rattle.row_factors.proofs.Prepared.{steps-most, rises-are}
+use Rattle.row_factors.proofs.season.prepare.Statement.{statement}
+use Rattle.row_factors.proofs.season.prepare.Tie as tie
+
+-- its values at the marks are ready
+marks-ready : (c : tie.After-at-marks) → MarksReady (c .before .args .season) (c .at-marks .result)
+marks-ready c = record { season-in = c .before .pre .2; marks-are = c .at-marks .ensures }
+
+-- and so are the rises of its parkings
+rises-ready : (c : tie.After-rises) → c .rises .result ≡ risesOf (c .before .before .before .before .args .season)
+rises-ready c = rises-are (c .before .before .before .at-marks .ensures) (c .rises .ensures)
+
+returns : tie.Need-returns
+returns c =
+    let k = c .before .before in
+    let w = k .before .before in
+    let m = w .before .before .before in
+    let p = m .before .pre in
+    let a = c .at-season .ensures in (
+      a .season-is,
+      record {
+        tables-are = p .0;
+        grid-ready = p .1;
+        marks-ready = rw (a .season-is, a .marks-are) (marks-ready m);
+        list-ready = rw (a .season-is, ← (rises-ready w)) (k .list-of .ensures);
+        means-are = rw (a .season-is) (a .means-are);
+      },
+    )
+
+pub prepare-spec : {M : Type 1} → statement M
+prepare-spec =
+    tie.close
+    (tie.spec
+    (λ c κs. (c .pre .0, c .pre .2))
+    (λ c κs. let m = c .before .before in steps-most (m .before .pre .2) (m .at-marks .ensures))
+    (λ c κs. c .before .before .before .before .before .pre .1)
+    (λ c κs. let w = c .before .before .before in (w .before .before .before .before .pre .1, marks-ready (w .before .before .before), rises-ready w))
+    returns)

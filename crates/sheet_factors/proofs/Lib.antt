@@ -1,0 +1,2 @@
+pub mod AcceptedRange
+pub mod SeasonWork
