@@ -21,7 +21,6 @@ use Rattle.sheet.specs.Check.{refuse, _then_}
 use Rattle.sheet.specs.Sheet.{sheetCheck}
 use Rattle.sheet.proofs.Accepted.{accepted}
 use Rattle.report_words.specs.Report.{reportLength}
-use Rattle.report_sums.specs.Renewed.{renewed}
 use Rattle.inventory.specs.ReportCall.{reportCheck}
 use Rattle.inventory.proofs.CallConditions.{report-sheet, report-accepted}
 use Rattle.ledger.specs.declared.Call.{Call}
@@ -101,8 +100,8 @@ module _ (s w : List ℕ) (call : Call) where
 
   -- and done
   pub right-call : {after words : List ℕ} → reportCheck s (length w) ≡ Pass → wrong (hasManyRows s) (countsOf s) call ≡ false
-      → after ≡ withCount s (rowOf call) (newCount (countsOf s) call) → words ≡ renewed after (rowOf call) w → ChangeAnswer s w call after words Pass
-  unfolding sheetAfter wordsAfter refuse
+      → after ≡ sheetAfter Pass s call → words ≡ wordsAfter Pass after call w → ChangeAnswer s w call after words Pass
+  unfolding refuse
   right-call opens h e b = answered (sym (answer-open s (length w) call opens ∙ rw h refl)) e b
 
   -- what the code relies on then

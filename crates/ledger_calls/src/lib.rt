@@ -24,7 +24,8 @@ ghost use Rattle.sheet.specs.Counts.{countsOf, fourBytes, withCount};
 ghost use Rattle.sheet.specs.Sheet.{sheetCheck};
 ghost use Rattle.ledger.specs.declared.Call.the-variants.{Arrival, Departure};
 ghost use Rattle.ledger.specs.Machine.{rowOf, past, wrong, newCount};
-ghost use Rattle.ledger.specs.Ledger.{ChangeAnswer};
+ghost use Rattle.inventory.specs.ReportCall.{reportCheck};
+ghost use Rattle.ledger.specs.Ledger.{sheetAfter, wordsAfter, ChangeAnswer};
 
 // The vehicles of all rows.
 pub fn fleet_of(s: &[u8]) -> u64
@@ -126,6 +127,18 @@ fn set_vehicles(s: &mut [u8], i: usize, v: u64)
     store_u32(s, place, v);
 }
 
+// An allowed call: its row gets the new count, and the words of the row and all sums are made anew.
+pub fn apply(s: &mut [u8], words: &mut [u64], call: Call)
+    requires { ⌜ (reportCheck (now s) (length (now words)) ≡ Pass) × (wrong (hasManyRows (now s)) (countsOf (now s)) call ≡ false) ⌝ }
+    ensures { λ _. ⌜ (now (s .exit) ≡ sheetAfter Pass (now (s .entry)) call)
+        × (now (words .exit) ≡ wordsAfter Pass (now (s .exit)) call (now (words .entry))) ⌝ }
+{
+    let new = count_after(s, call);
+    let i = row_named(call) as usize;
+    set_vehicles(s, i, new);
+    renew_row(s, words, i);
+}
+
 // A call on a ledger. Whatever the buffers hold is checked first, as opening them would; a refused call changes neither.
 pub fn change(s: &mut [u8], words: &mut [u64], call: Call) -> Check
     ensures { λ r. ⌜ ChangeAnswer (now (s .entry)) (now (words .entry)) call (now (s .exit)) (now (words .exit)) r ⌝ }
@@ -137,10 +150,7 @@ pub fn change(s: &mut [u8], words: &mut [u64], call: Call) -> Check
     if call_wrong(s, call) {
         return Check::Refused(29, 0);
     }
-    let new = count_after(s, call);
-    let i = row_named(call) as usize;
-    set_vehicles(s, i, new);
-    renew_row(s, words, i);
+    apply(s, words, call);
     Check::Pass
 }
 

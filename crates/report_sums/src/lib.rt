@@ -2,7 +2,6 @@
 use fields::row_place;
 use fields::rows_of;
 use fields::u8_at;
-use report_words::words::write_rows;
 use std::num::wrapping_add_u64;
 ghost use mathlib.Core.Path.{_≡_};
 ghost use Prim.Native.Nat.{_+_, _*_, _%_, _^_, _≤_, _<_};
@@ -11,7 +10,7 @@ ghost use Rattle.sheet.specs.declared.Check.the-variants.{Pass};
 ghost use Rattle.sheet.specs.Bytes.{rowsOf, rowPlace, rowAt};
 ghost use Rattle.sheet.specs.Sheet.{sheetCheck};
 ghost use Rattle.report_words.specs.Report.{counted};
-ghost use Rattle.report_words.specs.Years.{category, filled, reportWord};
+ghost use Rattle.report_words.specs.Years.{category};
 ghost use Rattle.report_sums.specs.Sums.{bufferSum, summed, threeWord, totalled, resummed};
 
 pub mod renewal;
@@ -102,13 +101,4 @@ pub fn write_sums(s: &[u8], words: &mut [u64])
 {
     subtotals(s, words);
     totals(s, words);
-}
-
-// The whole report: the words of the rows and their sums.
-pub fn write_report(s: &[u8], words: &mut [u64])
-    requires { ⌜ (sheetCheck (now s) ≡ Pass) × (6 * rowsOf (now s) + 26 ≤ length (now words)) ⌝ }
-    ensures { λ _. ⌜ now (words .exit) ≡ filled (reportWord (now (s .entry))) (6 * rowsOf (now (s .entry)) + 26) (now (words .entry)) ⌝ }
-{
-    write_rows(s, words);
-    write_sums(s, words);
 }

@@ -1,6 +1,6 @@
 -- Each outcome of a call on a shared ledger, as its definition has it.
 -- Assumes nothing.
-use mathlib.Core.Bool.{Bool, true, _&&_, _||_}
+use mathlib.Core.Bool.{Bool, true, false, _&&_, _||_}
 use mathlib.Core.List.{List}
 use mathlib.Core.Path.{_≡_, refl, sym, _∙_}
 use Prim.Native.Nat.{ℕ, _+_, _*_, _-_, _≤_, _<_}
@@ -14,13 +14,16 @@ use Rattle.sheet.specs.Bytes.{rowsOf, rowAt}
 use Rattle.sheet.specs.Check.{refuse, _then_}
 use Rattle.sheet.specs.Sheet.{sheetCheck}
 use Rattle.sheet.proofs.Checks.{then-pass, refuse-pass}
-use Rattle.inventory.specs.ReportCall.{written, ReportAnswer}
-use Rattle.inventory.proofs.CallConditions.{allowed}
+use Rattle.sheet.specs.Versions.{hasManyRows}
+use Rattle.sheet.specs.Counts.{countsOf}
+use Rattle.sheet.proofs.Accepted.{Bytes}
+use Rattle.report_words.specs.Report.{report}
+use Rattle.inventory.specs.ReportCall.{reportCheck, written}
+use Rattle.inventory.proofs.ReportPromise.{report-answer}
 use Rattle.ledger.specs.declared.Call.{Call}
 use Rattle.ledger.specs.declared.Call.the-variants.{Arrival}
-use Rattle.ledger.specs.Ledger.{sheetAfter, wordsAfter, ChangeAnswer}
-use Rattle.ledger.specs.Ledger as bare
-use Rattle.ledger.proofs.Kept.{answer-open}
+use Rattle.ledger.specs.Machine.{wrong}
+use Rattle.ledger.specs.Ledger.{sheetAfter, wordsAfter}
 use Rattle.ledger_calls.proofs.Outcome.{room-left}
 use Rattle.shared_ledger.specs.declared.RowAnswer.{RowAnswer}
 use Rattle.shared_ledger.specs.declared.TotalsAnswer.{TotalsAnswer}
@@ -61,11 +64,20 @@ module _ (s owners w : List ℕ) where
         absurd (let z : _≡_ {A = ℕ} 0 1 = cc (h, passes) in omega arith);
   }
 
-  pub open-done : {r a : Check} {w' : List ℕ} → r ≡ sharedCheck s owners (length w) → r ≡ Pass → ReportAnswer s w w' a → OpenAnswer s owners w w' a
-  open-done {r} {a} e h done =
-      let c : sharedCheck s owners (length w) ≡ Pass = sym e ∙ h in
-      let same : a ≡ sharedCheck s owners (length w) = done .answer-is ∙ shared-report s owners (length w) c ∙ sym c in
-      record { answer-is = same; words-are = done .words-are; says = rw same (shared-says s owners (length w)); promise = done .promise }
+  pub open-passed : {r : Check} → r ≡ sharedCheck s owners (length w) → r ≡ Pass → reportCheck s (length w) ≡ Pass
+  open-passed e h = shared-report s owners (length w) (sym e ∙ h)
+
+  pub open-done : {r : Check} {w' : List ℕ} → Bytes s → r ≡ sharedCheck s owners (length w) → r ≡ Pass → w' ≡ written Pass (report s) w
+      → OpenAnswer s owners w w' r
+  open-done {r} {w'} bytes e h done =
+      let words-are : w' ≡ written r (report s) w = rw h done in
+      let passed : r ≡ reportCheck s (length w) = h ∙ sym (open-passed e h) in
+      record {
+        answer-is = e;
+        words-are = words-are;
+        says = rw e (shared-says s owners (length w));
+        promise = report-answer bytes passed words-are .promise;
+      }
 
 -- A change.
 module _ (s owners w : List ℕ) (who : ℕ) (call : Call) where
@@ -73,18 +85,21 @@ module _ (s owners w : List ℕ) (who : ℕ) (call : Call) where
   unfolding sheetAfter wordsAfter
   change-refused {r} {n} {p} e h = record { answer-is = e; sheet-is = rw h refl; words-are = rw h refl; says = rw e (change-says s owners (length w) who call) }
 
-  -- what passes here, passes the ledger's own check
-  own : changeCheck s owners (length w) who call ≡ Pass → bare.changeCheck s (length w) call ≡ Pass
-  own c =
-      let met = change-passed s owners (length w) who call c in
-      answer-open s (length w) call (shared-report s owners (length w) (met .shared)) ∙ sym (allowed 29 0 (met .right))
+  -- what passes here, the ledger itself allows
+  pub change-allowed : {r : Check} → r ≡ changeCheck s owners (length w) who call → r ≡ Pass
+      → (reportCheck s (length w) ≡ Pass) × (wrong (hasManyRows s) (countsOf s) call ≡ false)
+  change-allowed e h =
+      let met = change-passed s owners (length w) who call (sym e ∙ h) in
+      (shared-report s owners (length w) (met .shared), met .right)
 
-  pub change-done : {r a : Check} {s' w' : List ℕ} → r ≡ changeCheck s owners (length w) who call → r ≡ Pass → ChangeAnswer s w call s' w' a
-      → SharedChange s owners w who call s' w' a
-  change-done {r} {a} e h done =
-      let c : changeCheck s owners (length w) who call ≡ Pass = sym e ∙ h in
-      let same : a ≡ changeCheck s owners (length w) who call = done .answer-is ∙ own c ∙ sym c in
-      record { answer-is = same; sheet-is = done .sheet-is; words-are = done .words-are; says = rw same (change-says s owners (length w) who call) }
+  pub change-done : {r : Check} {s' w' : List ℕ} → r ≡ changeCheck s owners (length w) who call → r ≡ Pass → s' ≡ sheetAfter Pass s call
+      → w' ≡ wordsAfter Pass s' call w → SharedChange s owners w who call s' w' r
+  change-done {r} {s'} {w'} e h sheet words = record {
+    answer-is = e;
+    sheet-is = rw h sheet;
+    words-are = rw h words;
+    says = rw e (change-says s owners (length w) who call);
+  }
 
 -- A read of a row.
 module _ (s owners w : List ℕ) (who i : ℕ) where

@@ -8,8 +8,9 @@ use fields::refusal::or_else;
 use fields::refusal::when;
 use fields::rows_of;
 use fields::vehicles_of;
-use inventory::report;
+use inventory::write_report;
 use ledger::Call;
+use ledger_calls::apply;
 use ledger_calls::call_wrong;
 use ledger_calls::row_named;
 use shared_ledger::RowAnswer;
@@ -34,7 +35,8 @@ pub fn open(s: &[u8], owners: &[u8], words: &mut [u64]) -> Check
     if let Check::Refused(_, _) = check {
         return check;
     }
-    report(s, words)
+    write_report(s, words);
+    check
 }
 
 // Who owns a row, 0 where there is no such row.
@@ -86,7 +88,8 @@ pub fn change(s: &mut [u8], owners: &[u8], words: &mut [u64], who: u64, call: Ca
     if let Check::Refused(_, _) = check {
         return check;
     }
-    ledger_calls::change(s, words, call)
+    apply(s, words, call);
+    check
 }
 
 // Vehicles arrive at a row.

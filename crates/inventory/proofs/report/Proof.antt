@@ -3,10 +3,8 @@
 use mathlib.Core.Path.{refl, sym, _∙_}
 use borrow.Author.Needs.{needs}
 use Rattle.sheet.proofs.Accepted.{Bytes}
-use Rattle.report_words.specs.Report.{reportLength}
 use Rattle.inventory.specs.ReportCall.{written}
-use Rattle.inventory.proofs.CallConditions.{report-accepted, report-sheet}
-use Rattle.inventory.proofs.ReportPromise.{report-answer, report-written}
+use Rattle.inventory.proofs.ReportPromise.{report-answer}
 use Rattle.inventory.proofs.report.Statement.{statement}
 use Rattle.inventory.proofs.report.Tie as tie
 
@@ -21,17 +19,13 @@ returns c =
     report-answer (bytes check) (check .report-check .ensures) (rw (c .enum-told .given .1) refl)
 
 write-report-requires : tie.Need-write-report-requires
-unfolding reportLength
-write-report-requires c κs =
-    let check = c .before .before .before in
-    let passes = sym (check .report-check .ensures) ∙ c .before .enum-told2 .given .1 in
-    (report-sheet _ _ passes, report-accepted _ _ passes .1)
+write-report-requires c κs = sym (c .before .before .before .report-check .ensures) ∙ c .before .enum-told2 .given .1
 
 returns-2 : tie.Need-returns-2
 returns-2 c =
     let check = c .before .before .before .before .before .before in
     report-answer (bytes check) (check .report-check .ensures)
-    (rw (c .before .before .before .before .enum-told2 .given .1) (c .before .before .write-report .ensures ∙ report-written _ _))
+    (rw (c .before .before .before .before .enum-told2 .given .1) (c .before .before .write-report .ensures))
 
 pub report-spec : {M : Type 1} → statement M
 report-spec =
