@@ -4,37 +4,23 @@ use fields::COUNTS;
 use fields::DURATIONS_START;
 use fields::GRID_START;
 use fields::HOURS_START;
+use fields::counts_total;
 use fields::has_grid;
 use fields::limits::COUNTS_LIMIT;
 use fields::limits::GRID_LIMIT;
 use fields::refusal::or_else;
 use fields::refusal::outside;
 use fields::refusal::when;
-use fields::u16_at;
 use sheet::Check;
 ghost use mathlib.Core.Path.{_≡_};
-ghost use Prim.Native.Nat.{_+_, _*_, _≤_};
+ghost use Prim.Native.Nat.{_≤_};
 ghost use lib.ListN.{length};
 ghost use Rattle.exact.specs.Factors.{total};
 ghost use Rattle.sheet.specs.Limits.{countsLimit, gridLimit};
 ghost use Rattle.sheet.specs.Versions.{seasonsStart};
-ghost use Rattle.sheet.specs.Bytes.{countsAt, durationCounts, hourCounts, gridCounts};
+ghost use Rattle.sheet.specs.Bytes.{durationCounts, hourCounts, gridCounts};
 ghost use Rattle.sheet.specs.Check.{refuse, _then_};
 ghost use Rattle.sheet.specs.Sheet.{outside, parkingCheck};
-
-// The sum of the n counts that start at p.
-fn counts_total(s: &[u8], p: usize, n: usize) -> u64
-    requires { ⌜ (p + 2 * n ≤ length (now s)) × (n ≤ 576) ⌝ }
-    ensures { λ r. ⌜ r ≡ total (countsAt (now (s .entry)) p n) ⌝ }
-{
-    let mut sum: u64 = 0;
-    let mut i: usize = 0;
-    while i < n {
-        sum += u16_at(s, p + 2 * i);
-        i += 1;
-    }
-    sum
-}
 
 // The sum of each list is 1 to 1,000.
 fn lists_check(s: &[u8]) -> Check

@@ -4,6 +4,7 @@ use exact::Equipment;
 use exact::Row;
 use exact::Season;
 use fields::classes::halves;
+use fields::classes::no_canister;
 use fields::equipment_at;
 use fields::has_many_rows;
 use fields::has_mileage;
@@ -37,7 +38,7 @@ ghost use Rattle.sheet.specs.Versions.{hasMileage, hasManyRows};
 ghost use Rattle.sheet.specs.Bytes.{seasonsOf, rowsOf, rowPlace, equipmentAt};
 ghost use Rattle.sheet.specs.Check.{refuse, _then_, each};
 ghost use Rattle.sheet.specs.Sheet.{isAbsent, codeWrong, percentWrong, loadWrong};
-ghost use Rattle.sheet.specs.Sheet.{saturationAbove, someSeason, noCanister, mileageWrong, vehiclesBefore, rowCheck};
+ghost use Rattle.sheet.specs.Sheet.{saturationAbove, someSeason, mileageWrong, vehiclesBefore, rowCheck};
 ghost use Rattle.sheet.specs.Range.{SeasonInRange};
 ghost use Rattle.checks.specs.Passed.{SeasonsPassed};
 
@@ -108,18 +109,6 @@ fn saturated(s: &[u8], limit: u64, canister: Canister, saturation: u64) -> bool
         i += 1;
     }
     wrong
-}
-
-// No canister counts for the row.
-fn no_canister(canister: Canister) -> bool
-    ensures { λ r. ⌜ r ≡ noCanister canister ⌝ }
-{
-    match canister {
-        Canister::None => true,
-        Canister::Small => false,
-        Canister::Medium => false,
-        Canister::Large => false,
-    }
 }
 
 // A mileage above the limit, or one with no canister, beside a load, or where a + b·s·m_sat is above 0 in some season.

@@ -4,10 +4,10 @@ use fields::COUNTS;
 use fields::DURATIONS_START;
 use fields::GRID_START;
 use fields::HOURS_START;
+use fields::counts_total;
 use fields::has_grid;
 use fields::limits::COUNTS_LIMIT;
 use fields::limits::GRID_LIMIT;
-use fields::u16_at;
 use finding_lines::judge;
 use finding_lines::or_else;
 use findings::Field;
@@ -16,26 +16,10 @@ use findings::Limits;
 use findings::Rule;
 use findings::Site;
 ghost use mathlib.Core.Path.{_≡_};
-ghost use Prim.Native.Nat.{_+_, _*_, _≤_};
+ghost use Prim.Native.Nat.{_≤_};
 ghost use lib.ListN.{length};
-ghost use Rattle.exact.specs.Factors.{total};
 ghost use Rattle.sheet.specs.Versions.{seasonsStart};
-ghost use Rattle.sheet.specs.Bytes.{countsAt};
 ghost use Rattle.findings.specs.Table.{listsFinding, gridFinding, parkingFinding};
-
-// The sum of the n counts that start at p.
-fn counts_total(s: &[u8], p: usize, n: usize) -> u64
-    requires { ⌜ (p + 2 * n ≤ length (now s)) × (n ≤ 576) ⌝ }
-    ensures { λ r. ⌜ r ≡ total (countsAt (now (s .entry)) p n) ⌝ }
-{
-    let mut sum: u64 = 0;
-    let mut i: usize = 0;
-    while i < n {
-        sum += u16_at(s, p + 2 * i);
-        i += 1;
-    }
-    sum
-}
 
 // The sum of each list.
 fn lists_finding(s: &[u8]) -> Finding

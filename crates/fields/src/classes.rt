@@ -6,6 +6,7 @@ ghost use Prim.Native.Nat.{_*_, _≤_};
 ghost use Rattle.exact.specs.Classes.{smallFirst, mediumFirst, without, alwaysSmall, atTechnology, equipment};
 ghost use Rattle.sheet.specs.Bytes.{fittedCanister, fittedTank, canisterOf, tankOf};
 ghost use Rattle.sheet.specs.Range.{halves};
+ghost use Rattle.sheet.specs.Sheet.{noCanister};
 
 // Classes 1, 2 and 4, by technology.
 fn small_first(litres: u64, technology: u64) -> Equipment
@@ -135,5 +136,17 @@ pub fn halves(canister: Canister) -> u64
         Canister::Small => 4,
         Canister::Medium => 2,
         Canister::Large => 1,
+    }
+}
+
+// No canister counts for the row.
+pub fn no_canister(canister: Canister) -> bool
+    ensures { λ r. ⌜ r ≡ noCanister canister ⌝ }
+{
+    match canister {
+        Canister::None => true,
+        Canister::Small => false,
+        Canister::Medium => false,
+        Canister::Large => false,
     }
 }

@@ -17,6 +17,9 @@ ghost use Rattle.sheet.specs.Versions.{versionOf, hasGrid, hasMileage, hasManyR
 ghost use Rattle.sheet.specs.Bytes.{seasonsOf, rowsOf, countsAt, durationCounts, hourCounts, gridCounts};
 ghost use Rattle.sheet.specs.Bytes.{seasonPlace, rowPlace, seasonFrom, seasonAt, equipmentAt, canisterOf, tankOf, rowFrom, rowAt};
 ghost use Rattle.sheet.specs.Range.{warmth};
+ghost use Rattle.sheet.specs.declared.Check.the-variants.{Pass};
+ghost use Rattle.sheet.specs.Sheet.{vehiclesBefore, sheetCheck};
+ghost use Rattle.exact.specs.Factors.{total};
 
 pub mod classes;
 pub mod limits;
@@ -152,6 +155,20 @@ pub fn rows_of(s: &[u8]) -> usize
     } else {
         u8_at(s, 6) as usize
     }
+}
+
+// The sum of the n counts that start at p.
+pub fn counts_total(s: &[u8], p: usize, n: usize) -> u64
+    requires { ⌜ (p + 2 * n ≤ length (now s)) × (n ≤ 576) ⌝ }
+    ensures { λ r. ⌜ r ≡ total (countsAt (now (s .entry)) p n) ⌝ }
+{
+    let mut sum: u64 = 0;
+    let mut i: usize = 0;
+    while i < n {
+        sum += u16_at(s, p + 2 * i);
+        i += 1;
+    }
+    sum
 }
 
 // The list of counts that starts at p.
@@ -310,4 +327,19 @@ pub fn vehicles_of(s: &[u8], i: usize) -> u64
     ensures { λ r. ⌜ (r ≡ (rowAt (now (s .entry)) i) .vehicles) × (r < 2 ^ 32) ⌝ }
 {
     u32_at(s, row_place(s, i) + 8)
+}
+
+// The vehicles of all rows.
+pub fn fleet_of(s: &[u8]) -> u64
+    requires { ⌜ sheetCheck (now s) ≡ Pass ⌝ }
+    ensures { λ r. ⌜ (r ≡ vehiclesBefore (now (s .entry)) (rowsOf (now (s .entry)))) × (r ≤ 320000000) ⌝ }
+{
+    let rows = rows_of(s);
+    let mut fleet: u64 = 0;
+    let mut i: usize = 0;
+    while i < rows {
+        fleet += vehicles_of(s, i);
+        i += 1;
+    }
+    fleet
 }

@@ -1,4 +1,5 @@
 // The ledger's calls: vehicles arrive at a row or depart from it, and the report is kept in step. The caller lends the sheet and the words.
+use fields::fleet_of;
 use fields::has_many_rows;
 use fields::limits::FLEET_LIMIT;
 use fields::limits::VEHICLES_LIMIT;
@@ -26,21 +27,6 @@ ghost use Rattle.ledger.specs.declared.Call.the-variants.{Arrival, Departure};
 ghost use Rattle.ledger.specs.Machine.{rowOf, past, wrong, newCount};
 ghost use Rattle.inventory.specs.ReportCall.{reportCheck};
 ghost use Rattle.ledger.specs.Ledger.{sheetAfter, wordsAfter, ChangeAnswer};
-
-// The vehicles of all rows.
-pub fn fleet_of(s: &[u8]) -> u64
-    requires { ⌜ sheetCheck (now s) ≡ Pass ⌝ }
-    ensures { λ r. ⌜ (r ≡ total (countsOf (now (s .entry)))) × (r ≤ 320000000) ⌝ }
-{
-    let rows = rows_of(s);
-    let mut fleet: u64 = 0;
-    let mut i: usize = 0;
-    while i < rows {
-        fleet += vehicles_of(s, i);
-        i += 1;
-    }
-    fleet
-}
 
 // So many more would be too many together, where the sheet may have many rows.
 fn fleet_past(s: &[u8], count: u64) -> bool

@@ -5,6 +5,7 @@ use checks::check_sheet;
 use checks::head::mark_check;
 use fields::GRID_START;
 use fields::ROW_BYTES;
+use fields::fleet_of;
 use fields::limits::FLEET_LIMIT;
 use fields::limits::MANY_ROWS_LIMIT;
 use fields::row_place;
@@ -15,12 +16,11 @@ use fields::version_of;
 use pooling::PoolAnswer;
 use sheet::Check;
 ghost use mathlib.Core.Path.{_≡_};
-ghost use Prim.Native.Nat.{_+_, _*_, _^_, _≤_};
+ghost use Prim.Native.Nat.{_+_, _*_, _≤_};
 ghost use lib.ListN.{length};
 ghost use Rattle.sheet.specs.declared.Check.the-variants.{Pass};
 ghost use Rattle.sheet.specs.Bytes.{rowsOf};
 ghost use Rattle.sheet.specs.Check.{each};
-ghost use Rattle.sheet.specs.Sheet.{vehiclesBefore};
 ghost use Rattle.pooling.specs.Pool.{regionCheck, someDiffers, differ, pairCheck};
 ghost use Rattle.pooling.specs.PoolCall.{poolAnswer};
 ghost use Rattle.pooling.specs.Late.{Regions, fleetCheck, lateCheck};
@@ -65,21 +65,6 @@ fn differ(a: &[u8], b: &[u8]) -> bool
         return true;
     }
     bytes_differ(a, b, row_place(a, 0) - GRID_START)
-}
-
-// The vehicles of all rows.
-fn fleet_of(s: &[u8]) -> u64
-    requires { ⌜ regionCheck (now s) ≡ Pass ⌝ }
-    ensures { λ r. ⌜ (r ≡ vehiclesBefore (now (s .entry)) (rowsOf (now (s .entry)))) × (r ≤ 1000 * 2 ^ 32) ⌝ }
-{
-    let n = rows_of(s);
-    let mut vehicles: u64 = 0;
-    let mut i: usize = 0;
-    while i < n {
-        vehicles += vehicles_of(s, i);
-        i += 1;
-    }
-    vehicles
 }
 
 // Number 26 at the rows of the second sheet, one after another; each stands behind all rows of the first.

@@ -1,6 +1,6 @@
 // Each row: numbers 13 to 21, 25 and 26.
-use exact::Canister;
 use exact::Row;
+use fields::classes::no_canister;
 use fields::has_many_rows;
 use fields::has_mileage;
 use fields::limits::FLEET_LIMIT;
@@ -30,7 +30,7 @@ ghost use mathlib.Core.Path.{_≡_};
 ghost use Prim.Native.Nat.{_+_, _^_, _<_, _≤_};
 ghost use lib.ListN.{length};
 ghost use Rattle.sheet.specs.Bytes.{rowsOf, rowPlace};
-ghost use Rattle.sheet.specs.Sheet.{noCanister, vehiclesBefore};
+ghost use Rattle.sheet.specs.Sheet.{vehiclesBefore};
 ghost use Rattle.checks.specs.Passed.{SeasonsPassed};
 ghost use Rattle.findings.specs.Lines.{eachFinding};
 ghost use Rattle.findings.specs.Table.{lastTechnology, classFinding, percentFinding, fleetFinding, useFinding, loadFinding};
@@ -51,18 +51,6 @@ fn last_technology(class: u64) -> u64
         return 5;
     }
     if class <= 8 { 3 } else { 2 }
-}
-
-// No canister counts for the row.
-fn no_canister(canister: Canister) -> bool
-    ensures { λ r. ⌜ r ≡ noCanister canister ⌝ }
-{
-    match canister {
-        Canister::None => true,
-        Canister::Small => false,
-        Canister::Medium => false,
-        Canister::Large => false,
-    }
 }
 
 // Numbers 13 and 14 of row i, which starts at p.

@@ -3,11 +3,12 @@
 use borrow.Author.Needs.{needs}
 use native.Mathlib.Omega.{arith}
 use Rattle.sheet.proofs.Places.{parking-there}
+use Rattle.ledger.proofs.Counts.{total-counts}
 use Rattle.ledger_calls.proofs.fleet_past.Statement.{statement}
 use Rattle.ledger_calls.proofs.fleet_past.Tie as tie
 
 returns : tie.Need-returns
-returns c = cc (c .fleet-of .ensures .0, c .before .has-many-rows .ensures)
+returns c = cc (c .fleet-of .ensures .0, total-counts _, c .before .has-many-rows .ensures)
 
 pub fleet-past-spec : {M : Type 1} → statement M
 fleet-past-spec =

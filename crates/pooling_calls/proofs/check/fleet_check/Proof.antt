@@ -62,7 +62,7 @@ fleet-check-spec =
     Inv-loop
     μ-loop
     (λ c κs. omega (arith, length-is (region _ (c .before .before .pre .second))))
-    (λ c κs. c .before .before .before .pre .first)
+    (λ c κs. region _ (c .before .before .before .pre .first) .passed)
     (λ c. (search needs, each-none _, omega (arith, vehicles-none (c .before .before .before .before .args .b .now)), omega arith))
     (λ c κs. let r = region _ (c .before .before .before .before .before .before .pre .second) in omega (arith, length-is r, start r))
     (λ c.

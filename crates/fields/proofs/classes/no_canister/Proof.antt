@@ -1,9 +1,9 @@
--- `row_findings::no_canister` meets its contract.
+-- `fields::classes::no_canister` meets its contract.
 -- Assumes nothing.
 use borrow.Author.Needs.{needs}
 use Rattle.sheet.specs.Sheet.{noCanister}
-use Rattle.row_findings.proofs.no_canister.Statement.{statement}
-use Rattle.row_findings.proofs.no_canister.Tie as tie
+use Rattle.fields.proofs.classes.no_canister.Statement.{statement}
+use Rattle.fields.proofs.classes.no_canister.Tie as tie
 
 returns : tie.Need-returns
 unfolding noCanister

@@ -1,6 +1,6 @@
--- `ledger_calls::fleet_of` meets its contract: the sum is that of the first i rows.
+-- `fields::fleet_of` meets its contract: the sum is that of the first i rows.
 -- Assumes nothing.
-use mathlib.Core.Path.{_≡_, sym, _∙_}
+use mathlib.Core.Path.{_≡_, ap, _∙_}
 use Prim.Native.Nat.{_+_, _-_, _≤_}
 use borrow.Author.Needs.{needs}
 use native.Mathlib.Omega.{arith}
@@ -9,9 +9,8 @@ use Rattle.sheet.specs.Sheet.{vehiclesBefore}
 use Rattle.sheet.proofs.Accepted.{accepted}
 use Rattle.sheet.proofs.Fleet.{vehicles-none, vehicles-more, vehicles-most}
 use Rattle.sheet.proofs.Places.{parking-there, row-there}
-use Rattle.ledger.proofs.Counts.{total-counts}
-use Rattle.ledger_calls.proofs.fleet_of.Statement.{statement}
-use Rattle.ledger_calls.proofs.fleet_of.Tie as tie
+use Rattle.fields.proofs.fleet_of.Statement.{statement}
+use Rattle.fields.proofs.fleet_of.Tie as tie
 
 abbrev Inv-loop : tie.InvT-loop
 Inv-loop s rows fleet₀ i₀ fleet i = (i ≤ rows) × (fleet ≡ vehiclesBefore s i)
@@ -38,7 +37,7 @@ returns c =
     let start = c .before .before .before .before in
     let s = start .args .s .now in
     let all : l .i ≡ rowsOf s = omega (arith, c .before .before .rows-of .ensures .0) in
-    (l .inv .1 ∙ rw all (sym (total-counts s)), omega (arith, vehicles-most (accepted s (start .pre)) (l .i) (omega arith)))
+    (l .inv .1 ∙ ap (vehiclesBefore s) all, omega (arith, vehicles-most (accepted s (start .pre)) (l .i) (omega arith)))
 
 pub fleet-of-spec : {M : Type 1} → statement M
 fleet-of-spec =

@@ -1,4 +1,4 @@
--- `checks::parking::counts_total` meets its contract: the sum so far and that of the counts left are the whole.
+-- `fields::counts_total` meets its contract: the sum so far and that of the counts left are the whole.
 -- Assumes nothing.
 use mathlib.Core.Path.{_≡_, ap}
 use Prim.Native.Nat.{_+_, _*_, _-_, _≤_}
@@ -7,8 +7,8 @@ use native.Mathlib.Omega.{arith}
 use Rattle.exact.specs.Factors.{total}
 use Rattle.sheet.specs.Bytes.{countsAt}
 use Rattle.sheet.proofs.Counts.{left, left-all, added-more, added-all}
-use Rattle.checks.proofs.parking.counts_total.Statement.{statement}
-use Rattle.checks.proofs.parking.counts_total.Tie as tie
+use Rattle.fields.proofs.counts_total.Statement.{statement}
+use Rattle.fields.proofs.counts_total.Tie as tie
 
 abbrev Inv-loop : tie.InvT-loop
 Inv-loop s p n sum₀ i₀ sum i =
