@@ -54,18 +54,21 @@ marks-ready {season} s m e =
     (record { season-in = s; marks-are = m }, e ∙ same)
 
 -- season j of the sheet, with its means
-pub season-lent : {s tables grid rises list : List ℕ} {season : Season} {marks : Marks} {at : AtSeason} {j : ℕ} → Bytes s → SheetLent s tables grid
-    → j < seasonsOf s → season ≡ seasonAt s j → MarksReady season marks × (rises ≡ risesOf season) → ListReady (cellsIn grid) rises list
-    → AtSeasonOf season marks (cellsIn grid) at → SeasonLent s tables grid list at
-season-lent {s} bytes l there e m k a =
+pub season-lent : {s tables grid : List ℕ} {season : Season} {marks : Marks} {at : AtSeason} {j : ℕ} → Bytes s → SheetLent s tables grid
+    → j < seasonsOf s → season ≡ seasonAt s j → MarksReady season marks → AtSeasonOf season marks (cellsIn grid) at → SeasonLent s tables grid at
+season-lent {s} bytes l there e m a =
     record {
       sheet = l;
       lent = record {
         tables-are = l .tables-are;
         grid-ready = l .grid-ready;
-        marks-ready = rw (a .season-is, a .marks-are) (m .0);
-        list-ready = rw (a .season-is, ← (m .1)) k;
+        marks-ready = rw (a .season-is, a .marks-are) m;
         means-are = rw (a .season-is) (a .means-are);
       };
       rows-in = λ i row. rw (a .season-is, e) (row-in-range bytes (accepted s (l .passes)) row there);
     }
+
+-- and the list of its parkings
+pub season-listed : {cells rises list counts : List ℕ} {season : Season} {marks : Marks} {at : AtSeason} → rises ≡ risesOf season
+    → AtSeasonOf season marks counts at → ListReady cells rises list → ListReady cells (risesOf (at .season)) list
+season-listed e a k = rw (a .season-is, ← e) k

@@ -2,6 +2,8 @@
 use crate::kept::row_kept;
 use crate::parkings::sheet_grid;
 use bounds::exp::tables;
+use exact::Canister;
+use fields::classes::halves;
 use fields::row_at;
 use fields::season_at;
 use marks::at_marks;
@@ -13,11 +15,25 @@ ghost use mathlib.Core.Path.{_≡_};
 ghost use Prim.Native.Nat.{_<_};
 ghost use Rattle.breakthrough.specs.Curves.{KeptOf};
 ghost use Rattle.masses.specs.Day.{UnitsInRange};
+ghost use Rattle.parking.specs.Grid.{cellsIn, GridReady};
+ghost use Rattle.parking.specs.SeasonList.{ListReady};
 ghost use Rattle.row_factors.specs.Seven.{sevenUnits};
 ghost use Rattle.sheet.specs.declared.Check.the-variants.{Pass};
 ghost use Rattle.sheet.specs.Bytes.{seasonsOf, rowsOf, cellsOf, seasonAt, rowAt};
+ghost use Rattle.sheet.specs.Range.{halves};
 ghost use Rattle.sheet.specs.Sheet.{sheetCheck};
 ghost use Rattle.report_words.specs.Years.{SheetLent};
+
+// The list of a season's parkings for a row with a canister. Without one nothing reads it, and none is made.
+fn list_for(grid: &[u64; 627], rises: &[u64; 576], canister: Canister) -> [u64; 1732]
+    requires { ⌜ GridReady (now grid) ⌝ }
+    ensures { λ r. ⌜ (0 < halves canister → ListReady (cellsIn (now (grid .entry))) (now (rises .entry)) r) ⌝ }
+{
+    if halves(canister) == 0 {
+        return [0u64; 1732];
+    }
+    list_of(grid, rises)
+}
 
 // With the tables, the grid and what the row's canister keeps of its load, in units of 2^-28 g.
 pub fn units_with(
@@ -35,9 +51,11 @@ pub fn units_with(
     let season = season_at(s, season);
     let marks = at_marks(tables, season);
     let rises = rises(&marks.step);
-    let list = list_of(grid, &rises);
+    let row = row_at(s, row);
+    let canister = row.canister;
+    let list = list_for(grid, &rises, canister);
     let at = at_season(grid, &rises, season, marks);
-    row_units(tables, grid, &list, at, row_at(s, row), kept)
+    row_units(tables, grid, &list, at, row, kept)
 }
 
 // The same from the sheet alone.

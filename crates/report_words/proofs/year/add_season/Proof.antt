@@ -4,7 +4,7 @@ use Rattle.sheet.specs.Range.{SeasonInRange}
 use Rattle.row_factors.specs.Season.{MarksReady, risesOf}
 use Rattle.sheet.proofs.Accepted.{Bytes, accepted}
 use Rattle.report_words.proofs.Places.{season-there}
-use Rattle.report_words.proofs.SeasonWork.{steps-most, marks-ready, season-lent}
+use Rattle.report_words.proofs.SeasonWork.{steps-most, marks-ready, season-lent, season-listed}
 use Rattle.report_words.proofs.SeasonWords.{season-fits, season-stored}
 use borrow.Author.Needs.{needs}
 use Rattle.report_words.proofs.year.add_season.Statement.{statement}
@@ -38,9 +38,9 @@ add-rows-requires c κs =
     let p = start .pre in
     let x = start .args in
     let s = x .s .now in
-    let l = season-lent (bytes (d .before)) (p .0) (p .1) (d .season-at .ensures .0) (ready w) (k .list-of .ensures) (a .at-season .ensures) in
+    let l = season-lent (bytes (d .before)) (p .0) (p .1) (d .season-at .ensures .0) (ready w .0) (a .at-season .ensures) in
     let fits = season-fits s (x .words .now) (x .j) (p .2 .words-are) (bytes (d .before)) (accepted s (p .0 .passes)) (p .1) in
-    (l, p .2 .room, rw (a .at-season .ensures .season-is, d .season-at .ensures .0) fits, p .3)
+    (l, season-listed (ready w .1) (a .at-season .ensures) (k .list-of .ensures), p .2 .room, rw (a .at-season .ensures .season-is, d .season-at .ensures .0) fits, p .3)
 
 returns : tie.Need-returns
 returns c =
