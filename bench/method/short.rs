@@ -1,7 +1,6 @@
 //! The short exponential, of two multiplications, for an exponent in binary; and the step of the library that has it: the
-//! exponents of a row's canister are formed once at each temperature of the day, and what is capped at saturation is
-//! the exponent.
-use crate::canister::Curve;
+//! exponents of a row's canister are formed once at each temperature of the day, what is capped at saturation is
+//! the exponent, and the load of a mileage is found with the same exponential.
 use crate::exponential::{FIVE_14, MIDDLE};
 use crate::masses::Escapes;
 use crate::parkings::{listed, Grid, CELLS, FOLDED};
@@ -57,10 +56,53 @@ pub fn to_binary(x: u64) -> u64 {
 
 /// How far B at the load can be above the computed one, in units of 2^-40 g: with a written load, and with one that is found.
 const WRITTEN_ERROR: u64 = 93_010;
-const DRIVEN_ERROR: u64 = 178_491;
+const DRIVEN_ERROR: u64 = 206_405;
 
 /// More than the cuts of an exponent's parts come to.
 const CUTS: u64 = 1 << 24;
+
+/// Parts of a whole, in which a slope is held.
+const PARTS: u64 = 1 << 19;
+
+/// a + b s m at one temperature of the day: a above -16, and 2 b s, in units of 2^-44.
+#[derive(Clone, Copy)]
+struct Line {
+    base: u64,
+    growth: u64,
+}
+
+impl Line {
+    /// The exponent at a load in units of 2^-40 g, in units of 2^-53 above -16.
+    #[inline(always)]
+    fn at<P: Products>(self, load: u64) -> u64 {
+        (self.base + P::mul(self.growth, load) / 2) << 9
+    }
+
+    /// One of Newton's steps up to the load that is what is kept and what is lost at it.
+    #[inline(always)]
+    fn step<P: Products>(self, saturation: u64, net: u64, load: u64) -> u64 {
+        let lost = short(self.at::<P>(load));
+        let slope = ((self.growth >> 24) * lost) >> 38;
+        let missing = saturation.min(net + (lost << 4)).saturating_sub(load);
+        saturation.min(load + missing * PARTS / (PARTS - slope))
+    }
+}
+
+/// The loads at parking start: written, or found by three steps up from what is kept, each at all temperatures
+/// before the next.
+fn loads<P: Products>(lines: &[Line; FOLDED], row: &Row, net: u64) -> [u64; FOLDED] {
+    if !row.driven() {
+        return [row.load * ONE / 10; FOLDED];
+    }
+    let saturation = row.saturation * ONE / 10;
+    let mut loads = [saturation.min(net); FOLDED];
+    for _ in 0..3 {
+        for (load, line) in loads.iter_mut().zip(lines) {
+            *load = line.step::<P>(saturation, net, *load);
+        }
+    }
+    loads
+}
 
 /// A row's canister at one temperature of the day.
 #[derive(Clone, Copy)]
@@ -76,17 +118,15 @@ struct Span {
 }
 
 impl Span {
-    fn new<P: Products>(a: u64, b: u64, row: &Row, gain: u64, net: u64) -> Self {
-        let curve = Curve::loaded::<P>(a, b, row, net);
-        let (base, growth) = (to_binary(curve.base), to_binary(curve.growth));
-        let exponent_of = |load: u64| (base + P::mul(growth, load) / 2) << 9;
+    fn new<P: Products>(line: Line, row: &Row, gain: u64, load: u64) -> Self {
+        let saturation = row.saturation * ONE / 10;
         let error = if row.driven() { DRIVEN_ERROR } else { WRITTEN_ERROR };
-        let exponent = exponent_of(curve.load);
+        let exponent = line.at::<P>(load);
         Span {
             exponent,
-            last: exponent_of(curve.saturation),
-            reach: P::mul(growth, gain) >> 9,
-            room: curve.saturation + 1 - curve.load,
+            last: line.at::<P>(saturation),
+            reach: P::mul(line.growth, gain) >> 9,
+            room: saturation + 1 - load,
             first: (short(exponent) << 4) + error,
         }
     }
@@ -124,7 +164,10 @@ impl Method for Short {
 
     fn escapes<P: Products>(grid: &Grid<FOLDED>, season: &AtSeason<FOLDED>, row: &Row, gain: u64, net: u64) -> Escapes {
         let (bases, growths) = (season.bases(), season.growths());
-        let spans: [Span; FOLDED] = std::array::from_fn(|i| Span::new::<P>(bases[i], growths[i], row, gain, net));
+        let line = |i: usize| Line { base: to_binary(bases[i]), growth: to_binary(growths[i] * row.halves) };
+        let lines: [Line; FOLDED] = std::array::from_fn(line);
+        let loads = loads::<P>(&lines, row, net);
+        let spans: [Span; FOLDED] = std::array::from_fn(|i| Span::new::<P>(lines[i], row, gain, loads[i]));
         let entries = season.parkings.iter();
         let sum: u64 = entries.map(|entry| entry.count * spans[entry.place].through::<P>(gain, entry.rise)).sum();
         let over = |counts: &[u64; FOLDED], raise: usize| {

@@ -162,11 +162,6 @@ pub exponentialError-most : (last most : ℕ) → last < exponentLimit → expon
     → exponentialError x ≤ most
 exponentialError-most last most h e x l = rw e at (exponentialError-mono l h)
 
--- z ≤ 0
-pub exponentialError-0 : (x : ℕ) → x ≤ 16 * 10 ^ 14 → exponentialError x ≤ 19
-unfolding exponentialError coarse
-exponentialError-0 = exponentialError-most (16 * 10 ^ 14) 19 (omega arith) refl
-
 -- z ≤ 2⁴⁷·10⁻¹⁴, just above 1.4
 pub exponentialError-1·41 : (x : ℕ) → x ≤ 16 * 10 ^ 14 + 2 ^ 47 → exponentialError x ≤ 35
 unfolding exponentialError coarse

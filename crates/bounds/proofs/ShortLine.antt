@@ -10,12 +10,12 @@ use Rattle.numbers.proofs.Order.{≤-trans, ≈-refl, ≈-sym, ≈-trans, +-com
 use Rattle.bounds.specs.Series.{E, two-pos}
 use Rattle.bounds.specs.Enclosure.{Within}
 use Rattle.bounds.specs.Exponential.{exponent}
-use Rattle.bounds.specs.Short.{shortExponent, short, shortLimit, shortError, binary, lineOf, lineExponent, reach}
+use Rattle.bounds.specs.Short.{shortExponent, short, shortLimit, shortError, binary, lineOf, lineExponent, reachOf, reach}
 use Rattle.bounds.proofs.Exponential.{E-mono}
 use Rattle.bounds.proofs.Sums.{E-most-1}
 use Rattle.bounds.proofs.ShortBound.{short-within, shortError-0, shortError-3}
 use Rattle.bounds.proofs.Line.{steep-3, climb-to, within-between, double-unit-pos, rising, along}
-use Rattle.bounds.proofs.Within.{widen, within-≈, ratio-within, +-within, *-within, round-within, div-mono}
+use Rattle.bounds.proofs.Within.{widen, within-≈, within-cross, whole-within, ratio-within, +-within, *-within, round-within, div-mono}
 
 -- x/2⁵³ ≤ z + 16 ≤ (x + w)/2⁵³
 pub record Held (x w : ℕ) (z : Fraction) : Type 0 where
@@ -88,6 +88,15 @@ shortTo0 = record {
   moves = moves-0;
 }
 
+-- an exponent of at most 0
+at-most-0 : (x : ℕ) → x ≤ 16 * 2 ^ 53 → shortExponent x ≤ᶠ whole 0
+unfolding whole
+at-most-0 x h = omega arith
+
+-- the computed E is at most 1 there
+pub short-most-1 : (x : ℕ) → x ≤ 16 * 2 ^ 53 → short x ≤ 2 ^ 36
+short-most-1 x h = within-cross (short-within x (omega arith) .at 40 (omega arith)) (whole-within (2 ^ 36) 1) (E-most-1 40 (at-most-0 x h))
+
 module _ {x w : ℕ} {z : Fraction} (a : Held x w z) where
   -- a held exponent, from below
   pub held-above : shortExponent x ≤ᶠ z
@@ -134,7 +143,7 @@ unfolding binary
 base-cut A = within-≈ (raised-is A) (ratio-within A (10 ^ 14) (ten-pos 14) (omega arith) (omega arith))
 
 -- b, cut
-rising-cut : (K : ℕ) → Within (2 ^ 45) (binary K) 1 (rising K)
+pub rising-cut : (K : ℕ) → Within (2 ^ 45) (binary K) 1 (rising K)
 unfolding binary
 rising-cut K = ratio-within K (2 * 10 ^ 14) double-unit-pos (omega arith) (omega arith)
 
@@ -187,15 +196,18 @@ rise-held {x} {u} {k} {r} {w} R {z} {κ} {ρ} h g hz hk hr =
     record { raised = within-≈ (last-term z (κ *ᶠ ρ) (whole 16)) (+-within (hz .raised) part) }
 
 -- the held exponent grows with m
+pub line-mono : {l m : ℕ} (a k : ℕ) → l ≤ m → lineOf a k l ≤ lineOf a k m
+line-mono a k h = omega (arith, div-mono (2 ^ 41) (omega arith) (mul-le-mul-left k h))
+
 pub lineExponent-mono : {l m : ℕ} (A K : ℕ) → l ≤ m → lineExponent A K l ≤ lineExponent A K m
 unfolding lineExponent
-lineExponent-mono A K h = omega (arith, div-mono (2 ^ 41) (omega arith) (mul-le-mul-left (binary K) h))
+lineExponent-mono A K h = line-mono (binary A) (binary K) h
 
 -- what these are, from a and 2·b in units of 2⁻⁴⁴
 pub lineExponent-is : (A K m : ℕ) → lineExponent A K m ≡ lineOf (binary A) (binary K) m
 unfolding lineExponent
 lineExponent-is A K m = refl
 
-pub reach-is : (K g : ℕ) → reach K g ≡ binary K * g / 2 ^ 49
+pub reach-is : (K g : ℕ) → reach K g ≡ reachOf (binary K) g
 unfolding reach
 reach-is K g = refl

@@ -38,6 +38,10 @@ lineOf a k m = (a + k * m / 2 ^ 41) * 2 ^ 9
 unfoldable pub lineExponent : ℕ → ℕ → ℕ → ℕ
 lineExponent A K m = lineOf (binary A) (binary K) m
 
--- b·g in units of 2⁻³⁶, for g in units of 2⁻⁴⁰
+-- b·g in units of 2⁻³⁶, for 2·b in units of 2⁻⁴⁴ and g in units of 2⁻⁴⁰
+abbrev pub reachOf : ℕ → ℕ → ℕ
+reachOf k g = k * g / 2 ^ 49
+
+-- the same, for 2·b = K in units of 10⁻¹⁴
 unfoldable pub reach : ℕ → ℕ → ℕ
-reach K g = binary K * g / 2 ^ 49
+reach K g = reachOf (binary K) g

@@ -9,14 +9,14 @@ use native.Mathlib.Nat.{mul-le-mul, mul-le-mul-left, mul-le-mul-right, le-dest}
 use Rattle.numbers.specs.Lists.{tab, at}
 use Rattle.numbers.proofs.Lists.{getD-tab, tab-ext, tab-constant, tab-at-most}
 use Rattle.bounds.specs.Weights.{apart, ahead}
-use Rattle.bounds.specs.Short.{short, binary, lineOf, lineExponent, reach}
+use Rattle.bounds.specs.Short.{short, binary, lineOf, lineExponent, reachOf, reach}
 use Rattle.bounds.proofs.ShortBound.{short-size}
-use Rattle.bounds.proofs.ShortLine.{reach-is, reach-most, lineExponent-is, lineExponent-mono}
+use Rattle.bounds.proofs.ShortLine.{binary-size, binary-most, line-mono, lineExponent-is, lineExponent-mono, reach-is}
 use Rattle.exact.specs.declared.Season.{Season}
 use Rattle.exact.specs.declared.Row.{Row}
 use Rattle.sheet.specs.Range.{markWarmth, SeasonInRange, halves, RowInRange}
 use Rattle.factors.specs.Escape.{tenthGrams, loss, drivenError, risenLoss, breakUnits}
-use Rattle.factors.specs.Units.{rowStart, baseAt, growthAt, gain, lossError, throughUnits}
+use Rattle.factors.specs.Units.{baseAt, growthAt, startAt, gain, lossError, throughUnits}
 use Rattle.factors.proofs.Gain.{gain-most}
 use Rattle.factors.proofs.Sizes.{saturation-size, full-exponent-most, driven-exponent-most}
 use Rattle.factors.proofs.Starts.{start-below}
@@ -43,16 +43,15 @@ past-room a k g r m D l h =
     omega (arith, mul-le-mul-right r most, mul-le-mul-left k h)
 
 -- so where the exponent stays below it by more than these, the vapour fits into the room
-room-left : (A K σ m g r : ℕ) → m ≤ σ → r ≤ 72 * 2 ^ 40 → lineExponent A K m + reach K g * r / 2 ^ 23 + 2 ^ 24 < lineExponent A K σ
+room-left : (a k σ m g r : ℕ) → m ≤ σ → r ≤ 72 * 2 ^ 40 → lineOf a k m + reachOf k g * r / 2 ^ 23 + 2 ^ 24 < lineOf a k σ
     → g * r / 2 ^ 40 ≤ σ + 1 - m
-room-left A K σ m g r h l e =
+room-left a k σ m g r h l e =
     let (D, same) = le-dest h in
-    let held = rw (lineExponent-is A K m, lineExponent-is A K σ, reach-is K g) at e in
     elim (decLe (g * r / 2 ^ 40) (σ + 1 - m)) [
       | yes fits ↦ fits
       | no over ↦
           let enough : (D + 2) * 2 ^ 40 ≤ g * r = omega arith in
-          absurd (omega (arith, rw same at (past-room (binary A) (binary K) g r m D l enough)))
+          absurd (omega (arith, rw same at (past-room a k g r m D l enough)))
     ]
 
 -- lists of equal values make equal canisters
@@ -67,26 +66,23 @@ curves-by a k l s v x b = record {
   gain-is = b .gain-is ∙ v;
 }
 
--- The lists of a canister, from those of a and of 2·b·s in units of 2⁻⁴⁴.
-module _ (A K : ℕ → ℕ) {a k : List ℕ} (ea : a ≡ tab (λ (i : ℕ). binary (A i)) 25) (ek : k ≡ tab (λ (i : ℕ). binary (K i)) 25) where
-  pub lines-are : (m : ℕ → ℕ) {xs : List ℕ} → xs ≡ tab (λ (i : ℕ). lineOf (at a i) (at k i) (m i)) 25
-      → xs ≡ tab (λ (i : ℕ). lineExponent (A i) (K i) (m i)) 25
-  lines-are m e =
-      e ∙ tab-ext 25 (λ i h. rw (ea, ek, getD-tab (λ (i : ℕ). binary (A i)) 25 i h, getD-tab (λ (i : ℕ). binary (K i)) 25 i h, lineExponent-is (A i) (K i) (m i)))
-
-  pub reaches-are : (g : ℕ) {xs : List ℕ} → xs ≡ tab (λ (i : ℕ). at k i * g / 2 ^ 49) 25 → xs ≡ tab (λ (i : ℕ). reach (K i) g) 25
-  reaches-are g e = e ∙ tab-ext 25 (λ i h. rw (ek, getD-tab (λ (i : ℕ). binary (K i)) 25 i h, reach-is (K i) g))
-
-  pub firsts-are : (m : ℕ → ℕ) (error : ℕ) {x xs : List ℕ} → x ≡ tab (λ (i : ℕ). lineExponent (A i) (K i) (m i)) 25
-      → xs ≡ tab (λ (i : ℕ). short (at x i) * 2 ^ 4 + error) 25 → xs ≡ tab (λ (i : ℕ). loss (A i) (K i) (m i) + error) 25
-  unfolding loss
-  firsts-are m error ex e = e ∙ tab-ext 25 (λ i h. rw (ex, getD-tab (λ (i : ℕ). lineExponent (A i) (K i) (m i)) 25 i h))
-
 -- one value at every distance
 pub same-at : (σ i : ℕ) → i < 25 → at (replicate 25 σ) i ≡ σ
 same-at σ i h = ap (λ (xs : List ℕ). at xs i) (tab-constant {f = λ (k : ℕ). σ} 25 σ (λ k l. refl)) ∙ getD-tab (λ (k : ℕ). σ) 25 i h
 
 module _ {season : Season} {row : Row} (s : SeasonInRange season) (r : RowInRange season row) (p : 0 < halves (row .canister)) where
+  -- a and 2·b·s, as they are held
+  small-base : (d : ℕ) → basesOf season row d ≤ 3 * 2 ^ 46
+  small-base d = binary-size _ (omega (arith, base-most s r (ahead d)))
+
+  small-growth : (d : ℕ) → growthsOf season row d ≤ 2 ^ 43
+  small-growth d = binary-most _ (growth-most (row .canister) (season .vp) (markWarmth season (ahead d)) (warmth-most (ahead d) s))
+
+  -- the exponent at m_sat is at most 3
+  full-exponent : (d : ℕ) → lineOf (basesOf season row d) (growthsOf season row d) (tenthGrams (row .saturation)) ≤ 19 * 2 ^ 53
+  full-exponent d =
+      rw (lineExponent-is (baseAt season row (ahead d)) (growthAt season row (ahead d)) (tenthGrams (row .saturation))) at (full-exponent-most s r (ahead d))
+
   -- the starting loads can be found
   pub loads-ready : {bases growths : List ℕ} → bases ≡ tab (basesOf season row) 25 → growths ≡ tab (growthsOf season row) 25 → LoadsReady row bases growths
   loads-ready eb eg = record {
@@ -96,10 +92,11 @@ module _ {season : Season} {row : Row} (s : SeasonInRange season) (r : RowInRang
     balanced = λ km net h. record {
       ready = λ d l.
           rw (eb, eg, getD-tab (basesOf season row) 25 d l, getD-tab (growthsOf season row) 25 d l) (record {
-            growth-most = growth-most (row .canister) (season .vp) (markWarmth season (ahead d)) (warmth-most (ahead d) s);
-            saturation-below = omega (arith, saturation-size s r p);
+            base-below = omega (arith, small-base d);
+            growth-most = small-growth d;
+            saturation-below = saturation-size s r p;
             net-below = h;
-            exponent-most = driven-exponent-most s r (ahead d) (omega arith);
+            exponent-most = rw (lineExponent-is (baseAt season row (ahead d)) (growthAt season row (ahead d)) (tenthGrams (row .saturation))) at (driven-exponent-most s r (ahead d) (omega arith));
           });
     };
   }
@@ -114,12 +111,12 @@ module _ {season : Season} {row : Row} (s : SeasonInRange season) (r : RowInRang
       → loads ≡ tab (startsOf season row) 25 → σ ≡ tenthGrams (row .saturation) → g ≡ gain season row → e ≤ drivenError
       → CurvesFit bases growths loads σ g e
   curves-fit eb eg el es ev h = record {
-    bases-most = tab-at-most _ 25 eb (λ d _. omega (arith, base-most s r (ahead d)));
-    growths-most = tab-at-most _ 25 eg (λ d _. growth-most (row .canister) (season .vp) (markWarmth season (ahead d)) (warmth-most (ahead d) s));
+    bases-most = tab-at-most _ 25 eb (λ d _. small-base d);
+    growths-most = tab-at-most _ 25 eg (λ d _. small-growth d);
     loads-most = rw es (tab-at-most _ 25 el (λ d _. start-below row (r .load-most) _ _));
     saturation-most = rw es full-most;
     exponents-most = λ d l.
-        rw (eb, eg, es, getD-tab (basesOf season row) 25 d l, getD-tab (growthsOf season row) 25 d l) (full-exponent-most s r (ahead d));
+        rw (eb, eg, es, getD-tab (basesOf season row) 25 d l, getD-tab (growthsOf season row) 25 d l) (full-exponent d);
     gain-most = rw ev (gain-most s r);
     error-most = h;
   }
@@ -128,28 +125,26 @@ module _ {season : Season} {row : Row} (s : SeasonInRange season) (r : RowInRang
   pub curves-ready : {c : Curves} → CurvesOf season row c → CurvesReady c
   curves-ready {c} f = record {
     ready = λ d h.
-        let A : ℕ = basesOf season row d in
-        let K : ℕ = growthsOf season row d in
+        let a : ℕ = basesOf season row d in
+        let k : ℕ = growthsOf season row d in
         let σ : ℕ = tenthGrams (row .saturation) in
-        let load = start-below row (r .load-most) A K in
-        let exponent : at (c .exponents) d ≡ lineExponent A K (startsOf season row d)
-        = ap (λ (xs : List ℕ). at xs d) (f .by .exponents-are) ∙ getD-tab (λ (i : ℕ). lineExponent (basesOf season row i) (growthsOf season row i) (startsOf season row i)) 25 d h in
-        let last : at (c .lasts) d ≡ lineExponent A K σ
-        = ap (λ (xs : List ℕ). at xs d) (f .by .lasts-are) ∙ getD-tab (λ (i : ℕ). lineExponent (basesOf season row i) (growthsOf season row i) σ) 25 d h in
-        let by : at (c .reaches) d ≡ reach K (gain season row)
-        = ap (λ (xs : List ℕ). at xs d) (f .by .reaches-are) ∙ getD-tab (λ (i : ℕ). reach (growthsOf season row i) (gain season row)) 25 d h in
+        let load = start-below row (r .load-most) a k in
+        let exponent : at (c .exponents) d ≡ lineOf a k (startsOf season row d)
+        = ap (λ (xs : List ℕ). at xs d) (f .by .exponents-are) ∙ getD-tab (λ (i : ℕ). lineOf (basesOf season row i) (growthsOf season row i) (startsOf season row i)) 25 d h in
+        let last : at (c .lasts) d ≡ lineOf a k σ
+        = ap (λ (xs : List ℕ). at xs d) (f .by .lasts-are) ∙ getD-tab (λ (i : ℕ). lineOf (basesOf season row i) (growthsOf season row i) σ) 25 d h in
+        let by : at (c .reaches) d ≡ reachOf k (gain season row)
+        = ap (λ (xs : List ℕ). at xs d) (f .by .reaches-are) ∙ getD-tab (λ (i : ℕ). reachOf (growthsOf season row i) (gain season row)) 25 d h in
         let room : at (c .rooms) d ≡ σ + 1 - startsOf season row d
         = ap (λ (xs : List ℕ). at xs d) (f .by .rooms-are) ∙ getD-tab (λ (i : ℕ). σ + 1 - startsOf season row i) 25 d h in
         record {
-          exponent-below = rw exponent (omega (arith, lineExponent-mono A K load, full-exponent-most s r (ahead d)));
-          last-below = rw last (omega (arith, full-exponent-most s r (ahead d)));
-          reach-most =
-              rw by
-              (reach-most _ _ (growth-most (row .canister) (season .vp) (markWarmth season (ahead d)) (warmth-most (ahead d) s)) (gain-most s r));
+          exponent-below = rw exponent (omega (arith, line-mono a k load, full-exponent d));
+          last-below = rw last (omega (arith, full-exponent d));
+          reach-most = rw by (omega (arith, mul-le-mul (small-growth d) (gain-most s r)));
           gain-most = rw (f .by .gain-is) (gain-most s r);
           room-left = λ rise small below.
               rw (f .by .gain-is, room)
-              (room-left A K σ (startsOf season row d) (gain season row) rise load small (rw (exponent, by, last) at below));
+              (room-left a k σ (startsOf season row d) (gain season row) rise load small (rw (exponent, by, last) at below));
         };
   }
 
@@ -160,16 +155,19 @@ overflow-is m1 v σ h = omega arith
 -- what breaks through, from the canister's values at a distance: that of the mark so far before 14:00
 pub through-is : {season : Season} {row : Row} {c : Curves} → row .load ≤ row .saturation → CurvesOf season row c → (d rise : ℕ) → d < 25
     → through (curveAt c d) rise ≡ throughUnits season row (ahead d) rise
-unfolding through throughUnits breakUnits risenLoss
+unfolding through throughUnits breakUnits risenLoss loss
 through-is {season} {row} {c} l f d rise h =
     let σ : ℕ = tenthGrams (row .saturation) in
-    let first = getD-tab (λ (d : ℕ). loss (basesOf season row d) (growthsOf season row d) (startsOf season row d) + lossError row) 25 d h in
-    let exponent = getD-tab (λ (d : ℕ). lineExponent (basesOf season row d) (growthsOf season row d) (startsOf season row d)) 25 d h in
-    let last = getD-tab (λ (d : ℕ). lineExponent (basesOf season row d) (growthsOf season row d) σ) 25 d h in
-    let by = getD-tab (λ (d : ℕ). reach (growthsOf season row d) (gain season row)) 25 d h in
+    let first = getD-tab (λ (d : ℕ). short (lineOf (basesOf season row d) (growthsOf season row d) (startsOf season row d)) * 2 ^ 4 + lossError row) 25 d h in
+    let exponent = getD-tab (λ (d : ℕ). lineOf (basesOf season row d) (growthsOf season row d) (startsOf season row d)) 25 d h in
+    let last = getD-tab (λ (d : ℕ). lineOf (basesOf season row d) (growthsOf season row d) σ) 25 d h in
+    let by = getD-tab (λ (d : ℕ). reachOf (growthsOf season row d) (gain season row)) 25 d h in
     let room = getD-tab (λ (d : ℕ). σ + 1 - startsOf season row d) 25 d h in
     let over = overflow-is (startsOf season row d) (gain season row * rise / 2 ^ 40) σ (start-below row l _ _) in
-    rw (f .by .exponents-are, f .by .lasts-are, f .by .reaches-are, f .by .rooms-are, f .by .firsts-are, f .by .gain-is, exponent, last, by, room, first, over)
+    let A : ℕ = baseAt season row (ahead d) in
+    let K : ℕ = growthAt season row (ahead d) in
+    rw (lineExponent-is A K (startsOf season row d), lineExponent-is A K σ, reach-is K (gain season row))
+    (rw (f .by .exponents-are, f .by .lasts-are, f .by .reaches-are, f .by .rooms-are, f .by .firsts-are, f .by .gain-is, exponent, last, by, room, first, over))
 
 -- of no rise nothing breaks through
 pub through-none : (season : Season) (row : Row) (i : ℕ) → row .load ≤ row .saturation → throughUnits season row i 0 ≡ 0
@@ -177,8 +175,9 @@ unfolding throughUnits breakUnits risenLoss loss
 through-none season row i l =
     let A : ℕ = baseAt season row i in
     let K : ℕ = growthAt season row i in
-    let below = start-below row l A K in
-    let same : min (lineExponent A K (rowStart row A K) + reach K (gain season row) * 0 / 2 ^ 23) (lineExponent A K (tenthGrams (row .saturation))) ≡ lineExponent A K (rowStart row A K)
+    let m : ℕ = startAt season row i in
+    let below = start-below row l (binary A) (binary K) in
+    let same : min (lineExponent A K m + reach K (gain season row) * 0 / 2 ^ 23) (lineExponent A K (tenthGrams (row .saturation))) ≡ lineExponent A K m
     = omega (arith, lineExponent-mono A K below) in
     rw same (omega (arith, below))
 

@@ -3,15 +3,15 @@ use mathlib.Core.List.{List}
 use mathlib.Core.Path.{_≡_}
 use Prim.Native.Nat.{ℕ, _+_, _*_, _-_, _^_, _≤_, _<_}
 use Rattle.numbers.specs.Lists.{tab, at, AllAtMost}
-use Rattle.bounds.specs.Short.{lineExponent, reach}
+use Rattle.bounds.specs.Short.{short, binary, lineOf, reachOf}
 use Rattle.bounds.specs.Weights.{ahead}
 use Rattle.exact.specs.declared.Season.{Season}
 use Rattle.exact.specs.declared.Row.{Row}
 use Rattle.sheet.specs.Range.{SeasonInRange, markWarmth, halves, RowInRange}
 use Rattle.starting_loads.specs.Net.{netOf}
 use Rattle.starting_loads.specs.Balance.{BalancesReady}
-use Rattle.factors.specs.Escape.{tenthGrams, loss, drivenError}
-use Rattle.factors.specs.Units.{rowStart, lossError, baseAt, growthAt, gain}
+use Rattle.factors.specs.Escape.{tenthGrams, drivenError}
+use Rattle.factors.specs.Units.{lossError, baseAt, growthAt, startAt, gain}
 use Rattle.breakthrough.specs.declared.curves.Curves.{Curves}
 
 -- what a row's canister keeps of its load, from the mileage alone: no season changes it
@@ -26,36 +26,36 @@ pub record LoadsReady (row : Row) (bases growths : List ℕ) : Type 0 where
   pub canister-there : 0 < halves (row .canister)
   pub balanced : 17 ≤ row .mileage → (net : ℕ) → net < 2 ^ 50 → BalancesReady bases growths (tenthGrams (row .saturation)) net
 
--- Values by distance from 14:00 are those of the mark so far before it.
+-- Values by distance from 14:00 are those of the mark so far before it. a and 2·b·s are held in units of 2⁻⁴⁴.
 
 -- the canister whose a, 2·b·s and load at parking start are these
-pub record CurvesBy (A K load : ℕ → ℕ) (saturation gain error : ℕ) (c : Curves) : Type 0 where
-  pub exponents-are : c .exponents ≡ tab (λ (d : ℕ). lineExponent (A d) (K d) (load d)) 25
-  pub lasts-are : c .lasts ≡ tab (λ (d : ℕ). lineExponent (A d) (K d) saturation) 25
-  pub reaches-are : c .reaches ≡ tab (λ (d : ℕ). reach (K d) gain) 25
+pub record CurvesBy (a k load : ℕ → ℕ) (saturation gain error : ℕ) (c : Curves) : Type 0 where
+  pub exponents-are : c .exponents ≡ tab (λ (d : ℕ). lineOf (a d) (k d) (load d)) 25
+  pub lasts-are : c .lasts ≡ tab (λ (d : ℕ). lineOf (a d) (k d) saturation) 25
+  pub reaches-are : c .reaches ≡ tab (λ (d : ℕ). reachOf (k d) gain) 25
   pub rooms-are : c .rooms ≡ tab (λ (d : ℕ). saturation + 1 - load d) 25
-  pub firsts-are : c .firsts ≡ tab (λ (d : ℕ). loss (A d) (K d) (load d) + error) 25
+  pub firsts-are : c .firsts ≡ tab (λ (d : ℕ). short (lineOf (a d) (k d) (load d)) * 2 ^ 4 + error) 25
   pub gain-is : c .gain ≡ gain
 
 -- they are in range: every exponent up to m_sat is at most 3
 pub record CurvesFit (bases growths loads : List ℕ) (saturation gain error : ℕ) : Type 0 where
-  pub bases-most : AllAtMost (10 ^ 15) bases
-  pub growths-most : AllAtMost (22 * 2 ^ 41) growths
+  pub bases-most : AllAtMost (3 * 2 ^ 46) bases
+  pub growths-most : AllAtMost (2 ^ 43) growths
   pub loads-most : AllAtMost saturation loads
   pub saturation-most : saturation ≤ 369 * 2 ^ 40
-  pub exponents-most : (d : ℕ) → d < 25 → lineExponent (at bases d) (at growths d) saturation ≤ 19 * 2 ^ 53
+  pub exponents-most : (d : ℕ) → d < 25 → lineOf (at bases d) (at growths d) saturation ≤ 19 * 2 ^ 53
   pub gain-most : gain ≤ 36 * 2 ^ 40
   pub error-most : error ≤ drivenError
 
 module _ (season : Season) (row : Row) where
   abbrev pub basesOf : ℕ → ℕ
-  basesOf d = baseAt season row (ahead d)
+  basesOf d = binary (baseAt season row (ahead d))
 
   abbrev pub growthsOf : ℕ → ℕ
-  growthsOf d = growthAt season row (ahead d)
+  growthsOf d = binary (growthAt season row (ahead d))
 
   abbrev pub startsOf : ℕ → ℕ
-  startsOf d = rowStart row (basesOf d) (growthsOf d)
+  startsOf d = startAt season row (ahead d)
 
   -- what a canister is fitted from
   pub record FitReady (warmths : List ℕ) (vapour kept : ℕ) : Type 0 where

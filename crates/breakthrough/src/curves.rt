@@ -16,7 +16,7 @@ ghost use Rattle.bounds.specs.Exponential.{entries};
 ghost use Rattle.numbers.specs.Lists.{tab, at, AllAtMost};
 ghost use Rattle.sheet.specs.Limits.{vpLimit};
 ghost use Rattle.sheet.specs.Range.{halves};
-ghost use Rattle.bounds.specs.Short.{short, binary, lineOf};
+ghost use Rattle.bounds.specs.Short.{short, binary, lineOf, reachOf};
 ghost use Rattle.factors.specs.Escape.{base, drivenError};
 ghost use Rattle.breakthrough.specs.Curves.{CurvesFit, CurvesBy, FitReady, CurvesOf};
 
@@ -47,43 +47,29 @@ const TWO_4: u64 = 16;
 
 const TWO_9: u64 = 512;
 
-// a at each distance.
+// a at each distance, in units of 2^-44.
 fn bases(warmths: &[u64; 25], vp: u64) -> [u64; 25]
     requires { ⌜ AllAtMost (80 * 10 ^ 10) (now warmths) × (vp ≤ vpLimit) ⌝ }
-    ensures { λ r. ⌜ r ≡ tab (λ (d : ℕ). base vp (at (now (warmths .entry)) d)) 25 ⌝ }
+    ensures { λ r. ⌜ r ≡ tab (λ (d : ℕ). binary (base vp (at (now (warmths .entry)) d))) 25 ⌝ }
 {
     let mut out = [0u64; 25];
     let mut d: usize = 0;
     while d < 25 {
-        out[d] = BASE + BASE_BY_WARMTH * warmths[d] - BASE_BY_PRESSURE * vp;
+        out[d] = binary(BASE + BASE_BY_WARMTH * warmths[d] - BASE_BY_PRESSURE * vp);
         d += 1;
     }
     out
 }
 
-// 2 b s at each distance, for 2 s = times.
+// 2 b s at each distance, for 2 s = times, in units of 2^-44.
 fn growths(warmths: &[u64; 25], vp: u64, times: u64) -> [u64; 25]
     requires { ⌜ AllAtMost (80 * 10 ^ 10) (now warmths) × (vp ≤ vpLimit) × (times ≤ 4) ⌝ }
-    ensures { λ r. ⌜ r ≡ tab (λ (d : ℕ). (112 * 10 ^ 11 + at (now (warmths .entry)) d - 15 * 10 ^ 8 * vp) * times) 25 ⌝ }
+    ensures { λ r. ⌜ r ≡ tab (λ (d : ℕ). binary ((112 * 10 ^ 11 + at (now (warmths .entry)) d - 15 * 10 ^ 8 * vp) * times)) 25 ⌝ }
 {
     let mut out = [0u64; 25];
     let mut d: usize = 0;
     while d < 25 {
-        out[d] = (GROWTH + warmths[d] - GROWTH_BY_PRESSURE * vp) * times;
-        d += 1;
-    }
-    out
-}
-
-// Units of 10^-14 in units of 2^-44, at each distance.
-fn binaries(xs: &[u64; 25]) -> [u64; 25]
-    requires { ⌜ AllAtMost (10 ^ 15) (now xs) ⌝ }
-    ensures { λ r. ⌜ r ≡ tab (λ (d : ℕ). binary (at (now (xs .entry)) d)) 25 ⌝ }
-{
-    let mut out = [0u64; 25];
-    let mut d: usize = 0;
-    while d < 25 {
-        out[d] = binary(xs[d]);
+        out[d] = binary((GROWTH + warmths[d] - GROWTH_BY_PRESSURE * vp) * times);
         d += 1;
     }
     out
@@ -106,7 +92,7 @@ fn lines(bases: &[u64; 25], growths: &[u64; 25], loads: &[u64; 25]) -> [u64; 25]
 // b s times the gain at each distance, for 2 b s in units of 2^-44, in units of 2^-36.
 fn reaches(growths: &[u64; 25], gain: u64) -> [u64; 25]
     requires { ⌜ AllAtMost (2 ^ 43) (now growths) × (gain ≤ 36 * 2 ^ 40) ⌝ }
-    ensures { λ r. ⌜ r ≡ tab (λ (d : ℕ). at (now (growths .entry)) d * gain / 2 ^ 49) 25 ⌝ }
+    ensures { λ r. ⌜ r ≡ tab (λ (d : ℕ). reachOf (at (now (growths .entry)) d) gain) 25 ⌝ }
 {
     let mut out = [0u64; 25];
     let mut d: usize = 0;
@@ -145,7 +131,7 @@ fn first_losses(tables: &[u64; 1907], exponents: &[u64; 25], error: u64) -> [u64
     out
 }
 
-// The canister whose a, 2 b s and load at parking start are these.
+// The canister whose a, 2 b s and load at parking start are these, the first two in units of 2^-44.
 fn curves_of(
     tables: &[u64; 1907],
     bases: &[u64; 25],
@@ -158,14 +144,12 @@ fn curves_of(
     requires { ⌜ (now tables ≡ entries) × CurvesFit (now bases) (now growths) (now loads) saturation gain error ⌝ }
     ensures { λ r. ⌜ CurvesBy (at (now (bases .entry))) (at (now (growths .entry))) (at (now (loads .entry))) saturation gain error r ⌝ }
 {
-    let a = binaries(bases);
-    let k = binaries(growths);
-    let exponents = lines(&a, &k, loads);
+    let exponents = lines(bases, growths, loads);
     let full = [saturation; 25];
     Curves {
         exponents,
-        lasts: lines(&a, &k, &full),
-        reaches: reaches(&k, gain),
+        lasts: lines(bases, growths, &full),
+        reaches: reaches(growths, gain),
         rooms: rooms(loads, saturation),
         firsts: first_losses(tables, &exponents, error),
         gain,

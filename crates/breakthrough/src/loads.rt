@@ -19,7 +19,7 @@ const FIRST_KILOMETRES: u64 = 17;
 // How far a loss can be above the computed one, in units of 2^-40 g: at a written load, and at one that is found.
 const WRITTEN_ERROR: u64 = 93010;
 
-const DRIVEN_ERROR: u64 = 178491;
+const DRIVEN_ERROR: u64 = 206405;
 
 // Tenths of a gram in units of 2^-40 g, cut.
 pub fn tenth_grams(m: u64) -> u64
@@ -56,7 +56,7 @@ pub fn kept_of(tables: &[u64; 1907], row: Row) -> u64
     net(tables, row.mileage, halves)
 }
 
-// The load at each distance from 14:00: found from the mileage, or written. (Up to 16 km both are 0.)
+// The load at each distance from 14:00, where a and 2 b s are these: found from the mileage, or written. (Up to 16 km both are 0.)
 pub fn start_loads(
     tables: &[u64; 1907],
     row: Row,

@@ -6,11 +6,11 @@ use Prim.Native.Nat.{ℕ, _+_, _*_, _^_, _/_, _≤_, _<_, min}
 use native.Mathlib.Omega.{arith}
 use native.Mathlib.Nat.{mul-le-mul, div-le-of-le-mul, le-of-lt}
 use lib.Dec.{leb}
-use Rattle.numbers.specs.Fraction.{_≤ᶠ_, whole, _/10^_}
+use Rattle.numbers.specs.Fraction.{_≤ᶠ_, whole}
 use Rattle.bounds.specs.Short.{shortExponent, short, lineExponent, reach}
 use Rattle.bounds.proofs.ShortBound.{short-within}
-use Rattle.bounds.proofs.ShortLine.{shortTo3, line-cut, held-most}
-use Rattle.bounds.proofs.Line.{slopeTo0, steep-3, along-most}
+use Rattle.bounds.proofs.ShortLine.{shortTo0, shortTo3, line-cut, held-most}
+use Rattle.bounds.proofs.Line.{steep-3}
 use Rattle.exact.specs.declared.Canister.{Canister}
 use Rattle.exact.specs.declared.Canister.the-variants.{None, Small, Medium, Large}
 use Rattle.exact.specs.declared.Season.{Season}
@@ -74,10 +74,10 @@ module _ {season : Season} {row : Row} (s : SeasonInRange season) (r : RowInRang
   pub full-exponent-most : (i : ℕ) → lineExponent (baseAt season row i) (growthAt season row i) (tenthGrams (row .saturation)) ≤ 19 * 2 ^ 53
   full-exponent-most i = held-most (line-cut _ _ (tenthGrams-within (row .saturation))) shortTo3 (saturated s r i)
 
-  -- with a mileage it is at most 0, as the steps to the load hold it
-  pub driven-exponent-most : (i : ℕ) → 1 ≤ row .mileage → baseAt season row i + growthAt season row i * tenthGrams (row .saturation) / 2 ^ 41 ≤ 16 * 10 ^ 14
-  driven-exponent-most i km =
-      along-most _ _ (row .saturation /10^ 1) (tenthGrams-within (row .saturation)) slopeTo0 (unsaturated s r i km)
+  -- with a mileage it is at most 0
+  pub driven-exponent-most : (i : ℕ) → 1 ≤ row .mileage
+      → lineExponent (baseAt season row i) (growthAt season row i) (tenthGrams (row .saturation)) ≤ 16 * 2 ^ 53
+  driven-exponent-most i km = held-most (line-cut _ _ (tenthGrams-within (row .saturation))) shortTo0 (unsaturated s r i km)
 
   -- 36 g for a rise of 1
   pub vapourUnits-most : {rise : ℕ} (M : ℕ) → rise ≤ M → vapourUnits season row rise ≤ 36 * M

@@ -14,14 +14,14 @@ use Rattle.factors.specs.Escape.{tenthGrams, writtenError, drivenError}
 use Rattle.factors.specs.Units.{rowStart, lossError}
 
 module _ (row : Row) where
-  pub start-driven : (A K : ℕ) → 17 ≤ row .mileage
-      → rowStart row A K ≡ startUnits A K (halves (row .canister)) (tenthGrams (row .saturation)) (row .mileage)
+  pub start-driven : (a k : ℕ) → 17 ≤ row .mileage
+      → rowStart row a k ≡ startUnits a k (halves (row .canister)) (tenthGrams (row .saturation)) (row .mileage)
   unfolding rowStart
-  start-driven A K h = rw (rowStart, le-leb 17 (row .mileage) h) refl
+  start-driven a k h = rw (rowStart, le-leb 17 (row .mileage) h) refl
 
-  pub start-written : (A K : ℕ) → row .mileage < 17 → rowStart row A K ≡ tenthGrams (row .load)
+  pub start-written : (a k : ℕ) → row .mileage < 17 → rowStart row a k ≡ tenthGrams (row .load)
   unfolding rowStart
-  start-written A K h = rw (rowStart, lt-leb 17 (row .mileage) h) refl
+  start-written a k h = rw (rowStart, lt-leb 17 (row .mileage) h) refl
 
   pub error-driven : 17 ≤ row .mileage → lossError row ≡ drivenError
   unfolding lossError
@@ -37,10 +37,10 @@ unfolding tenthGrams
 tenthGrams-mono h = omega arith
 
 module _ (row : Row) (h : row .load ≤ row .saturation) where
-  start-by : (byMileage : Bool) (A K : ℕ) → leb 17 (row .mileage) ≡ byMileage → rowStart row A K ≤ tenthGrams (row .saturation)
-  start-by true A K e = rw (start-driven row A K (leb-true 17 (row .mileage) e)) (steps-most _ _ _ _ _)
-  start-by false A K e = rw (start-written row A K (leb-false 17 (row .mileage) e)) (tenthGrams-mono h)
+  start-by : (byMileage : Bool) (a k : ℕ) → leb 17 (row .mileage) ≡ byMileage → rowStart row a k ≤ tenthGrams (row .saturation)
+  start-by true a k e = rw (start-driven row a k (leb-true 17 (row .mileage) e)) (steps-most _ _ _ _ _)
+  start-by false a k e = rw (start-written row a k (leb-false 17 (row .mileage) e)) (tenthGrams-mono h)
 
   -- the load at parking start is at most m_sat
-  pub start-below : (A K : ℕ) → rowStart row A K ≤ tenthGrams (row .saturation)
-  start-below A K = start-by (leb 17 (row .mileage)) A K refl
+  pub start-below : (a k : ℕ) → rowStart row a k ≤ tenthGrams (row .saturation)
+  start-below a k = start-by (leb 17 (row .mileage)) a k refl

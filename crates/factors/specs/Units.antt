@@ -4,6 +4,7 @@ use mathlib.Core.List.{List}
 use Prim.Native.Nat.{ℕ, _+_, _*_, _-_, _/_, _^_}
 use lib.Dec.{leb}
 use Rattle.bounds.specs.Exponential.{exponential}
+use Rattle.bounds.specs.Short.{binary}
 use Rattle.exact.specs.declared.Canister.{Canister}
 use Rattle.exact.specs.declared.Canister.the-variants.{None, Small, Medium, Large}
 use Rattle.exact.specs.declared.Season.{Season}
@@ -35,11 +36,12 @@ parkingRates season cell = passed (λ (i : ℕ). rate (season .vp) (markWarmth s
 unfoldable pub gain : Season → Row → ℕ
 gain season row = (100 - row .fill) * row .tank * exponential (205 * season .vp * 10 ^ 9 + 16 * 10 ^ 14) / 40000
 
--- the load at parking start where a = A and 2·b·s = K: from 17 km on it is found by steps; up to 16 km it is 0, as is the one that is written
+-- the load at parking start where a and 2·b·s are these, in units of 2⁻⁴⁴: from 17 km on it is found by steps; up to 16 km it is 0, as is the one
+-- that is written
 unfoldable pub rowStart : Row → ℕ → ℕ → ℕ
-rowStart row A K =
+rowStart row a k =
     elim (leb 17 (row .mileage)) [
-      | true ↦ startUnits A K (halves (row .canister)) (tenthGrams (row .saturation)) (row .mileage)
+      | true ↦ startUnits a k (halves (row .canister)) (tenthGrams (row .saturation)) (row .mileage)
       | false ↦ tenthGrams (row .load)
     ]
 
@@ -59,10 +61,14 @@ module _ (season : Season) (row : Row) where
   abbrev pub growthAt : ℕ → ℕ
   growthAt i = growth (row .canister) (season .vp) (markWarmth season i)
 
+  -- the load at parking start there
+  abbrev pub startAt : ℕ → ℕ
+  startAt i = rowStart row (binary (baseAt i)) (binary (growthAt i))
+
   -- what breaks through of the vapour of such a rise, from mark i
   unfoldable pub throughUnits : ℕ → ℕ → ℕ
   throughUnits i rise =
-      breakUnits (baseAt i) (growthAt i) (tenthGrams (row .saturation)) (lossError row) (rowStart row (baseAt i) (growthAt i)) (gain season row) rise
+      breakUnits (baseAt i) (growthAt i) (tenthGrams (row .saturation)) (lossError row) (startAt i) (gain season row) rise
 
   module _ (counts : List ℕ) where
     -- the mean escape of a rise that each cell has, from the mark that each cell names: without canister the rise is

@@ -9,7 +9,7 @@ ghost use Prim.Native.Nat.{_*_, _^_, _<_, _≤_};
 ghost use Rattle.sheet.specs.Range.{RowInRange};
 ghost use Rattle.parking.specs.Grid.{cellsIn};
 ghost use Rattle.breakthrough.specs.Curves.{KeptOf};
-ghost use Rattle.row_factors.specs.Season.{Lent};
+ghost use Rattle.row_factors.specs.Season.{Lent, ListFor};
 ghost use Rattle.masses.specs.Figures.{blended};
 ghost use Rattle.masses.specs.Day.{UnitsInRange, MicrogramsInRange, UseInRange, tripLimit};
 ghost use Rattle.masses.specs.Day.{rounded, roundedAll, threeFigures, sixFigures, dayFigures};
@@ -83,7 +83,8 @@ pub fn row_figures(
     row: Row,
     kept: u64,
 ) -> [u64; 6]
-    requires { ⌜ Lent (now tables) (now grid) (now list) at × RowInRange (at .season) row × UseInRange row × KeptOf row kept ⌝ }
+    requires { ⌜ Lent (now tables) (now grid) at × RowInRange (at .season) row × UseInRange row × ListFor (now grid) (now list) (at .season) row
+        × KeptOf row kept ⌝ }
     ensures { λ r. ⌜ r ≡ dayFigures (cellsIn (now (grid .entry))) (at .season) row ⌝ }
 {
     six_figures(row_units(tables, grid, list, at, row, kept), row)

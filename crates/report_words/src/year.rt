@@ -14,6 +14,9 @@ ghost use Prim.Native.Nat.{ℕ, _+_, _*_, _≤_, _<_};
 ghost use lib.ListN.{length};
 ghost use lib.Seq.{sets};
 ghost use Rattle.numbers.specs.Lists.{tab};
+ghost use Rattle.parking.specs.Grid.{cellsIn};
+ghost use Rattle.parking.specs.SeasonList.{ListReady};
+ghost use Rattle.row_factors.specs.Season.{risesOf};
 ghost use Rattle.sheet.specs.declared.Check.the-variants.{Pass};
 ghost use Rattle.sheet.specs.Bytes.{seasonsOf, rowsOf};
 ghost use Rattle.sheet.specs.Sheet.{sheetCheck};
@@ -55,7 +58,7 @@ fn add_rows(
     s: &[u8],
     words: &mut [u64],
 )
-    requires { ⌜ SeasonLent (now s) (now tables) (now grid) (now list) at
+    requires { ⌜ SeasonLent (now s) (now tables) (now grid) at × ListReady (cellsIn (now grid)) (risesOf (at .season)) (now list)
         × (6 * rowsOf (now s) ≤ length (now words)) × SeasonFits (now s) (at .season) (now words) × RowsKept (now s) (now kept) ⌝ }
     ensures { λ _. ⌜ now (words .exit)
         ≡ filled (seasonAdded (now (s .entry)) (at .season) (now (words .entry))) (6 * rowsOf (now (s .entry))) (now (words .entry)) ⌝ }
@@ -83,7 +86,7 @@ fn add_season(
         × RowsKept (now s) (now kept) ⌝ }
     ensures { λ _. ⌜ now (words .exit) ≡ filled (yearWord (now (s .entry)) (j + 1)) (6 * rowsOf (now (s .entry))) (now (words .entry)) ⌝ }
 {
-    let prepared = prepare(tables, grid, season_at(s, j));
+    let prepared = prepare(tables, grid, season_at(s, j), true);
     add_rows(tables, grid, &prepared.list, kept, prepared.at, s, words);
 }
 

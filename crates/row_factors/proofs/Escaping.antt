@@ -184,7 +184,7 @@ module _ {tables grid list : List ℕ} {given : AtSeason} {row : Row} {vapour ke
 
   pub parking-needs : (tables ≡ entries) × GridReady grid × CurvesReady c × ListFits (72 * 2 ^ 40) list
   parking-needs =
-      (q .0 .lent .tables-are, q .0 .lent .grid-ready, fitted, q .0 .lent .list-ready .fits (72 * 2 ^ 40) (rises-most (marks-of .season-in) refl))
+      (q .0 .lent .tables-are, q .0 .lent .grid-ready, fitted, q .0 .list-for .ready (q .1) .fits (72 * 2 ^ 40) (rises-most (marks-of .season-in) refl))
 
   -- nothing breaks through where nothing rises
   still : (start : ℕ) → start < 25 → through (curveAt c start) 0 / 2 ^ 12 ≡ 0
@@ -194,7 +194,7 @@ module _ {tables grid list : List ℕ} {given : AtSeason} {row : Row} {vapour ke
   parking-right e =
       e ∙
       cells-mean (q .0 .lent .grid-ready) (λ (cell : ℕ). through (curveAt c (apartOf false cell)) (at (risesOf (given .season)) cell))
-      (q .0 .lent .list-ready .sum-is (λ (start : ℕ) (rise : ℕ). through (curveAt c start) rise / 2 ^ 12) still) ∙
+      (q .0 .list-for .ready (q .1) .sum-is (λ (start : ℕ) (rise : ℕ). through (curveAt c start) rise / 2 ^ 12) still) ∙
       parking-escape f (q .0 .row-in .load-most) (q .1) _ (q .0 .lent .grid-ready .cells-in .length-is)
 
   -- over a raise, whose list at the marks is one of the season's

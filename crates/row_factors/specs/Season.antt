@@ -1,7 +1,7 @@
 -- What a season gives to every row. Definitions only.
 use mathlib.Core.List.{List}
 use mathlib.Core.Path.{_≡_}
-use Prim.Native.Nat.{ℕ, _/_}
+use Prim.Native.Nat.{ℕ, _/_, _<_}
 use Rattle.numbers.specs.Lists.{tab}
 use Rattle.bounds.specs.Exponential.{entries}
 use Rattle.exact.specs.declared.Season.{Season}
@@ -9,7 +9,7 @@ use Rattle.exact.specs.declared.Row.{Row}
 use Rattle.marks.specs.declared.Marks.{Marks}
 use Rattle.sheet.specs.Range.{SeasonInRange}
 use Rattle.marks.specs.AtMarks.{AtMarks, raisesBy, ratesAt}
-use Rattle.sheet.specs.Range.{RowInRange}
+use Rattle.sheet.specs.Range.{RowInRange, halves}
 use Rattle.factors.specs.Means.{meanUnits}
 use Rattle.factors.specs.Units.{startOf, endOf, parkingRise, parkingRates, gain}
 use Rattle.parking.specs.Grid.{cellsIn, GridReady}
@@ -50,17 +50,21 @@ pub record AtSeasonOf (season : Season) (marks : Marks) (counts : List ℕ) (at 
   pub marks-are : at .marks ≡ marks
   pub means-are : MeansOf season counts (at .means)
 
--- what is lent to the functions of a row: the tables of E, the grid, the list of the season's parkings; and what its season gives
-pub record Lent (tables grid list : List ℕ) (at : AtSeason) : Type 0 where
+-- what is lent to the functions of every row: the tables of E and the grid; and what its season gives
+pub record Lent (tables grid : List ℕ) (at : AtSeason) : Type 0 where
   pub tables-are : tables ≡ entries
   pub grid-ready : GridReady grid
   pub marks-ready : MarksReady (at .season) (at .marks)
-  pub list-ready : ListReady (cellsIn grid) (risesOf (at .season)) list
   pub means-are : MeansOf (at .season) (cellsIn grid) (at .means)
+
+-- the list of a season's parkings, which a row with a canister needs
+pub record ListFor (grid list : List ℕ) (season : Season) (row : Row) : Type 0 where
+  pub ready : 0 < halves (row .canister) → ListReady (cellsIn grid) (risesOf season) list
 
 -- with a row in range, the vapour in its tank for a rise of 1, and what its canister keeps of its load
 pub record RowLent (tables grid list : List ℕ) (at : AtSeason) (row : Row) (vapour kept : ℕ) : Type 0 where
-  pub lent : Lent tables grid list at
+  pub lent : Lent tables grid at
   pub row-in : RowInRange (at .season) row
+  pub list-for : ListFor grid list (at .season) row
   pub vapour-is : vapour ≡ gain (at .season) row
   pub kept-of : KeptOf row kept

@@ -8,6 +8,7 @@ use parking::season_list::list_of;
 use parking::walk::halved;
 use parking::walk::rises;
 use parking::walk::walk;
+ghost use mathlib.Core.Bool.{true};
 ghost use mathlib.Core.Path.{_≡_};
 ghost use Prim.Native.Nat.{ℕ, _/_, _^_};
 ghost use Rattle.numbers.specs.Lists.{AllAtMost};
@@ -15,6 +16,7 @@ ghost use Rattle.bounds.specs.Exponential.{entries};
 ghost use Rattle.sheet.specs.Range.{SeasonInRange};
 ghost use Rattle.factors.specs.Means.{meanUnits};
 ghost use Rattle.parking.specs.Grid.{cellsIn, GridReady, passedIn};
+ghost use Rattle.parking.specs.SeasonList.{ListReady};
 ghost use Rattle.row_factors.specs.Season.{MarksReady, risesOf, AtSeasonOf, Lent};
 
 // Means over the cells, in units of 2^-28.
@@ -82,14 +84,26 @@ pub fn at_season(grid: &[u64; 627], rises: &[u64; 576], season: Season, marks: M
     }
 }
 
+// The list of a season's parkings where a row with a canister is to read it. Without one nothing does, and none is made.
+fn list_where(grid: &[u64; 627], rises: &[u64; 576], read: bool) -> [u64; 1732]
+    requires { ⌜ GridReady (now grid) ⌝ }
+    ensures { λ r. ⌜ (read ≡ true → ListReady (cellsIn (now (grid .entry))) (now (rises .entry)) r) ⌝ }
+{
+    if read {
+        return list_of(grid, rises);
+    }
+    [0u64; 1732]
+}
+
 // All that the rows of a season share, made once.
-pub fn prepare(tables: &[u64; 1907], grid: &[u64; 627], season: Season) -> Prepared
+pub fn prepare(tables: &[u64; 1907], grid: &[u64; 627], season: Season, canisters: bool) -> Prepared
     requires { ⌜ (now tables ≡ entries) × GridReady (now grid) × SeasonInRange season ⌝ }
-    ensures { λ r. ⌜ (r .at .season ≡ season) × Lent (now (tables .entry)) (now (grid .entry)) (r .list) (r .at) ⌝ }
+    ensures { λ r. ⌜ (r .at .season ≡ season) × Lent (now (tables .entry)) (now (grid .entry)) (r .at)
+        × (canisters ≡ true → ListReady (cellsIn (now (grid .entry))) (risesOf season) (r .list)) ⌝ }
 {
     let marks = at_marks(tables, season);
     let rises = rises(&marks.step);
-    let list = list_of(grid, &rises);
+    let list = list_where(grid, &rises, canisters);
     Prepared {
         list,
         at: at_season(grid, &rises, season, marks),

@@ -15,7 +15,7 @@ ghost use Rattle.sheet.specs.Range.{SeasonInRange, RowInRange};
 ghost use Rattle.factors.specs.Units.{gain};
 ghost use Rattle.parking.specs.Grid.{cellsIn};
 ghost use Rattle.breakthrough.specs.Curves.{KeptOf};
-ghost use Rattle.row_factors.specs.Season.{Lent};
+ghost use Rattle.row_factors.specs.Season.{Lent, ListFor};
 ghost use Rattle.row_factors.specs.Seven.{CarFits, carSeven, twoWheelerSeven, sevenUnits};
 
 // E(0.0205 vp): what the exponent gains with each tenth of a kPa.
@@ -71,7 +71,7 @@ pub fn row_units(
     row: Row,
     kept: u64,
 ) -> [u64; 7]
-    requires { ⌜ Lent (now tables) (now grid) (now list) at × RowInRange (at .season) row × KeptOf row kept ⌝ }
+    requires { ⌜ Lent (now tables) (now grid) at × RowInRange (at .season) row × ListFor (now grid) (now list) (at .season) row × KeptOf row kept ⌝ }
     ensures { λ r. ⌜ r ≡ sevenUnits (at .season) row (cellsIn (now (grid .entry))) ⌝ }
 {
     let vapour = gain(tables, at.season, row);

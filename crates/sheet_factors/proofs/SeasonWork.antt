@@ -4,6 +4,8 @@ use mathlib.Core.Path.{_≡_}
 use Prim.Native.Nat.{ℕ, _≤_, _<_}
 use native.Mathlib.Decide.{decLe}
 use native.Mathlib.Omega.{arith}
+use Rattle.exact.specs.declared.Season.{Season}
+use Rattle.exact.specs.declared.Row.{Row}
 use Rattle.sheet.specs.Limits.{mileageLimit}
 use Rattle.sheet.specs.Versions.{versionOf}
 use Rattle.sheet.specs.Bytes.{seasonsOf, rowsOf, seasonAt, rowAt}
@@ -11,6 +13,7 @@ use Rattle.sheet.proofs.Accepted.{Bytes, Accepted, accepted}
 use Rattle.sheet.proofs.InRange.{row-in-range}
 use Rattle.row_factors.specs.declared.season.AtSeason.{AtSeason}
 use Rattle.row_factors.specs.Season.{Lent}
+use Rattle.row_factors.specs.Seven.{sevenUnits}
 use Rattle.masses.specs.Day.{UseInRange}
 use Rattle.sheet_factors.specs.Lent.{SheetLent, SeasonLent}
 
@@ -27,7 +30,11 @@ mileage-within {s} a {i} there =
     elim (decLe 3 (versionOf s)) [ yes new ↦ r .mileage new .0 | no old ↦ omega (arith, r .no-mileage (omega arith)) ]
 
 -- season j of the sheet, made ready for its rows
-pub season-lent : {s tables grid list : List ℕ} {at : AtSeason} {j : ℕ} → Bytes s → SheetLent s tables grid → j < seasonsOf s
-    → at .season ≡ seasonAt s j → Lent tables grid list at → SeasonLent s tables grid list at
+pub season-lent : {s tables grid : List ℕ} {at : AtSeason} {j : ℕ} → Bytes s → SheetLent s tables grid → j < seasonsOf s
+    → at .season ≡ seasonAt s j → Lent tables grid at → SeasonLent s tables grid at
 season-lent {s} bytes l there e lent =
     record { sheet = l; lent = lent; rows-in = λ i row. rw e (row-in-range bytes (accepted s (l .passes)) row there) }
+
+-- equal seasons, rows and cells have equal factors
+pub alike : {x y : Season} {r t : Row} {cells counts : List ℕ} → x ≡ y → r ≡ t → cells ≡ counts → sevenUnits x r cells ≡ sevenUnits y t counts
+alike e f g = rw (e, f, g)

@@ -2,6 +2,7 @@
 use crate::kept::row_kept;
 use crate::parkings::sheet_grid;
 use bounds::exp::tables;
+use fields::classes::halves;
 use fields::row_at;
 use fields::season_at;
 use row_factors::season::prepare;
@@ -29,15 +30,10 @@ pub fn units_with(
         × KeptOf (rowAt (now s) row) kept ⌝ }
     ensures { λ r. ⌜ (r ≡ sevenUnits (seasonAt (now (s .entry)) season) (rowAt (now (s .entry)) row) (cellsOf (now (s .entry)))) × UnitsInRange r ⌝ }
 {
-    let prepared = prepare(tables, grid, season_at(s, season));
-    row_units(
-        tables,
-        grid,
-        &prepared.list,
-        prepared.at,
-        row_at(s, row),
-        kept,
-    )
+    let row = row_at(s, row);
+    let canister = row.canister;
+    let prepared = prepare(tables, grid, season_at(s, season), 0 < halves(canister));
+    row_units(tables, grid, &prepared.list, prepared.at, row, kept)
 }
 
 // The same from the sheet alone.

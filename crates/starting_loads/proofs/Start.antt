@@ -9,6 +9,7 @@ use Rattle.numbers.specs.Fraction.{Fraction, _≤ᶠ_, _≈ᶠ_, _+ᶠ_, _*ᶠ_
 use Rattle.numbers.proofs.Order.{either, ≤-trans, ≈-refl, ≈→≤, ≈→≥, +-cong, *-cong, ratio}
 use Rattle.bounds.specs.Enclosure.{Within, WithinAll}
 use Rattle.bounds.specs.Exponential.{exponent}
+use Rattle.bounds.specs.Short.{binary}
 use Rattle.bounds.proofs.Exponential.{E-mono}
 use Rattle.bounds.proofs.Within.{widen}
 use Rattle.bounds.proofs.Units.{units}
@@ -54,7 +55,7 @@ netError = 71514
 
 -- how far the starting load can be above the computed one
 abbrev pub startError : ℕ
-startError = 129370
+startError = 151700
 
 -- the cuts of `net`, over bare numbers: v = 8.13·y − 22.92, t = 2·v/h
 low-cut : (h t v y G : ℕ) → v + 2292 * 10 ^ 14 ≡ 813 * y → t * h ≤ 2 * v → G * 5 ^ 16 ≤ t * 2 ^ 24
@@ -91,7 +92,7 @@ start-width = lit≤ tt
 
 -- a = A, 2·b·s = K and s = h/2 as they are held, number 25 at m_sat, and m_sat as it is held
 module _ (A K h σ M : ℕ) (vp s saturation T : Fraction) (ea : a vp T ≈ᶠ exponent A) (eb : b vp T *ᶠ s ≈ᶠ rising K) (es : s ≈ᶠ ratio h 2 halves-pos)
-    (h0 : 0 < h) (hK : K ≤ 22 * 2 ^ 41) (top : along A K saturation ≤ᶠ whole 0) (full : Within (2 ^ 40) σ 1 saturation) (least : 17 ≤ M)
+    (h0 : 0 < h) (hK : K ≤ 22 * 2 ^ 41) (hσ : σ ≤ 369 * 2 ^ 40) (top : along A K saturation ≤ᶠ whole 0) (full : Within (2 ^ 40) σ 1 saturation) (least : 17 ≤ M)
     (most : M ≤ 10 ^ 6)
   where
     -- what is kept, as it is computed
@@ -122,11 +123,11 @@ module _ (A K h σ M : ℕ) (vp s saturation T : Fraction) (ea : a vp T ≈ᶠ e
         (λ l. absurd (r (record { far = ≤-trans (enough-reaches M least most n n40) (E-mono n l) })))
 
     -- the starting load, within 0.12 µg
-    pub mileage-within : WithinAll (2 ^ 40) (startUnits A K h σ M) startError (λ n. startingLoad n vp s T M saturation)
+    pub mileage-within : WithinAll (2 ^ 40) (startUnits (binary A) (binary K) h σ M) startError (λ n. startingLoad n vp s T M saturation)
     mileage-within = record {
       at = λ n n40.
           widen
-          (steps-within n A K G netError n40 hK top full
+          (steps-within n A K G netError n40 hK hσ top full
           (startingLoad-balanced n A K vp s saturation T n40 ea eb full M G netError (low n n40) (high n n40)) stepCount)
           start-width;
     }

@@ -11,6 +11,6 @@ net h y = 2 * (813 * y - 2292 * 10 ^ 14) / h * 2 ^ 24 / 5 ^ 16
 abbrev pub netOf : ℕ → ℕ → ℕ
 netOf h M = net h (short M)
 
--- and the starting load then
+-- and the starting load then, for a and 2·b·s in units of 2⁻⁴⁴
 abbrev pub startUnits : ℕ → ℕ → ℕ → ℕ → ℕ → ℕ
-startUnits A K h σ M = start A K σ (netOf h M)
+startUnits a k h σ M = start a k σ (netOf h M)

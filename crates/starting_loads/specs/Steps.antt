@@ -1,33 +1,32 @@
 -- The computed starting load: which whole number the program finds. Definitions only.
 -- A load m is G, the part that is kept, and what is lost at it: m = G + E(a + b·s·m). Newton's steps come up to it from G.
--- Loads are in units of 2⁻⁴⁰ g.
+-- Loads are in units of 2⁻⁴⁰ g; a and 2·b·s are held in units of 2⁻⁴⁴, a above −16.
 use mathlib.Core.List.{List}
 use Prim.Native.Nat.{ℕ, suc, zero, _+_, _*_, _-_, _/_, _^_, min}
 use Rattle.numbers.specs.Lists.{tab, at}
-use Rattle.bounds.specs.Exponential.{exponential}
+use Rattle.bounds.specs.Short.{short, lineOf}
 
--- b·s·E in parts of 2⁻¹⁹, from below, for 2·b·s = K in units of 10⁻¹⁴ and E = x in units of 2⁻⁴⁰: what is lost of a load that is added
+-- b·s·E in parts of 2⁻¹⁹, from below, for 2·b·s = k and E = y in units of 2⁻³⁶: what is lost of a load that is added
 unfoldable pub slope : ℕ → ℕ → ℕ
-slope K x = K * x / 2 ^ 40 * 2 ^ 18 / 10 ^ 14
+slope k y = k / 2 ^ 24 * y / 2 ^ 38
 
 -- what is missing, over 1 − b·s·E
 unfoldable pub added : ℕ → ℕ → ℕ → ℕ
-added K x missing = missing * 2 ^ 19 / (2 ^ 19 - slope K x)
+added k y missing = missing * 2 ^ 19 / (2 ^ 19 - slope k y)
 
--- a step from a load l where x is lost, for the cut saturating load σ
+-- a step from a load l where y is lost, for the cut saturating load σ
 unfoldable pub stepped : ℕ → ℕ → ℕ → ℕ → ℕ → ℕ
-stepped K σ G x l = min σ (l + added K x (min σ (G + x) - l))
+stepped k σ G y l = min σ (l + added k y (min σ (G + y * 2 ^ 4) - l))
 
--- a = A, as it is held
-module _ (A K σ G : ℕ) where
+module _ (a k σ G : ℕ) where
   -- a step
   unfoldable pub step : ℕ → ℕ
-  step l = stepped K σ G (exponential (A + K * l / 2 ^ 41)) l
+  step l = stepped k σ G (short (lineOf a k l)) l
 
   -- after some steps
   unfoldable pub steps : ℕ → ℕ
   steps zero = min σ G
-  steps (suc k) = step (steps k)
+  steps (suc i) = step (steps i)
 
 -- as many as are taken
 abbrev pub stepCount : ℕ
@@ -35,8 +34,8 @@ stepCount = 3
 
 -- the starting load
 abbrev pub start : ℕ → ℕ → ℕ → ℕ → ℕ
-start A K σ G = steps A K σ G stepCount
+start a k σ G = steps a k σ G stepCount
 
--- at each of the 25 temperatures of a day
-abbrev pub startsAt : List ℕ → List ℕ → ℕ → ℕ → List ℕ
-startsAt bases growths σ G = tab (λ (k : ℕ). start (at bases k) (at growths k) σ G) 25
+-- after some steps at each of the 25 temperatures of a day
+abbrev pub stepsAt : List ℕ → List ℕ → ℕ → ℕ → ℕ → List ℕ
+stepsAt bases growths σ G i = tab (λ (d : ℕ). steps (at bases d) (at growths d) σ G i) 25

@@ -3,6 +3,7 @@ use mathlib.Core.Path.{_≡_, _∙_, ap, ap₂}
 use Prim.Native.Nat.{ℕ, _+_, _*_, _-_, _^_, _≤_, _<_}
 use Rattle.numbers.specs.Lists.{tab, at, AllAtMost}
 use Rattle.numbers.proofs.Lists.{tab-ext, getD-tab, tab-at-most}
+use Rattle.bounds.specs.Short.{binary}
 use Rattle.bounds.specs.Weights.{ahead}
 use Rattle.sheet.specs.Range.{markWarmth}
 use Rattle.sheet.proofs.Temperature.{warmth-most}
@@ -25,7 +26,7 @@ warmth-at s k h = rw (s .pre .1 .warmths-are) (getD-tab (λ (d : ℕ). markWarmt
 
 bases-known : (c : tie.After-bases) → c .bases .result ≡ tab (basesOf (c .before .args .season) (c .before .args .row)) 25
 bases-known c =
-    c .bases .ensures ∙ tab-ext 25 (λ k h. ap (base (c .before .args .season .vp)) (warmth-at (c .before) k h))
+    c .bases .ensures ∙ tab-ext 25 (λ k h. ap (λ (θ : ℕ). binary (base (c .before .args .season .vp) θ)) (warmth-at (c .before) k h))
 
 growths-known : (c : tie.After-growths)
     → c .growths .result ≡ tab (growthsOf (c .before .before .before .args .season) (c .before .before .before .args .row)) 25
@@ -35,7 +36,7 @@ growths-known c =
     c .growths .ensures ∙
     tab-ext 25
     (λ k h.
-    ap₂ (λ (θ times : ℕ). (112 * 10 ^ 11 + θ - 15 * 10 ^ 8 * s .args .season .vp) * times) (warmth-at s k h)
+    ap₂ (λ (θ times : ℕ). binary ((112 * 10 ^ 11 + θ - 15 * 10 ^ 8 * s .args .season .vp) * times)) (warmth-at s k h)
     (c .before .halves .ensures .0))
 
 saturation-fits : (s : tie.Start) → s .args .row .saturation ≤ 3685

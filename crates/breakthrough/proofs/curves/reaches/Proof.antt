@@ -1,16 +1,17 @@
 -- `breakthrough::curves::reaches` meets its contract: the first distances hold theirs.
 use mathlib.Core.Path.{refl}
-use Prim.Native.Nat.{ℕ, _*_, _-_, _/_, _^_}
+use Prim.Native.Nat.{ℕ, _-_}
 use native.Mathlib.Omega.{arith}
 use lib.ListN.{replicate}
 use Rattle.numbers.specs.Lists.{at}
 use Rattle.numbers.proofs.Lists.{Filled, filled-none, filled-more, filled-all}
+use Rattle.bounds.specs.Short.{reachOf}
 use borrow.Author.Needs.{needs}
 use Rattle.breakthrough.proofs.curves.reaches.Statement.{statement}
 use Rattle.breakthrough.proofs.curves.reaches.Tie as tie
 
 abbrev Inv-loop : tie.InvT-loop
-Inv-loop growths gain out₀ d₀ out d = Filled (λ (k : ℕ). at growths k * gain / 2 ^ 49) 25 d out
+Inv-loop growths gain out₀ d₀ out d = Filled (λ (k : ℕ). reachOf (at growths k) gain) 25 d out
 
 abbrev μ-loop : tie.MeasureT-loop
 μ-loop growths gain out₀ d₀ out d = 25 - d

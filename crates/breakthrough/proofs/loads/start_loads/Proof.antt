@@ -16,7 +16,7 @@ returns c =
     let g = c .before in
     let s = g .before .before .before in
     let km = g .before .if1 .taken in
-    c .starts .ensures .0 ∙
+    c .starts .ensures ∙
     tab-ext 25 (λ d h. rw (g .tenth-grams .ensures, s .pre .2 .kept-is km (s .pre .1 .canister-there)) (sym (start-driven _ _ _ km)))
 
 returns-2 : tie.Need-returns-2

@@ -1,5 +1,5 @@
 -- `report_words::year::add_season` meets its contract: the words then hold one season more.
-use mathlib.Core.Path.{_≡_, _∙_}
+use mathlib.Core.Path.{_∙_, refl}
 use Rattle.sheet.specs.Range.{SeasonInRange}
 use Rattle.sheet.proofs.Accepted.{Bytes, accepted}
 use Rattle.sheet.proofs.Places.{season-there}
@@ -23,7 +23,7 @@ in-range c =
 -- it is made ready for the rows of the sheet
 ready : (c : tie.After-prepare)
     → let x = c .before .before .before .before .args in
-    SeasonLent (x .s .now) (x .tables .now) (x .grid .now) (c .prepare .result .list) (c .prepare .result .at)
+    SeasonLent (x .s .now) (x .tables .now) (x .grid .now) (c .prepare .result .at)
 ready c =
     let d = c .before in
     let p = d .before .before .before .pre in
@@ -37,7 +37,7 @@ add-rows-requires c κs =
     let x = start .args in
     let s = x .s .now in
     let fits = season-fits s (x .words .now) (x .j) (p .2 .words-are) (bytes (d .before .before)) (accepted s (p .0 .passes)) (p .1) in
-    (ready d, p .2 .room, rw (d .prepare .ensures .0, d .before .season-at .ensures .0) fits, p .3)
+    (ready d, rw (d .prepare .ensures .0) (d .prepare .ensures .2 refl), p .2 .room, rw (d .prepare .ensures .0, d .before .season-at .ensures .0) fits, p .3)
 
 returns : tie.Need-returns
 returns c =

@@ -25,9 +25,9 @@ returns c =
         tables-are = p .0;
         grid-ready = p .1;
         marks-ready = rw (a .season-is, a .marks-are) (marks-ready m);
-        list-ready = rw (a .season-is, ← (rises-ready w)) (k .list-of .ensures);
         means-are = rw (a .season-is) (a .means-are);
       },
+      λ wanted. rw (← (rises-ready w)) (k .list-where .ensures wanted),
     )
 
 pub prepare-spec : {M : Type 1} → statement M

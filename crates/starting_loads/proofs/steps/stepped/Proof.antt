@@ -15,12 +15,13 @@ add-lesser-2 c =
 
 returns : tie.Need-returns
 unfolding added stepped
-returns c = (cc, omega (arith, c .lesser2 .ensures), omega (arith, c .lesser2 .ensures))
+returns c = cc
 
 pub stepped-spec : {M : Type 1} → statement M
 stepped-spec =
     tie.close
     (tie.spec
+    (λ c. search needs)
     (λ c. search needs)
     (λ c κs. search needs)
     (λ c κs. search needs)
