@@ -17,13 +17,13 @@ use Rattle.map_cells.specs.Promise.{SumPromise}
 use Rattle.map_cells.proofs.Promised.{promised}
 use Rattle.map_shares.specs.declared.Travel.{Travel}
 use Rattle.map_shares.specs.declared.Words.{Words}
-use Rattle.map_rows.specs.Promise.{RowPromise}
-use Rattle.map_rows.specs.Rows.{rowAnswer}
+use Rattle.map_rows.specs.Promise.{RowCellsPromise}
+use Rattle.map_rows.specs.Rows.{rowCellsAnswer}
 use Rattle.map_rows.proofs.Promised as rows
 use Rattle.boundary.specs.declared.EvpCellSum.{EvpCellSum}
 use Rattle.map_rows.specs.declared.RowCells.{RowCells}
-use Rattle.map_rows.specs.declared.RowAnswer.{RowAnswer}
-use Rattle.map_rows.specs.declared.RowAnswer.the-variants as row
+use Rattle.map_rows.specs.declared.RowCellsAnswer.{RowCellsAnswer}
+use Rattle.map_rows.specs.declared.RowCellsAnswer.the-variants as row
 use Rattle.boundary.specs.declared.EvpCell.{EvpCell}
 use Rattle.boundary.specs.declared.EvpRowCells.{EvpRowCells}
 use Rattle.boundary.specs.declared.EvpTravel.{EvpTravel}
@@ -33,7 +33,7 @@ use Rattle.boundary.specs.declared.Handed.{Handed}
 use Rattle.boundary.specs.declared.Handed.the-variants.{Given, NoCell}
 use Rattle.boundary.specs.Cells.{cellNumbers, noCell, rowNumbers, sumNumbers, exactHanded, cellHanded, handedSum, travelHanded, handedRow, RowCellsNone, RowCellsGiven, RowCellsNumbers, CellSumNumbers}
 
-module _ {a : RowAnswer} {u r h : EvpCell} where
+module _ {a : RowCellsAnswer} {u r h : EvpCell} where
   pub row-cells : (v : RowCells) → a ≡ row.Cells v → u ≡ cellNumbers (v .urban) → r ≡ cellNumbers (v .rural) → h ≡ cellNumbers (v .highway)
       → record { number = 0; place = 0; urban = u; rural = r; highway = h } ≡ rowNumbers a
   unfolding rowNumbers
@@ -110,7 +110,7 @@ module _ {t : TravelHanded} (w : Words) where
   unfolding handedRow
   row-untold e = rw e
 
-  pub row-told : {r : RowAnswer} (x : Travel) → t ≡ Told x → r ≡ rowAnswer w x → r ≡ handedRow w t
+  pub row-told : {r : RowCellsAnswer} (x : Travel) → t ≡ Told x → r ≡ rowCellsAnswer w x → r ≡ handedRow w t
   unfolding handedRow
   row-told x e f = rw e f
 
@@ -137,24 +137,24 @@ none-handed : cellHanded noCell ≡ NoCell
 unfolding cellHanded noCell
 none-handed = refl
 
-row-none : (a : RowAnswer) → ¬ (rowNumbers a .number ≡ 0) → RowCellsNone (rowNumbers a)
+row-none : (a : RowCellsAnswer) → ¬ (rowNumbers a .number ≡ 0) → RowCellsNone (rowNumbers a)
 unfolding rowNumbers
 row-none (row.Cells v) n = absurd (n refl)
 row-none (row.Refused number place) n = record { urban = none-handed; rural = none-handed; highway = none-handed }
 
-row-given : {w : Words} {t : Travel} (a : RowAnswer) → RowPromise w t a → (v : RowCells) → a ≡ row.Cells v → RowCellsGiven v (rowNumbers a)
+row-given : {w : Words} {t : Travel} (a : RowCellsAnswer) → RowCellsPromise w t a → (v : RowCells) → a ≡ row.Cells v → RowCellsGiven v (rowNumbers a)
 unfolding rowNumbers
 row-given a p v e =
     let q = p .cells v e in
     rw e (record { urban = handed-back (v .urban) (q .urban .no-minus); rural = handed-back (v .rural) (q .rural .no-minus); highway = handed-back (v .highway) (q .highway .no-minus) })
 
-handed-row-promise : (w : Words) (t : TravelHanded) (x : Travel) → t ≡ Told x → RowPromise w x (handedRow w t)
+handed-row-promise : (w : Words) (t : TravelHanded) (x : Travel) → t ≡ Told x → RowCellsPromise w x (handedRow w t)
 unfolding handedRow
 handed-row-promise w t x e = rw e (rows.promised w x _ refl)
 
 row-back : (w : Words) (t : TravelHanded) (v : RowCells) → handedRow w t ≡ row.Cells v → RowCellsGiven v (rowNumbers (handedRow w t))
 unfolding handedRow
-row-back w (Told x) v e = row-given (rowAnswer w x) (rows.promised w x _ refl) v e
+row-back w (Told x) v e = row-given (rowCellsAnswer w x) (rows.promised w x _ refl) v e
 row-back w NoTravel v e = let z : _≡_ {A = ℕ} 0 1 = cc in absurd (omega arith)
 
 untold-numbers : (w : Words) (t : EvpTravel) → 1 < t .town

@@ -5,13 +5,13 @@ use mathlib.Core.Path.{_≡_, _∙_, ap}
 use Prim.Native.Nat.{ℕ}
 use Rattle.sheet.specs.declared.Check.{Check}
 use Rattle.ledger.specs.declared.Call.{Call}
-use Rattle.ledger.specs.Ledger.{ChangeAnswer}
+use Rattle.ledger.specs.Ledger.{ChangeCall}
 use Rattle.boundary.specs.declared.EvpCheck.{EvpCheck}
 use Rattle.boundary.specs.Export.{checkNumbers}
 use Rattle.boundary.specs.Change.{ChangeNumbers}
 use Rattle.boundary.proofs.Numbers.{check-is}
 
-pub change-numbers : {s old after words : List ℕ} {call : Call} {c : Check} {r : EvpCheck} → ChangeAnswer s old call after words c → r ≡ checkNumbers c
+pub change-numbers : {s old after words : List ℕ} {call : Call} {c : Check} {r : EvpCheck} → ChangeCall s old call after words c → r ≡ checkNumbers c
     → ChangeNumbers s old call after words r
 change-numbers a e = record {
   answer-is = e ∙ ap checkNumbers (a .answer-is);

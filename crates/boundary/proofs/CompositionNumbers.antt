@@ -5,11 +5,11 @@ use mathlib.Core.Path.{_≡_, refl, _∙_, ap}
 use Prim.Native.Nat.{ℕ}
 use lib.ListN.{length}
 use Rattle.species_report.specs.declared.composition.Composition.{Composition}
-use Rattle.species_report.specs.Composition.{CompositionAnswer}
+use Rattle.species_report.specs.Composition.{CompositionCall}
 use Rattle.boundary.specs.declared.EvpComposition.{EvpComposition}
 use Rattle.boundary.specs.CompositionExport.{compositionNumbers, CompositionNumbers}
 
-pub composition-numbers : {s old words : List ℕ} {c : Composition} {r : EvpComposition} → CompositionAnswer s old words c → r ≡ compositionNumbers c
+pub composition-numbers : {s old words : List ℕ} {c : Composition} {r : EvpComposition} → CompositionCall s old words c → r ≡ compositionNumbers c
     → CompositionNumbers s old words r
 unfolding compositionNumbers
 composition-numbers a e = record {

@@ -8,7 +8,7 @@ use Rattle.pooling.specs.declared.PoolAnswer.{PoolAnswer}
 use Rattle.pooling.specs.declared.PoolAnswer.the-variants.{Accepted, First, Second, Pooled}
 use Rattle.pooling.specs.Pool.{pool}
 use Rattle.pooling.specs.Late.{Regions}
-use Rattle.pooling.specs.PoolCall.{poolAnswer, checkOf, PoolReply}
+use Rattle.pooling.specs.PoolCall.{poolAnswer, checkOf, PoolCall}
 use Rattle.pooling.proofs.PoolWritten.{answer-passes}
 use Rattle.boundary.specs.declared.EvpPool.{EvpPool}
 use Rattle.boundary.specs.PoolExport.{poolNumbers, PoolNumbers}
@@ -28,7 +28,7 @@ place-is (Second number place) bytes = refl
 place-is (Pooled number place) bytes = refl
 
 -- what holds of the answer holds of its numbers
-pub pool-numbers : {a b old out : List ℕ} {r : PoolAnswer} {n : EvpPool} → PoolReply a b old out r → n ≡ poolNumbers r (length (pool a b))
+pub pool-numbers : {a b old out : List ℕ} {r : PoolAnswer} {n : EvpPool} → PoolCall a b old out r → n ≡ poolNumbers r (length (pool a b))
     → PoolNumbers a b old out n
 pool-numbers {a} {b} {r} reply e = record {
   answer-is = e ∙ ap (λ (answer : PoolAnswer). poolNumbers answer (length (pool a b))) (reply .answer-is);

@@ -14,7 +14,7 @@ use Rattle.report_words.specs.Report.{report}
 use Rattle.inventory.specs.ReportCall.{reportCheck}
 use Rattle.inventory.proofs.CallConditions.{report-judged, number-zero}
 use Rattle.text.specs.Lines.{reportLines, refusalLine}
-use Rattle.report_text.specs.Text.{textOf, reportText, TextAnswer}
+use Rattle.report_text.specs.Text.{textOf, reportText, TextCall}
 use Rattle.boundary.specs.declared.EvpText.{EvpText}
 use Rattle.boundary.specs.TextExport.{textNumbers, TextNumbers}
 
@@ -30,7 +30,7 @@ refusal-of s Pass n = absurd (n refl)
 refusal-of s (Refused number place) n = refl
 
 pub text-numbers : {s old words before out : List ℕ} {check : Check} {size : ℕ} {r : EvpText} → check ≡ reportCheck s (length old)
-    → TextAnswer s old words before out size → r ≡ textNumbers check size → TextNumbers s old words before out r
+    → TextCall s old words before out size → r ≡ textNumbers check size → TextNumbers s old words before out r
 unfolding textNumbers reportText
 text-numbers {s} {old} e a made =
     rw (made, e)

@@ -15,10 +15,10 @@ use Rattle.map_cells.specs.Promise.{SumPromise}
 use Rattle.map_shares.specs.declared.Travel.{Travel}
 use Rattle.map_shares.specs.declared.Words.{Words}
 use Rattle.map_rows.specs.declared.RowCells.{RowCells}
-use Rattle.map_rows.specs.declared.RowAnswer.{RowAnswer}
-use Rattle.map_rows.specs.declared.RowAnswer.the-variants as row
-use Rattle.map_rows.specs.Promise.{RowPromise}
-use Rattle.map_rows.specs.Rows.{rowAnswer}
+use Rattle.map_rows.specs.declared.RowCellsAnswer.{RowCellsAnswer}
+use Rattle.map_rows.specs.declared.RowCellsAnswer.the-variants as row
+use Rattle.map_rows.specs.Promise.{RowCellsPromise}
+use Rattle.map_rows.specs.Rows.{rowCellsAnswer}
 use Rattle.boundary.specs.declared.EvpCell.{EvpCell}
 use Rattle.boundary.specs.declared.EvpRowCells.{EvpRowCells}
 use Rattle.boundary.specs.declared.EvpCellSum.{EvpCellSum}
@@ -39,7 +39,7 @@ unfoldable pub noCell : EvpCell
 noCell = record { kind = 3; low = fin false 0 (pos 0); high = fin false 0 (pos 0) }
 
 -- number 0 where the cells are given; a refusal has none
-unfoldable pub rowNumbers : RowAnswer → EvpRowCells
+unfoldable pub rowNumbers : RowCellsAnswer → EvpRowCells
 rowNumbers (row.Cells v) = record { number = 0; place = 0; urban = cellNumbers (v .urban); rural = cellNumbers (v .rural); highway = cellNumbers (v .highway) }
 rowNumbers (row.Refused number place) = record { number = number; place = place; urban = noCell; rural = noCell; highway = noCell }
 
@@ -69,8 +69,8 @@ unfoldable pub travelHanded : EvpTravel → TravelHanded
 travelHanded t = cond (ltb 1 (t .town)) NoTravel (Told (record { town = eqb (t .town) 1; mileage = t .mileage; speed = t .speed }))
 
 -- it is then refused as a mileage or a speed out of its range is: 28, before all else
-unfoldable pub handedRow : Words → TravelHanded → RowAnswer
-handedRow w (Told t) = rowAnswer w t
+unfoldable pub handedRow : Words → TravelHanded → RowCellsAnswer
+handedRow w (Told t) = rowCellsAnswer w t
 handedRow w NoTravel = row.Refused 28 0
 
 -- "Neither writes a cell": what comes with a refusal cannot be handed in
@@ -89,7 +89,7 @@ pub record RowCellsGiven (v : RowCells) (r : EvpRowCells) : Type 0 where
 -- town is neither 0 nor 1 they are 28 and place 0
 pub record RowCellsNumbers (w : Words) (t : EvpTravel) (r : EvpRowCells) : Type 0 where
   pub answer-is : r ≡ rowNumbers (handedRow w (travelHanded t))
-  pub promise : (x : Travel) → travelHanded t ≡ Told x → RowPromise w x (handedRow w (travelHanded t))
+  pub promise : (x : Travel) → travelHanded t ≡ Told x → RowCellsPromise w x (handedRow w (travelHanded t))
   pub no-town : 1 < t .town → (r .number ≡ 28) × (r .place ≡ 0)
   pub refused : ¬ (r .number ≡ 0) → RowCellsNone r
   pub given : (v : RowCells) → handedRow w (travelHanded t) ≡ row.Cells v → RowCellsGiven v r

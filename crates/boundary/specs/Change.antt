@@ -1,4 +1,4 @@
--- What a program in another language gets of a call on a ledger, as `ChangeAnswer` says it of the answer in Rattle. Definitions only.
+-- What a program in another language gets of a call on a ledger, as `ChangeCall` says it of the answer in Rattle. Definitions only.
 use mathlib.Core.List.{List}
 use mathlib.Core.Path.{_≡_}
 use Prim.Native.Nat.{ℕ}

@@ -1,4 +1,4 @@
--- What a program in another language gets of the species of a sheet: numbers alone, as `CompositionAnswer` says them of the answer in Rattle.
+-- What a program in another language gets of the species of a sheet: numbers alone, as `CompositionCall` says them of the answer in Rattle.
 -- Definitions only.
 use mathlib.Core.List.{List}
 use mathlib.Core.Path.{_≡_}

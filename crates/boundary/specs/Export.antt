@@ -25,7 +25,7 @@ unfoldable pub factorNumbers : FactorAnswer → EvpFactor
 factorNumbers (answer.Band low high) = record { number = 0; place = 0; low = low; high = high }
 factorNumbers (answer.Refused number place) = record { number = number; place = place; low = 0; high = 0 }
 
--- what holds after the report call, as `ReportAnswer` says it of the answer in Rattle
+-- what holds after the report call, as `ReportCall` says it of the answer in Rattle
 pub record ReportNumbers (s old words : List ℕ) (r : EvpCheck) : Type 0 where
   pub answer-is : r ≡ checkNumbers (reportCheck s (length old))
   pub words-are : words ≡ written (reportCheck s (length old)) (report s) old

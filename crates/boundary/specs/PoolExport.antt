@@ -19,7 +19,7 @@ poolNumbers (First number place) bytes = record { number = number; place = place
 poolNumbers (Second number place) bytes = record { number = number; place = place; sheet = 2; bytes = 0 }
 poolNumbers (Pooled number place) bytes = record { number = number; place = place; sheet = 3; bytes = 0 }
 
--- what holds after the call, as `PoolReply` says it of the answer in Rattle
+-- what holds after the call, as `PoolCall` says it of the answer in Rattle
 pub record PoolNumbers (a b old out : List ℕ) (r : EvpPool) : Type 0 where
   pub answer-is : r ≡ poolNumbers (poolAnswer a b (length old)) (length (pool a b))
   pub number-is : r .number ≡ numberOf (poolCheck a b (length old))

@@ -14,7 +14,7 @@ use Rattle.ledger.specs.Ledger.{sheetAfter, wordsAfter}
 use Rattle.shared_ledger.specs.declared.RowAnswer.{RowAnswer}
 use Rattle.shared_ledger.specs.declared.TotalsAnswer.{TotalsAnswer}
 use Rattle.shared_ledger.specs.Opening.{sharedCheck, sharedDemands}
-use Rattle.shared_ledger.specs.Calls.{changeCheck, changeDemands, rowAnswer, rowDemands, totalsAnswer, totalsDemands}
+use Rattle.shared_ledger.specs.Calls.{sharedChangeCheck, sharedChangeDemands, sharedRowAnswer, sharedRowDemands, sharedTotalsAnswer, sharedTotalsDemands}
 use Rattle.boundary.specs.declared.EvpCheck.{EvpCheck}
 use Rattle.boundary.specs.declared.EvpRow.{EvpRow}
 use Rattle.boundary.specs.declared.EvpTotals.{EvpTotals}
@@ -36,16 +36,16 @@ pub record OpenNumbers (s owners old words : List ℕ) (r : EvpCheck) : Type 0 w
 
 -- after a change
 pub record SharedNumbers (s owners old : List ℕ) (who : ℕ) (call : Call) (after words : List ℕ) (r : EvpCheck) : Type 0 where
-  pub answer-is : r ≡ checkNumbers (changeCheck s owners (length old) who call)
-  pub sheet-is : after ≡ sheetAfter (changeCheck s owners (length old) who call) s call
-  pub words-are : words ≡ wordsAfter (changeCheck s owners (length old) who call) after call old
-  pub says : Says (changeDemands s owners (length old) who call) (r .number) (r .place)
+  pub answer-is : r ≡ checkNumbers (sharedChangeCheck s owners (length old) who call)
+  pub sheet-is : after ≡ sheetAfter (sharedChangeCheck s owners (length old) who call) s call
+  pub words-are : words ≡ wordsAfter (sharedChangeCheck s owners (length old) who call) after call old
+  pub says : Says (sharedChangeDemands s owners (length old) who call) (r .number) (r .place)
 
 -- after a read
 pub record RowNumbers (s owners words : List ℕ) (who i : ℕ) (r : EvpRow) : Type 0 where
-  pub answer-is : r ≡ rowNumbers (rowAnswer s owners words who i)
-  pub says : Says (rowDemands s owners (length words) who i) (r .number) (r .place)
+  pub answer-is : r ≡ rowNumbers (sharedRowAnswer s owners words who i)
+  pub says : Says (sharedRowDemands s owners (length words) who i) (r .number) (r .place)
 
 pub record TotalsNumbers (s owners words : List ℕ) (who : ℕ) (r : EvpTotals) : Type 0 where
-  pub answer-is : r ≡ totalsNumbers (totalsAnswer s owners words who)
-  pub says : Says (totalsDemands s owners (length words) who) (r .number) (r .place)
+  pub answer-is : r ≡ totalsNumbers (sharedTotalsAnswer s owners words who)
+  pub says : Says (sharedTotalsDemands s owners (length words) who) (r .number) (r .place)

@@ -8,7 +8,7 @@ use boundary::TravelHanded;
 use map_cells::Cell;
 use map_cells::CellAnswer;
 use map_cells::sums::add_cells;
-use map_rows::RowAnswer;
+use map_rows::RowCellsAnswer;
 use map_rows::cells_of_row;
 use map_shares::Travel;
 use map_shares::Words;
@@ -44,11 +44,11 @@ pub fn no_cell() -> EvpCell
     }
 }
 
-pub fn row_numbers(a: RowAnswer) -> EvpRowCells
+pub fn row_numbers(a: RowCellsAnswer) -> EvpRowCells
     ensures { λ r. ⌜ r ≡ rowNumbers a ⌝ }
 {
     match a {
-        RowAnswer::Cells(v) => {
+        RowCellsAnswer::Cells(v) => {
             let u = v.urban;
             let r = v.rural;
             let h = v.highway;
@@ -60,7 +60,7 @@ pub fn row_numbers(a: RowAnswer) -> EvpRowCells
                 highway: cell_numbers(h),
             }
         }
-        RowAnswer::Refused(number, place) => EvpRowCells {
+        RowCellsAnswer::Refused(number, place) => EvpRowCells {
             number,
             place,
             urban: no_cell(),
@@ -142,11 +142,11 @@ pub fn travel_handed(t: EvpTravel) -> TravelHanded
     })
 }
 
-pub fn handed_row(w: Words, t: TravelHanded) -> RowAnswer
+pub fn handed_row(w: Words, t: TravelHanded) -> RowCellsAnswer
     ensures { λ r. ⌜ r ≡ handedRow w t ⌝ }
 {
     let TravelHanded::Told(travel) = t else {
-        return RowAnswer::Refused(28, 0);
+        return RowCellsAnswer::Refused(28, 0);
     };
     cells_of_row(w, travel)
 }

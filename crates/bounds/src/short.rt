@@ -4,7 +4,7 @@
 use crate::exp::FINEST;
 use crate::exp::HIGH;
 use crate::fixed::mul_shift;
-use crate::order::lesser;
+use crate::order::smaller;
 ghost use mathlib.Core.Path.{_≡_};
 ghost use Prim.Native.Nat.{_+_, _*_, _/_, _^_, _<_, _≤_, min};
 ghost use Rattle.bounds.specs.Series.{E};
@@ -75,5 +75,5 @@ pub fn risen(z: u64, k: u64, r: u64, top: u64) -> u64
     requires { ⌜ (z < 2 ^ 62) × (k ≤ 9 * 2 ^ 36) × (r ≤ 72 * 2 ^ 40) ⌝ }
     ensures { λ x. ⌜ x ≡ min (z + k * r / 2 ^ 23) top ⌝ }
 {
-    lesser(z + (r / TWO_23 * k + r % TWO_23 * k / TWO_23), top)
+    smaller(z + (r / TWO_23 * k + r % TWO_23 * k / TWO_23), top)
 }

@@ -1,6 +1,6 @@
 // What breaks through a carbon canister of the vapour of a rise, in units of 2^-40 g.
 use bounds::fixed::mul_shift;
-use bounds::order::less;
+use bounds::order::minus;
 use bounds::short::risen;
 use bounds::short::short;
 ghost use mathlib.Core.Path.{_≡_};
@@ -35,7 +35,7 @@ fn overflow(c: Curve, rise: u64, x: u64) -> u64
     if x + TWO_24 < c.last {
         0
     } else {
-        less(mul_shift(c.gain, rise), c.room)
+        minus(mul_shift(c.gain, rise), c.room)
     }
 }
 
@@ -45,5 +45,5 @@ pub fn through(tables: &[u64; 1907], c: Curve, rise: u64) -> u64
     ensures { λ r. ⌜ r ≡ through c rise ⌝ }
 {
     let x = risen(c.exponent, c.reach, rise, c.last);
-    less(short(tables, x) * TWO_4 + overflow(c, rise, x), c.first)
+    minus(short(tables, x) * TWO_4 + overflow(c, rise, x), c.first)
 }

@@ -2,6 +2,7 @@
 use fields::ROW_BYTES;
 use fields::SEASON_BYTES;
 use fields::has_many_rows;
+use fields::limits::LONGEST;
 use fields::limits::SEASONS_LIMIT;
 use fields::limits::VERSION_LIMIT;
 use fields::rows_most;
@@ -22,10 +23,8 @@ ghost use Prim.Native.Nat.{_≤_};
 ghost use lib.ListN.{length};
 ghost use Rattle.findings.specs.Table.{countBytes, lettersFinding, markFinding, numbersFinding, lengthFinding};
 
-// The length of the head, and of the longest sheet.
+// The length of the head.
 const HEAD: u64 = 8;
-
-const LONGEST: u64 = 25256;
 
 // Number 2: which letter of the mark.
 fn letters_finding(s: &[u8]) -> Finding

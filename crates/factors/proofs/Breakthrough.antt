@@ -18,7 +18,7 @@ use Rattle.bounds.proofs.ShortLine.{Held, ShortSlope, held-within, held-≈, fi
 use Rattle.bounds.proofs.Within.{widen, weaken, within-≈, within-nonNegative, +-within, sub-within, *-within-rounded}
 use Rattle.exact.specs.Canister.{a, b, curve, B, breakthrough}
 use Rattle.factors.specs.Escape.{loss, risenLoss, breakUnits}
-use Rattle.factors.proofs.Excess.{lesser, excess, lesser-left, lesser-right, lesser-greatest, lesser-map, lesser-held, excess-mono, excess-within}
+use Rattle.factors.proofs.Excess.{smaller, excess, smaller-left, smaller-right, smaller-greatest, smaller-map, smaller-held, excess-mono, excess-within}
 
 -- B(m) in one formula.
 
@@ -29,8 +29,8 @@ add-sub-assoc x y z = +-assoc x y (negᶠ z)
 
 module _ (n : ℕ) (vp s saturation T : Fraction) where
   -- B(m) = E(a + b·s·min(m, m_sat)) + max(0, m − m_sat)
-  pub B-is : (m : Fraction) → B n vp s saturation T m ≈ᶠ curve n vp s saturation T (lesser m saturation) +ᶠ excess m saturation
-  unfolding B lesser excess
+  pub B-is : (m : Fraction) → B n vp s saturation T m ≈ᶠ curve n vp s saturation T (smaller m saturation) +ᶠ excess m saturation
+  unfolding B smaller excess
   B-is m =
       test-cases
       (λ (c : Bool).
@@ -45,7 +45,7 @@ module _ (n : ℕ) (vp s saturation T : Fraction) where
   B-mono {m} {m'} k h =
       ≤-by (B-is m) (B-is m')
       (+-mono
-      (E-mono n (+-mono (≤-refl (a vp T)) (*-mono-right k (lesser-greatest (≤-trans (lesser-left m saturation) h) (lesser-right m saturation)))))
+      (E-mono n (+-mono (≤-refl (a vp T)) (*-mono-right k (smaller-greatest (≤-trans (smaller-left m saturation) h) (smaller-right m saturation)))))
       (excess-mono saturation h))
 
   -- equal vapours break through equally, where b·s is 0 or more
@@ -80,24 +80,24 @@ module _ (sl : ShortSlope) (n A K : ℕ) {σ : ℕ} (vp s saturation T : Fractio
     (full : Within (2 ^ 40) σ 1 saturation)
   where
     -- B(m) = E(min(a + b·s·m, a + b·s·m_sat)) + max(0, m − m_sat)
-    B-capped : (m : Fraction) → B n vp s saturation T m ≈ᶠ E n (lesser (along A K m) (along A K saturation)) +ᶠ excess m saturation
+    B-capped : (m : Fraction) → B n vp s saturation T m ≈ᶠ E n (smaller (along A K m) (along A K saturation)) +ᶠ excess m saturation
     unfolding curve
     B-capped m =
         ≈-trans (B-is n vp s saturation T m)
         (+-cong
-        (E-cong n (≈-trans (along-is A K (lesser m saturation) ea eb) (lesser-map (along A K) m saturation (λ u v h. along-mono A K h))))
+        (E-cong n (≈-trans (along-is A K (smaller m saturation) ea eb) (smaller-map (along A K) m saturation (λ u v h. along-mono A K h))))
         (≈-refl _))
 
     -- the exponent at m_sat
     full-held : Held (lineExponent A K σ) (lineWidth 1) (along A K saturation)
     full-held = line-held A K hK hσ (omega arith) full
 
-    -- E at the lesser of an exponent and that of m_sat, in units of 2⁻⁴⁰
+    -- E at the smaller of an exponent and that of m_sat, in units of 2⁻⁴⁰
     capped-within : {x v : ℕ} {z : Fraction} → lineWidth 1 ≤ v → Held x v z
-        → Within (2 ^ 40) (short (min x (lineExponent A K σ)) * 2 ^ 4) (eWidth sl v) (E n (lesser z (along A K saturation)))
+        → Within (2 ^ 40) (short (min x (lineExponent A K σ)) * 2 ^ 4) (eWidth sl v) (E n (smaller z (along A K saturation)))
     capped-within {x} {v} {z} h e =
         finer (2 ^ 4)
-        (held-within (lesser-held v (omega arith) h e full-held) sl (≤-trans (lesser-right z (along A K saturation)) top) n n40)
+        (held-within (smaller-held v (omega arith) h e full-held) sl (≤-trans (smaller-right z (along A K saturation)) top) n n40)
 
     -- B(m1) for a load of at most m_sat that is known within u
     pub loss-within : {p u : ℕ} {m1 : Fraction} → 1 ≤ u → u ≤ 2 ^ 40 → p ≤ σ → Within (2 ^ 40) p u m1

@@ -1,4 +1,4 @@
--- The lesser of two values and the excess of one over the other, and their enclosures.
+-- The smaller of two values and the excess of one over the other, and their enclosures.
 -- Assumes nothing.
 use mathlib.Core.Bool.{Bool, true, false}
 use Prim.Native.Nat.{ℕ, _+_, _-_, _≤_, _<_, min}
@@ -12,28 +12,28 @@ use Rattle.bounds.proofs.ShortLine.{Held}
 use Rattle.bounds.proofs.Within.{weaken, within-≈, within-above, within-below, within-from, within-cross, whole-within, sub-within}
 
 -- min(x, y)
-unfoldable pub lesser : Fraction → Fraction → Fraction
-lesser x y = elim (x ≤? y) [ true ↦ x | false ↦ y ]
+unfoldable pub smaller : Fraction → Fraction → Fraction
+smaller x y = elim (x ≤? y) [ true ↦ x | false ↦ y ]
 
 -- max(0, x − y)
 unfoldable pub excess : Fraction → Fraction → Fraction
 excess x y = elim (x ≤? y) [ true ↦ whole 0 | false ↦ x -ᶠ y ]
 
 -- min(x, y) ≤ x
-pub lesser-left : (x y : Fraction) → lesser x y ≤ᶠ x
-unfolding lesser
-lesser-left x y =
+pub smaller-left : (x y : Fraction) → smaller x y ≤ᶠ x
+unfolding smaller
+smaller-left x y =
     test-cases (λ (c : Bool). (elim c [ true ↦ x | false ↦ y ]) ≤ᶠ x) x y (λ _. ≤-refl x) (λ h. <→≤ (not-≤→< h))
 
 -- min(x, y) ≤ y
-pub lesser-right : (x y : Fraction) → lesser x y ≤ᶠ y
-unfolding lesser
-lesser-right x y = test-cases (λ (c : Bool). (elim c [ true ↦ x | false ↦ y ]) ≤ᶠ y) x y (λ h. h) (λ _. ≤-refl y)
+pub smaller-right : (x y : Fraction) → smaller x y ≤ᶠ y
+unfolding smaller
+smaller-right x y = test-cases (λ (c : Bool). (elim c [ true ↦ x | false ↦ y ]) ≤ᶠ y) x y (λ h. h) (λ _. ≤-refl y)
 
--- what is at most both is at most the lesser
-pub lesser-greatest : {x y z : Fraction} → z ≤ᶠ x → z ≤ᶠ y → z ≤ᶠ lesser x y
-unfolding lesser
-lesser-greatest {x} {y} {z} h k = test-cases (λ (c : Bool). z ≤ᶠ (elim c [ true ↦ x | false ↦ y ])) x y (λ _. h) (λ _. k)
+-- what is at most both is at most the smaller
+pub smaller-greatest : {x y z : Fraction} → z ≤ᶠ x → z ≤ᶠ y → z ≤ᶠ smaller x y
+unfolding smaller
+smaller-greatest {x} {y} {z} h k = test-cases (λ (c : Bool). z ≤ᶠ (elim c [ true ↦ x | false ↦ y ])) x y (λ _. h) (λ _. k)
 
 -- 0 ≤ max(0, x − y)
 pub excess-nonNegative : (x y : Fraction) → whole 0 ≤ᶠ excess x y
@@ -61,39 +61,39 @@ excess-mono {x} {x'} y h =
     excess-least x y (excess-nonNegative x' y) (≤-trans (sub-mono h (≤-refl y)) (excess-above x' y))
 
 -- min(x + k, y + k) = min(x, y) + k
-lesser-plus : (x y k : Fraction) → lesser (x +ᶠ k) (y +ᶠ k) ≈ᶠ lesser x y +ᶠ k
-unfolding lesser
-lesser-plus x y k =
+smaller-plus : (x y k : Fraction) → smaller (x +ᶠ k) (y +ᶠ k) ≈ᶠ smaller x y +ᶠ k
+unfolding smaller
+smaller-plus x y k =
     ≤-antisym
-    (test-cases (λ (c : Bool). lesser (x +ᶠ k) (y +ᶠ k) ≤ᶠ (elim c [ true ↦ x | false ↦ y ]) +ᶠ k) x y
-    (λ _. lesser-left (x +ᶠ k) (y +ᶠ k)) (λ _. lesser-right (x +ᶠ k) (y +ᶠ k)))
-    (lesser-greatest (+-mono (lesser-left x y) (≤-refl k)) (+-mono (lesser-right x y) (≤-refl k)))
+    (test-cases (λ (c : Bool). smaller (x +ᶠ k) (y +ᶠ k) ≤ᶠ (elim c [ true ↦ x | false ↦ y ]) +ᶠ k) x y
+    (λ _. smaller-left (x +ᶠ k) (y +ᶠ k)) (λ _. smaller-right (x +ᶠ k) (y +ᶠ k)))
+    (smaller-greatest (+-mono (smaller-left x y) (≤-refl k)) (+-mono (smaller-right x y) (≤-refl k)))
 
 -- min(f(x), f(y)) = f(min(x, y)) where f grows
-pub lesser-map : (f : Fraction → Fraction) (x y : Fraction) → ((u v : Fraction) → u ≤ᶠ v → f u ≤ᶠ f v) → f (lesser x y) ≈ᶠ lesser (f x) (f y)
-unfolding lesser
-lesser-map f x y grows =
-    ≤-antisym (lesser-greatest (grows (lesser x y) x (lesser-left x y)) (grows (lesser x y) y (lesser-right x y)))
-    (test-cases (λ (c : Bool). lesser (f x) (f y) ≤ᶠ f (elim c [ true ↦ x | false ↦ y ])) x y (λ _. lesser-left (f x) (f y)) (λ _. lesser-right (f x) (f y)))
+pub smaller-map : (f : Fraction → Fraction) (x y : Fraction) → ((u v : Fraction) → u ≤ᶠ v → f u ≤ᶠ f v) → f (smaller x y) ≈ᶠ smaller (f x) (f y)
+unfolding smaller
+smaller-map f x y grows =
+    ≤-antisym (smaller-greatest (grows (smaller x y) x (smaller-left x y)) (grows (smaller x y) y (smaller-right x y)))
+    (test-cases (λ (c : Bool). smaller (f x) (f y) ≤ᶠ f (elim c [ true ↦ x | false ↦ y ])) x y (λ _. smaller-left (f x) (f y)) (λ _. smaller-right (f x) (f y)))
 
 -- Enclosures.
 
 -- min(x, y)
-pub lesser-within : {s l w m v u : ℕ} {x y : Fraction} (p : 0 < s) → Within s l w x → Within s m v y → min (l + w) (m + v) ≤ min l m + u
-    → Within s (min l m) u (lesser x y)
-lesser-within {s} {l} {w} {m} {v} {u} {x} {y} p a b h =
+pub smaller-within : {s l w m v u : ℕ} {x y : Fraction} (p : 0 < s) → Within s l w x → Within s m v y → min (l + w) (m + v) ≤ min l m + u
+    → Within s (min l m) u (smaller x y)
+smaller-within {s} {l} {w} {m} {v} {u} {x} {y} p a b h =
     within-from p
-    (lesser-greatest (≤-trans (ratio-≤ _ _ p p (mul-le-mul-right s (omega arith))) (within-above p a))
+    (smaller-greatest (≤-trans (ratio-≤ _ _ p p (mul-le-mul-right s (omega arith))) (within-above p a))
     (≤-trans (ratio-≤ _ _ p p (mul-le-mul-right s (omega arith))) (within-above p b)))
     (elim (decLe (l + w) (m + v)) [
-      | yes k ↦ ≤-trans (lesser-left x y) (≤-trans (within-below p a) (ratio-≤ _ _ p p (mul-le-mul-right s (omega arith))))
-      | no k ↦ ≤-trans (lesser-right x y) (≤-trans (within-below p b) (ratio-≤ _ _ p p (mul-le-mul-right s (omega arith))))
+      | yes k ↦ ≤-trans (smaller-left x y) (≤-trans (within-below p a) (ratio-≤ _ _ p p (mul-le-mul-right s (omega arith))))
+      | no k ↦ ≤-trans (smaller-right x y) (≤-trans (within-below p b) (ratio-≤ _ _ p p (mul-le-mul-right s (omega arith))))
     ])
 
--- the lesser of two held exponents
-pub lesser-held : {x w t v : ℕ} (u : ℕ) {z τ : Fraction} → w ≤ u → v ≤ u → Held x w z → Held t v τ → Held (min x t) u (lesser z τ)
-lesser-held u {z} {τ} hw hv hz hτ = record {
-  raised = within-≈ (lesser-plus z τ (whole 16)) (lesser-within (omega arith) (hz .raised) (hτ .raised) (omega arith));
+-- the smaller of two held exponents
+pub smaller-held : {x w t v : ℕ} (u : ℕ) {z τ : Fraction} → w ≤ u → v ≤ u → Held x w z → Held t v τ → Held (min x t) u (smaller z τ)
+smaller-held u {z} {τ} hw hv hz hτ = record {
+  raised = within-≈ (smaller-plus z τ (whole 16)) (smaller-within (omega arith) (hz .raised) (hτ .raised) (omega arith));
 }
 
 -- max(0, x − y)

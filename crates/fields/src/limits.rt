@@ -46,3 +46,6 @@ pub const MINUTES_LIMIT: u64 = 1440;
 
 // Kilometres.
 pub const MILEAGE_LIMIT: u64 = 1000000;
+
+// The bytes of the longest sheet: a grid, 12 seasons and 1,000 rows.
+pub const LONGEST: u64 = 25256;

@@ -10,7 +10,7 @@ use Rattle.sheet.specs.declared.Check.{Check}
 use Rattle.sheet.specs.declared.Check.the-variants.{Pass, Refused}
 use Rattle.sheet.specs.Bytes.{seasonsOf, rowsOf}
 use Rattle.sheet.proofs.Alike.{Alike}
-use Rattle.inventory.specs.FactorCall.{factorCheck, unitsAt, answered, factorAnswer}
+use Rattle.inventory.specs.FactorCall.{factorCheck, unitsAt, factorAnswered, factorAnswer}
 use Rattle.report_words.specs.Report.{reportLength, wordsOf, rowWords, subtotal, subtotals, grandTotal, report}
 use Rattle.inventory.specs.ReportCall.{reportCheck}
 use Rattle.inventory.proofs.CallConditions.{factor-accepted}
@@ -30,8 +30,8 @@ module _ {s s' : List ℕ} (a : Alike s s') where
 
   -- so the same band or refusal
   answered-same : (season row k : ℕ) (c : Check) → factorCheck s season row k ≡ c
-      → answered c (unitsAt s' season row k) ≡ answered c (unitsAt s season row k)
-  unfolding answered
+      → factorAnswered c (unitsAt s' season row k) ≡ factorAnswered c (unitsAt s season row k)
+  unfolding factorAnswered
   answered-same season row k Pass h =
       let (accepted, season-there, row-there, least, most) = factor-accepted s season row k h in
       cc (units-same season row k season-there row-there)

@@ -13,7 +13,7 @@ use Rattle.sheet.specs.Demands.{Says}
 use Rattle.sheet.proofs.Accepted.{Bytes}
 use Rattle.inventory.specs.declared.FactorAnswer.{FactorAnswer}
 use Rattle.inventory.specs.declared.FactorAnswer.the-variants as answer
-use Rattle.inventory.specs.FactorCall.{numbered, factorCheck, unitsAt, answered, factorAnswer, FactorBand, answerNumber, answerPlace, answerLow, answerHigh, factorDemands, FactorReply}
+use Rattle.inventory.specs.FactorCall.{numbered, factorCheck, unitsAt, factorAnswered, factorAnswer, FactorBand, answerNumber, answerPlace, answerLow, answerHigh, factorDemands, FactorCall}
 use Rattle.sheet_factors.proofs.AcceptedRange.{enclosed}
 use Rattle.inventory.proofs.CallConditions.{factor-accepted, factor-judged, factor-says, number-zero}
 
@@ -32,9 +32,9 @@ module _ (s : List ℕ) (season row k : ℕ) (bytes : Bytes s) where
       }
 
   -- for either outcome of the checks
-  reply-kept : (c : Check) → factorCheck s season row k ≡ c → {r : FactorAnswer} → r ≡ answered c (unitsAt s season row k)
+  reply-kept : (c : Check) → factorCheck s season row k ≡ c → {r : FactorAnswer} → r ≡ factorAnswered c (unitsAt s season row k)
       → Says (factorDemands s season row k) (answerNumber r) (answerPlace r) × (answerNumber r ≡ 0 → FactorBand s season row k (answerLow r) (answerHigh r))
-  unfolding answered answerNumber answerPlace answerLow answerHigh numberOf placeOf
+  unfolding factorAnswered answerNumber answerPlace answerLow answerHigh numberOf placeOf
   reply-kept Pass h e = rw e (rw h at (factor-says s season row k), λ _. factor-band h)
   reply-kept (Refused number place) h e =
       rw e (
@@ -47,15 +47,15 @@ module _ (s : List ℕ) (season row k : ℕ) (bytes : Bytes s) where
 
   -- Each outcome of the code is the answer.
   pub refusal-is : {number place : ℕ} → factorCheck s season row k ≡ Refused number place → answer.Refused number place ≡ factorAnswer s season row k
-  unfolding factorAnswer answered
+  unfolding factorAnswer factorAnswered
   refusal-is h = rw h
 
   pub band-is : {low high units : ℕ} → factorCheck s season row k ≡ Pass → units ≡ unitsAt s season row k → low ≡ lowMicrograms units → high ≡ highMicrograms units
       → answer.Band low high ≡ factorAnswer s season row k
-  unfolding factorAnswer answered
+  unfolding factorAnswer factorAnswered
   band-is h u l g = rw (h, l, g, u)
 
   -- and an outcome that is the answer is what is promised
-  pub promised : {r : FactorAnswer} → r ≡ factorAnswer s season row k → FactorReply s season row k r
+  pub promised : {r : FactorAnswer} → r ≡ factorAnswer s season row k → FactorCall s season row k r
   unfolding factorAnswer
   promised e = let kept = reply-kept (factorCheck s season row k) refl e in record { answer-is = e; says = kept .0; band = kept .1 }

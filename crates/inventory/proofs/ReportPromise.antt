@@ -15,12 +15,12 @@ use Rattle.report_words.specs.Years.{filled, reportWord}
 use Rattle.report_words.proofs.Filled.{tab-getD}
 use Rattle.report_words.proofs.ReportPlaces.{report-length}
 use Rattle.report_words.proofs.Promised.{promise}
-use Rattle.inventory.specs.ReportCall.{reportCheck, written, ReportAnswer}
+use Rattle.inventory.specs.ReportCall.{reportCheck, written, ReportCall}
 use Rattle.inventory.proofs.CallConditions.{report-judged, report-says, number-zero}
 use Rattle.inventory.proofs.Written.{written-first}
 
 -- What holds after the call.
-pub report-answer : {s old words : List ℕ} {r : Check} → Bytes s → r ≡ reportCheck s (length old) → words ≡ written r (report s) old → ReportAnswer s old words r
+pub report-answer : {s old words : List ℕ} {r : Check} → Bytes s → r ≡ reportCheck s (length old) → words ≡ written r (report s) old → ReportCall s old words r
 unfolding reportCheck reportLength
 report-answer {s} {old} {words} {r} bytes e w =
     record {

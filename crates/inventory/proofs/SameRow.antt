@@ -13,7 +13,7 @@ use Rattle.sheet.specs.NextVersion.{SameRow}
 use Rattle.sheet.proofs.NextVersion.{kept, cells-kept, season-kept, season-list-kept, row-kept, no-mileage}
 use Rattle.report_words.specs.Report.{wordsOf, report}
 use Rattle.report_words.proofs.ReportPlaces.{row-word-at}
-use Rattle.inventory.specs.FactorCall.{factorCheck, unitsAt, answered, factorAnswer}
+use Rattle.inventory.specs.FactorCall.{factorCheck, unitsAt, factorAnswered, factorAnswer}
 use Rattle.inventory.specs.NextVersion.{RowTheorem}
 use Rattle.inventory.proofs.CallConditions.{factor-accepted}
 
@@ -38,8 +38,8 @@ module _ {s t : List ℕ} {i j : ℕ} (same : SameRow s t i j) where
     unfolding unitsAt
     units-same l = rw (cells-kept (kept same), season-kept (kept same) season l, row-kept same)
 
-    answered-same : (c : Check) → factorCheck s season i k ≡ c → answered c (unitsAt t season j k) ≡ answered c (unitsAt s season i k)
-    unfolding answered
+    answered-same : (c : Check) → factorCheck s season i k ≡ c → factorAnswered c (unitsAt t season j k) ≡ factorAnswered c (unitsAt s season i k)
+    unfolding factorAnswered
     answered-same Pass h =
         let (accepted, season-there, row-there, least, most) = factor-accepted s season i k h in
         rw (units-same season-there)

@@ -37,13 +37,13 @@ factorCheck s season row k =
 unfoldable pub unitsAt : List ℕ → ℕ → ℕ → ℕ → ℕ
 unitsAt s season row k = factorUnits (seasonAt s season) (rowAt s row) (cellsOf s) (numbered k)
 
-unfoldable pub answered : Check → ℕ → FactorAnswer
-answered Pass units = answer.Band (lowMicrograms units) (highMicrograms units)
-answered (Refused number place) units = answer.Refused number place
+unfoldable pub factorAnswered : Check → ℕ → FactorAnswer
+factorAnswered Pass units = answer.Band (lowMicrograms units) (highMicrograms units)
+factorAnswered (Refused number place) units = answer.Refused number place
 
 -- the answer, as a function of the bytes and the three numbers
 unfoldable pub factorAnswer : List ℕ → ℕ → ℕ → ℕ → FactorAnswer
-factorAnswer s season row k = answered (factorCheck s season row k) (unitsAt s season row k)
+factorAnswer s season row k = factorAnswered (factorCheck s season row k) (unitsAt s season row k)
 
 -- "The factor call's low and high are at most 10 micrograms apart", around the exact factor for every n from 40 upward
 pub record FactorBand (s : List ℕ) (season row k low high : ℕ) : Type 0 where
@@ -74,7 +74,7 @@ factorDemands s season row k =
     demand 23 0 (((season < seasonsOf s) × (row < rowsOf s)) × ((1 ≤ k) × (k ≤ 7)))
 
 -- What holds of the answer. Document 01 leaves low and high open within the bounds of the band.
-pub record FactorReply (s : List ℕ) (season row k : ℕ) (r : FactorAnswer) : Type 0 where
+pub record FactorCall (s : List ℕ) (season row k : ℕ) (r : FactorAnswer) : Type 0 where
   pub answer-is : r ≡ factorAnswer s season row k
   pub says : Says (factorDemands s season row k) (answerNumber r) (answerPlace r)
   pub band : answerNumber r ≡ 0 → FactorBand s season row k (answerLow r) (answerHigh r)

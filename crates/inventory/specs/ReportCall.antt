@@ -25,7 +25,7 @@ written Pass new old = new ++ drop (length new) old
 written (Refused number place) new old = old
 
 -- What holds after the call, with the words that stood in the buffer before it and those that stand there now.
-pub record ReportAnswer (s old words : List ℕ) (r : Check) : Type 0 where
+pub record ReportCall (s old words : List ℕ) (r : Check) : Type 0 where
   pub answer-is : r ≡ reportCheck s (length old)
   pub words-are : words ≡ written r (report s) old
   pub says : Says (reportDemands s (length old)) (numberOf r) (placeOf r)

@@ -11,9 +11,9 @@ ghost use mathlib.Core.Path.{_≡_};
 ghost use Prim.Native.Nat.{_^_, _<_};
 ghost use lib.ListN.{length};
 ghost use Rattle.sheet.specs.declared.Check.the-variants.{Pass};
-ghost use Rattle.inventory.specs.FactorCall.{factorCheck, unitsAt, FactorReply};
+ghost use Rattle.inventory.specs.FactorCall.{factorCheck, unitsAt, FactorCall};
 ghost use Rattle.report_words.specs.Report.{report};
-ghost use Rattle.inventory.specs.ReportCall.{reportCheck, written, ReportAnswer};
+ghost use Rattle.inventory.specs.ReportCall.{reportCheck, written, ReportCall};
 
 pub mod check;
 
@@ -37,7 +37,7 @@ fn units_at(s: &[u8], season: usize, row: usize, k: usize) -> u64
 // One factor, 1 to 7, of a season and a row, counted from 0, in micrograms. Document 01 leaves low and high open within
 // the bounds that are promised here; the answer is also a function of the bytes and the three numbers.
 pub fn factor(s: &[u8], season: u64, row: u64, k: u64) -> FactorAnswer
-    ensures { λ r. ⌜ FactorReply (now (s .entry)) season row k r ⌝ }
+    ensures { λ r. ⌜ FactorCall (now (s .entry)) season row k r ⌝ }
 {
     if let Check::Refused(number, place) = factor_check(s, season, row, k) {
         return FactorAnswer::Refused(number, place);
@@ -58,7 +58,7 @@ pub fn write_report(s: &[u8], words: &mut [u64])
 // All words of the report in milligrams, or a refusal that leaves the buffer as it is. Document 01 leaves a low or high
 // open within the bounds that are promised here; all words are also a function of the bytes.
 pub fn report(s: &[u8], words: &mut [u64]) -> Check
-    ensures { λ r. ⌜ ReportAnswer (now (s .entry)) (now (words .entry)) (now (words .exit)) r ⌝ }
+    ensures { λ r. ⌜ ReportCall (now (s .entry)) (now (words .entry)) (now (words .exit)) r ⌝ }
 {
     let check = report_check(s, words.len());
     if let Check::Refused(_, _) = check {

@@ -6,9 +6,9 @@ use Prim.Native.Nat.{ℕ}
 use lib.ListN.{length}
 use Rattle.sheet.specs.declared.Check.{Check}
 use Rattle.sheet.specs.declared.Check.the-variants.{Pass}
-use Rattle.inventory.specs.ReportCall.{reportCheck, ReportAnswer}
+use Rattle.inventory.specs.ReportCall.{reportCheck, ReportCall}
 use Rattle.ledger.specs.declared.Call.{Call}
-use Rattle.ledger.specs.Ledger.{ChangeAnswer, Ledger, answer, after, opened, run, answers}
+use Rattle.ledger.specs.Ledger.{ChangeCall, Ledger, answer, after, opened, run, answers}
 use Rattle.ledger.specs.Course.{Made, none, next, CourseTheorem}
 use Rattle.ledger.proofs.Kept.{ledger-kept}
 
@@ -17,11 +17,11 @@ abbrev ledgerOf : List ℕ → List ℕ → Ledger
 ledgerOf s w = record { sheet = s; words = w }
 
 -- one call: its answer, and what it leaves
-call-answers : {s w s' w' : List ℕ} {call : Call} {r : Check} → ChangeAnswer s w call s' w' r → r ≡ answer (ledgerOf s w) call
+call-answers : {s w s' w' : List ℕ} {call : Call} {r : Check} → ChangeCall s w call s' w' r → r ≡ answer (ledgerOf s w) call
 unfolding answer
 call-answers a = a .answer-is
 
-call-leaves : {s w s' w' : List ℕ} {call : Call} {r : Check} → ChangeAnswer s w call s' w' r → ledgerOf s' w' ≡ after (ledgerOf s w) call
+call-leaves : {s w s' w' : List ℕ} {call : Call} {r : Check} → ChangeCall s w call s' w' r → ledgerOf s' w' ≡ after (ledgerOf s w) call
 unfolding after answer
 call-leaves {s} {w} {s'} {w'} {call} a = rw (← a .answer-is, ← a .sheet-is, ← a .words-are) refl
 
@@ -35,7 +35,7 @@ made-is {s} {w} {calls = call ∷ calls} {rs = r ∷ rs} (next a m) =
     (left ∙ ap (run calls) (call-leaves a), ap₂ _∷_ (call-answers a) (told ∙ ap (answers calls) (call-leaves a)))
 
 -- an opening that passes
-open-is : {s w words : List ℕ} {r : Check} → ReportAnswer s w words r → r ≡ Pass → ledgerOf s words ≡ opened s w
+open-is : {s w words : List ℕ} {r : Check} → ReportCall s w words r → r ≡ Pass → ledgerOf s words ≡ opened s w
 unfolding opened
 open-is {s} {w} a e =
     let opens : reportCheck s (length w) ≡ Pass = sym (a .answer-is) ∙ e in

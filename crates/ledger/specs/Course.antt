@@ -9,23 +9,23 @@ use Rattle.sheet.specs.Integers.{u8At}
 use Rattle.sheet.specs.Versions.{hasManyRows}
 use Rattle.sheet.specs.Counts.{countsOf}
 use Rattle.report_words.specs.Promise.{ReportPromise}
-use Rattle.inventory.specs.ReportCall.{ReportAnswer}
+use Rattle.inventory.specs.ReportCall.{ReportCall}
 use Rattle.ledger.specs.declared.Call.{Call}
 use Rattle.ledger.specs.Machine.{machine}
-use Rattle.ledger.specs.Ledger.{ChangeAnswer}
+use Rattle.ledger.specs.Ledger.{ChangeCall}
 use Rattle.ledger.specs.Kept.{SameButCounts, machineAnswers}
 
 -- from bytes s and words w, by these calls with these answers, to bytes t and words u
 pub data Made : List ℕ → List ℕ → List Call → List Check → List ℕ → List ℕ → Type 0 where
   none : {s w : List ℕ} → Made s w [] [] s w
   next : {s w s' w' t u : List ℕ} {call : Call} {calls : List Call} {r : Check} {answers : List Check}
-      → ChangeAnswer s w call s' w' r → Made s' w' calls answers t u → Made s w (call ∷ calls) (r ∷ answers) t u
+      → ChangeCall s w call s' w' r → Made s' w' calls answers t u → Made s w (call ∷ calls) (r ∷ answers) t u
 
 -- "from a freshly opened ledger": the report call on bytes s with words w passes and leaves `opened`, on which the calls are made
 pub record Course (s w : List ℕ) (calls : List Call) (answers : List Check) (t u : List ℕ) : Type 0 where
   pub opened : List ℕ
   pub answer : Check
-  pub opening : ReportAnswer s w opened answer
+  pub opening : ReportCall s w opened answer
   pub accepted : answer ≡ Pass
   pub made : Made s opened calls answers t u
 
@@ -36,7 +36,7 @@ pub record CourseKept (s w : List ℕ) (calls : List Call) (answers : List Check
   pub sheet-is : SameButCounts s t
   -- "and the report is word by word the one computed afresh from the sheet with those counts": a report call on t, with the words w that
   -- the ledger was opened in, passes and leaves just these words
-  pub afresh : (words : List ℕ) (r : Check) → ReportAnswer t w words r → (r ≡ Pass) × (u ≡ words)
+  pub afresh : (words : List ℕ) (r : Check) → ReportCall t w words r → (r ≡ Pass) × (u ≡ words)
   pub promise : ReportPromise t u
   -- and each call was answered as the machine refuses it or not
   pub answers-are : answers ≡ machineAnswers (hasManyRows s) calls (countsOf s)

@@ -44,7 +44,7 @@ abbrev pub changeDemands : List ℕ → ℕ → Call → Demands
 changeDemands s room call = reportDemands s room next demand 29 0 ((rowOf call < rowsOf s) × Within s call)
 
 -- What holds after a call, with the bytes and words that stood there before it and those that stand there now.
-pub record ChangeAnswer (s old : List ℕ) (call : Call) (after words : List ℕ) (r : Check) : Type 0 where
+pub record ChangeCall (s old : List ℕ) (call : Call) (after words : List ℕ) (r : Check) : Type 0 where
   pub answer-is : r ≡ changeCheck s (length old) call
   pub sheet-is : after ≡ sheetAfter r s call
   pub words-are : words ≡ wordsAfter r after call old

@@ -26,7 +26,7 @@ use Rattle.inventory.proofs.CallConditions.{report-sheet, report-accepted}
 use Rattle.ledger.specs.declared.Call.{Call}
 use Rattle.ledger.specs.declared.Call.the-variants.{Arrival, Departure}
 use Rattle.ledger.specs.Machine.{rowOf, past, wrong, newCount}
-use Rattle.ledger.specs.Ledger.{changeCheck, sheetAfter, wordsAfter, ChangeAnswer}
+use Rattle.ledger.specs.Ledger.{changeCheck, sheetAfter, wordsAfter, ChangeCall}
 use Rattle.ledger.proofs.Counts.{counts-length, count-at, allowed}
 use Rattle.ledger.proofs.Conditions.{change-says}
 use Rattle.ledger.proofs.Kept.{answer-open, change-allowed, rows-kept, still-opens}
@@ -83,24 +83,24 @@ with-count-same s {j} {v} e f = ap (λ (k : ℕ). withCount s k v) e ∙ ap (wit
 -- The three outcomes of a call.
 module _ (s w : List ℕ) (call : Call) where
   answered : {after words : List ℕ} {r : Check} → r ≡ changeCheck s (length w) call → after ≡ sheetAfter r s call → words ≡ wordsAfter r after call w
-      → ChangeAnswer s w call after words r
+      → ChangeCall s w call after words r
   answered e b c = record { answer-is = e; sheet-is = b; words-are = c; says = rw e (change-says s (length w) call) }
 
   -- opening would refuse them,
-  pub not-open : {r : Check} {n p : ℕ} → r ≡ reportCheck s (length w) → r ≡ Refused n p → ChangeAnswer s w call s w r
+  pub not-open : {r : Check} {n p : ℕ} → r ≡ reportCheck s (length w) → r ≡ Refused n p → ChangeCall s w call s w r
   unfolding changeCheck sheetAfter wordsAfter _then_
   not-open {r} {n} {p} e h =
       let c : reportCheck s (length w) ≡ Refused n p = sym e ∙ h in
       answered (rw (h, c) refl) (rw h refl) (rw h refl)
 
   -- 29,
-  pub wrong-call : reportCheck s (length w) ≡ Pass → wrong (hasManyRows s) (countsOf s) call ≡ true → ChangeAnswer s w call s w (Refused 29 0)
+  pub wrong-call : reportCheck s (length w) ≡ Pass → wrong (hasManyRows s) (countsOf s) call ≡ true → ChangeCall s w call s w (Refused 29 0)
   unfolding sheetAfter wordsAfter refuse
   wrong-call opens h = answered (sym (answer-open s (length w) call opens ∙ rw h refl)) refl refl
 
   -- and done
   pub right-call : {after words : List ℕ} → reportCheck s (length w) ≡ Pass → wrong (hasManyRows s) (countsOf s) call ≡ false
-      → after ≡ sheetAfter Pass s call → words ≡ wordsAfter Pass after call w → ChangeAnswer s w call after words Pass
+      → after ≡ sheetAfter Pass s call → words ≡ wordsAfter Pass after call w → ChangeCall s w call after words Pass
   unfolding refuse
   right-call opens h e b = answered (sym (answer-open s (length w) call opens ∙ rw h refl)) e b
 

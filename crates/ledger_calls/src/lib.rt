@@ -26,7 +26,7 @@ ghost use Rattle.sheet.specs.Sheet.{sheetCheck};
 ghost use Rattle.ledger.specs.declared.Call.the-variants.{Arrival, Departure};
 ghost use Rattle.ledger.specs.Machine.{rowOf, past, wrong, newCount};
 ghost use Rattle.inventory.specs.ReportCall.{reportCheck};
-ghost use Rattle.ledger.specs.Ledger.{sheetAfter, wordsAfter, ChangeAnswer};
+ghost use Rattle.ledger.specs.Ledger.{sheetAfter, wordsAfter, ChangeCall};
 
 // So many more would be too many together, where the sheet may have many rows.
 fn fleet_past(s: &[u8], count: u64) -> bool
@@ -127,7 +127,7 @@ pub fn apply(s: &mut [u8], words: &mut [u64], call: Call)
 
 // A call on a ledger. Whatever the buffers hold is checked first, as opening them would; a refused call changes neither.
 pub fn change(s: &mut [u8], words: &mut [u64], call: Call) -> Check
-    ensures { λ r. ⌜ ChangeAnswer (now (s .entry)) (now (words .entry)) call (now (s .exit)) (now (words .exit)) r ⌝ }
+    ensures { λ r. ⌜ ChangeCall (now (s .entry)) (now (words .entry)) call (now (s .exit)) (now (words .exit)) r ⌝ }
 {
     let check = report_check(s, words.len());
     if let Check::Refused(_, _) = check {
@@ -142,14 +142,14 @@ pub fn change(s: &mut [u8], words: &mut [u64], call: Call) -> Check
 
 // Vehicles arrive at a row.
 pub fn arrive(s: &mut [u8], words: &mut [u64], row: u64, vehicles: u64) -> Check
-    ensures { λ r. ⌜ ChangeAnswer (now (s .entry)) (now (words .entry)) (Arrival row vehicles) (now (s .exit)) (now (words .exit)) r ⌝ }
+    ensures { λ r. ⌜ ChangeCall (now (s .entry)) (now (words .entry)) (Arrival row vehicles) (now (s .exit)) (now (words .exit)) r ⌝ }
 {
     change(s, words, Call::Arrival(row, vehicles))
 }
 
 // Vehicles depart from a row.
 pub fn depart(s: &mut [u8], words: &mut [u64], row: u64, vehicles: u64) -> Check
-    ensures { λ r. ⌜ ChangeAnswer (now (s .entry)) (now (words .entry)) (Departure row vehicles) (now (s .exit)) (now (words .exit)) r ⌝ }
+    ensures { λ r. ⌜ ChangeCall (now (s .entry)) (now (words .entry)) (Departure row vehicles) (now (s .exit)) (now (words .exit)) r ⌝ }
 {
     change(s, words, Call::Departure(row, vehicles))
 }

@@ -15,18 +15,18 @@ use Rattle.map_cells.specs.declared.CellAnswer.the-variants.{Sum, Refuse
 use Rattle.map_cells.specs.Doubles.{massLimit}
 use Rattle.map_cells.specs.Cells.{cellOf, massesOf}
 use Rattle.map_cells.specs.Sums.{massesSum, cellSum}
-use Rattle.map_cells.specs.Promise.{numberOf, placeOf, SumIn, SumSays, SumCell, SumPromise}
+use Rattle.map_cells.specs.Promise.{sumNumberOf, sumPlaceOf, SumIn, SumSays, SumCell, SumPromise}
 use Rattle.map_cells.proofs.Between.{wrong-between}
 use Rattle.map_cells.proofs.Enclosed.{sum-encloses}
 use Rattle.map_cells.proofs.GivenSum.{given-sum}
 use Rattle.map_cells.proofs.Signs.{sum-no-minus}
 
 -- what the number means
-says : (a b : Cell) → SumSays a b (numberOf (cellSum a b)) (placeOf (cellSum a b))
-unfolding cellSum massesSum numberOf placeOf
+says : (a b : Cell) → SumSays a b (sumNumberOf (cellSum a b)) (sumPlaceOf (cellSum a b))
+unfolding cellSum massesSum sumNumberOf sumPlaceOf
 says a b = go (massesOf a) (massesOf b) refl refl
   where
-    go : (m n : Masses) → massesOf a ≡ m → massesOf b ≡ n → SumSays a b (numberOf (massesSum m n)) (placeOf (massesSum m n))
+    go : (m n : Masses) → massesOf a ≡ m → massesOf b ≡ n → SumSays a b (sumNumberOf (massesSum m n)) (sumPlaceOf (massesSum m n))
     go Wrong n f g = record { place-is = refl; meaning = inr (refl, λ s. wrong-between (s .low) (s .high) (sym f ∙ s .first)) }
     go (Between l h) Wrong f g = record { place-is = refl; meaning = inr (refl, λ s. wrong-between (s .low') (s .high') (sym g ∙ s .second)) }
     go (Between l h) (Between l' h') f g = tests (leb (h + h') massLimit) (leb-true (h + h') massLimit) (leb-false (h + h') massLimit)
@@ -38,7 +38,7 @@ says a b = go (massesOf a) (massesOf b) refl refl
             omega arith
 
         tests : (t : Bool) → (t ≡ true → h + h' ≤ massLimit) → (t ≡ false → massLimit < h + h')
-            → SumSays a b (numberOf (cond t (Sum (cellOf (l + l') (h + h'))) (Refused 27 0))) (placeOf (cond t (Sum (cellOf (l + l') (h + h'))) (Refused 27 0)))
+            → SumSays a b (sumNumberOf (cond t (Sum (cellOf (l + l') (h + h'))) (Refused 27 0))) (sumPlaceOf (cond t (Sum (cellOf (l + l') (h + h'))) (Refused 27 0)))
         tests true p q = record {
           place-is = refl;
           meaning = inl (refl, record { low = l; high = h; low' = l'; high' = h'; first = f; second = g; room = p refl });

@@ -12,13 +12,13 @@ use Rattle.map_cells.specs.Cells.{cellOf, massesOf}
 use Rattle.map_cells.specs.Values.{InCell, NoMinus}
 
 -- "a definition gives this paper's number and values for each of the enum's cases": number 0 stands for a cell
-unfoldable pub numberOf : CellAnswer → ℕ
-numberOf (Sum c) = 0
-numberOf (Refused number place) = number
+unfoldable pub sumNumberOf : CellAnswer → ℕ
+sumNumberOf (Sum c) = 0
+sumNumberOf (Refused number place) = number
 
-unfoldable pub placeOf : CellAnswer → ℕ
-placeOf (Sum c) = 0
-placeOf (Refused number place) = place
+unfoldable pub sumPlaceOf : CellAnswer → ℕ
+sumPlaceOf (Sum c) = 0
+sumPlaceOf (Refused number place) = place
 
 -- both cells handed in are cells, and their highs together are at most 2⁵³
 pub record SumIn (a b : Cell) : Type 0 where
@@ -45,5 +45,5 @@ pub record SumCell (a b c : Cell) : Type 0 where
   pub no-minus : NoMinus c
 
 pub record SumPromise (a b : Cell) (r : CellAnswer) : Type 0 where
-  pub says : SumSays a b (numberOf r) (placeOf r)
+  pub says : SumSays a b (sumNumberOf r) (sumPlaceOf r)
   pub cell : (c : Cell) → r ≡ Sum c → SumCell a b c

@@ -4,7 +4,7 @@ use mathlib.Core.Path.{refl, sym}
 use Prim.Native.Nat.{ℕ, _≤_}
 use Rattle.report_words.specs.Promise.{RowPromise}
 use Rattle.map_shares.specs.ExactShares.{InWords}
-use Rattle.map_rows.specs.declared.RowAnswer.the-variants.{Cells}
+use Rattle.map_rows.specs.declared.RowCellsAnswer.the-variants.{Cells}
 use Rattle.map_rows.proofs.Promised.{promised}
 use Rattle.map_promise.specs.Marker.{rowWords, exactMasses, MarkedTheorem}
 

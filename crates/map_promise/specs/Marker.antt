@@ -8,7 +8,7 @@ use Rattle.exact.specs.Masses.{Mechanism, diurnal, soak, running, mass}
 use Rattle.sheet.specs.declared.Check.{Check}
 use Rattle.sheet.specs.Check.{numberOf}
 use Rattle.sheet.specs.Bytes.{rowsOf, cellsOf, seasonList, rowAt}
-use Rattle.inventory.specs.ReportCall.{ReportAnswer}
+use Rattle.inventory.specs.ReportCall.{ReportCall}
 use Rattle.map_cells.specs.declared.Cell.{Cell}
 use Rattle.map_cells.specs.Values.{InCell}
 use Rattle.map_shares.specs.declared.Words.{Words}
@@ -17,8 +17,8 @@ use Rattle.map_shares.specs.declared.Travel.{Travel}
 use Rattle.map_shares.specs.Roads.{urbanRoad, ruralRoad, highwayRoad}
 use Rattle.map_shares.specs.ExactShares.{ExactMasses, exactSum}
 use Rattle.map_rows.specs.declared.RowCells.{RowCells}
-use Rattle.map_rows.specs.declared.RowAnswer.the-variants.{Cells}
-use Rattle.map_rows.specs.Rows.{rowAnswer}
+use Rattle.map_rows.specs.declared.RowCellsAnswer.the-variants.{Cells}
+use Rattle.map_rows.specs.Rows.{rowCellsAnswer}
 
 -- "From a row's report words": the six of row i, as they stand in the buffer
 abbrev pub rowWords : List ℕ → ℕ → Words
@@ -47,5 +47,5 @@ pub record Marked (s : List ℕ) (i : ℕ) (t : Travel) (v : RowCells) : Type 0 
 -- so it is after every report call that accepts its sheet, of any version, for each row and wherever its vehicles drive
 abbrev pub MarkedTheorem : Type 0
 MarkedTheorem =
-    (s old words : List ℕ) (r : Check) → ReportAnswer s old words r → numberOf r ≡ 0
-    → (i : ℕ) → i < rowsOf s → (t : Travel) (v : RowCells) → rowAnswer (rowWords words i) t ≡ Cells v → Marked s i t v
+    (s old words : List ℕ) (r : Check) → ReportCall s old words r → numberOf r ≡ 0
+    → (i : ℕ) → i < rowsOf s → (t : Travel) (v : RowCells) → rowCellsAnswer (rowWords words i) t ≡ Cells v → Marked s i t v

@@ -17,10 +17,10 @@ use Rattle.map_shares.specs.Range.{RoadIn}
 use Rattle.map_shares.proofs.Ranges.{shares-in, urban-in, rural-in, highway-in}
 use Rattle.map_shares.proofs.Enclosure.{sum-above, sum-below}
 use Rattle.map_rows.specs.declared.RowCells.{RowCells}
-use Rattle.map_rows.specs.declared.RowAnswer.{RowAnswer}
-use Rattle.map_rows.specs.declared.RowAnswer.the-variants.{Cells, Refused}
-use Rattle.map_rows.specs.Rows.{travelWrong, wordsWrong, over, roadCell, sharedOut, rowAnswer, numberOf, placeOf}
-use Rattle.map_rows.specs.Promise.{RoomIn, CellPromise, CellsPromise, RowSays, RowPromise}
+use Rattle.map_rows.specs.declared.RowCellsAnswer.{RowCellsAnswer}
+use Rattle.map_rows.specs.declared.RowCellsAnswer.the-variants.{Cells, Refused}
+use Rattle.map_rows.specs.Rows.{travelWrong, wordsWrong, over, roadCell, sharedOut, rowCellsAnswer, rowNumberOf, rowPlaceOf}
+use Rattle.map_rows.specs.Promise.{RoomIn, CellPromise, CellsPromise, RowSays, RowCellsPromise}
 use Rattle.map_rows.proofs.Demanded.{travel-met, travel-unmet, words-met, words-unmet, room-met, room-unmet}
 
 -- "the sum of a cell's exact shares lies in that cell, and is 0 where the cell is empty"
@@ -50,12 +50,12 @@ module _ (w : Words) (t : Travel) where
     highway = encloses w (highwayRoad t) j (highway-in t i) (r .highway-room);
   }
 
-  refusal : {number : ℕ} → RowSays w t number 0 → RowPromise w t (Refused number 0)
-  unfolding numberOf placeOf
+  refusal : {number : ℕ} → RowSays w t number 0 → RowCellsPromise w t (Refused number 0)
+  unfolding rowNumberOf rowPlaceOf
   refusal says = record { says = says; cells = λ v e. absurd (no-cells v e) }
 
-  answer : TravelIn t → WordsIn w → RoomIn (rowShares w t) → RowPromise w t (Cells given)
-  unfolding numberOf placeOf
+  answer : TravelIn t → WordsIn w → RoomIn (rowShares w t) → RowCellsPromise w t (Cells given)
+  unfolding rowNumberOf rowPlaceOf
   answer i j r = record {
     says = record { place-is = refl; meaning = inl (refl, i, j, r) };
     cells = λ v e. subst (λ (x : RowCells). CellsPromise w t x) (same v e) (cells-kept i j r);
@@ -65,22 +65,22 @@ module _ (w : Words) (t : Travel) where
       same v e = cc
 
   -- what the definition answers keeps the promise
-  answer-kept : RowPromise w t (rowAnswer w t)
-  unfolding rowAnswer sharedOut rowShares
+  answer-kept : RowCellsPromise w t (rowCellsAnswer w t)
+  unfolding rowCellsAnswer sharedOut rowShares
   answer-kept = travel (travelWrong t) refl
     where
       room : travelWrong t ≡ false → wordsWrong w ≡ false → (c : Bool)
-          → (over (roadShares w (urbanRoad t)) || over (roadShares w (ruralRoad t)) || over (roadShares w (highwayRoad t))) ≡ c → RowPromise w t (rowAnswer w t)
+          → (over (roadShares w (urbanRoad t)) || over (roadShares w (ruralRoad t)) || over (roadShares w (highwayRoad t))) ≡ c → RowCellsPromise w t (rowCellsAnswer w t)
       room e f true g = rw (e, f, g) (refusal (record { place-is = refl; meaning = inr (inr (refl, travel-met t e, λ m. room-unmet (rowShares w t) g (m .1))) }))
       room e f false g = rw (e, f, g) (answer (travel-met t e) (words-met w f) (room-met (rowShares w t) g))
 
-      words : travelWrong t ≡ false → (b : Bool) → wordsWrong w ≡ b → RowPromise w t (rowAnswer w t)
+      words : travelWrong t ≡ false → (b : Bool) → wordsWrong w ≡ b → RowCellsPromise w t (rowCellsAnswer w t)
       words e true f = rw (e, f) (refusal (record { place-is = refl; meaning = inr (inr (refl, travel-met t e, λ m. words-unmet w f (m .0))) }))
       words e false f = room e f _ refl
 
-      travel : (a : Bool) → travelWrong t ≡ a → RowPromise w t (rowAnswer w t)
+      travel : (a : Bool) → travelWrong t ≡ a → RowCellsPromise w t (rowCellsAnswer w t)
       travel true e = rw e (refusal (record { place-is = refl; meaning = inr (inl (refl, travel-unmet t e)) }))
       travel false e = words e _ refl
 
-  pub promised : (v : RowAnswer) → v ≡ rowAnswer w t → RowPromise w t v
-  promised v e = subst (λ (a : RowAnswer). RowPromise w t a) (sym e) answer-kept
+  pub promised : (v : RowCellsAnswer) → v ≡ rowCellsAnswer w t → RowCellsPromise w t v
+  promised v e = subst (λ (a : RowCellsAnswer). RowCellsPromise w t a) (sym e) answer-kept

@@ -11,10 +11,10 @@ use Rattle.map_shares.specs.Range.{RowIn}
 use Rattle.map_shares.specs.Shares.{total, rowShares}
 use Rattle.map_rows.specs.declared.Limits.{Limits}
 use Rattle.map_rows.specs.declared.RowCells.{RowCells}
-use Rattle.map_rows.specs.declared.RowAnswer.{RowAnswer}
-use Rattle.map_rows.specs.declared.RowAnswer.the-variants.{Cells, Refused}
-use Rattle.map_rows.specs.Limits.{Fits, limitsOf, cellsOf}
-use Rattle.map_rows.specs.Rows.{over, roadCell, sharedOut, travelWrong, wordsWrong, rowAnswer}
+use Rattle.map_rows.specs.declared.RowCellsAnswer.{RowCellsAnswer}
+use Rattle.map_rows.specs.declared.RowCellsAnswer.the-variants.{Cells, Refused}
+use Rattle.map_rows.specs.Limits.{Fits, limitsOf, cellsWithin}
+use Rattle.map_rows.specs.Rows.{over, roadCell, sharedOut, travelWrong, wordsWrong, rowCellsAnswer}
 use Rattle.map_rows.proofs.Demanded.{room-met}
 
 -- the cell between the doubles of a road kind's sums is its cell
@@ -52,8 +52,8 @@ module _ (s : RowShares) (i : RowIn s) {a b c : Bool} (e : a ≡ over (s .urban)
         }
 
     pub out-cells : {x y z : Limits} (v : RowCells) → x ≡ limitsOf (s .urban) → y ≡ limitsOf (s .rural) → z ≡ limitsOf (s .highway)
-        → v ≡ cellsOf (record { urban = x; rural = y; highway = z }) → Cells v ≡ sharedOut s
-    unfolding sharedOut cellsOf
+        → v ≡ cellsWithin (record { urban = x; rural = y; highway = z }) → Cells v ≡ sharedOut s
+    unfolding sharedOut cellsWithin
     out-cells v p q r k =
         let u = road-cell (s .urban) (all-fit .urban-fits) p in
         let l = road-cell (s .rural) (all-fit .rural-fits) q in
@@ -62,14 +62,14 @@ module _ (s : RowShares) (i : RowIn s) {a b c : Bool} (e : a ≡ over (s .urban)
 
 -- the order of the checks
 module _ (w : Words) (t : Travel) {a : Bool} (e : a ≡ travelWrong t) where
-  pub answer-travel : a ≡ true → Refused 28 0 ≡ rowAnswer w t
-  unfolding rowAnswer
+  pub answer-travel : a ≡ true → Refused 28 0 ≡ rowCellsAnswer w t
+  unfolding rowCellsAnswer
   answer-travel f = rw (← e, f)
 
-  pub answer-words : {b : Bool} → a ≡ false → b ≡ wordsWrong w → b ≡ true → Refused 27 0 ≡ rowAnswer w t
-  unfolding rowAnswer
+  pub answer-words : {b : Bool} → a ≡ false → b ≡ wordsWrong w → b ≡ true → Refused 27 0 ≡ rowCellsAnswer w t
+  unfolding rowCellsAnswer
   answer-words f g h = rw (← e, f, ← g, h)
 
-  pub answer-cells : {b : Bool} {s : RowShares} (v : RowAnswer) → a ≡ false → b ≡ wordsWrong w → b ≡ false → s ≡ rowShares w t → v ≡ sharedOut s → v ≡ rowAnswer w t
-  unfolding rowAnswer
+  pub answer-cells : {b : Bool} {s : RowShares} (v : RowCellsAnswer) → a ≡ false → b ≡ wordsWrong w → b ≡ false → s ≡ rowShares w t → v ≡ sharedOut s → v ≡ rowCellsAnswer w t
+  unfolding rowCellsAnswer
   answer-cells v f g h i k = rw (← e, f, ← g, h, ← i) k

@@ -23,8 +23,8 @@ pub record LimitsIn (k : RoadLimits) : Type 0 where
   pub rural-in : LowAndHigh (k .rural .low) (k .rural .high)
   pub highway-in : LowAndHigh (k .highway .low) (k .highway .high)
 
-unfoldable pub cellsOf : RoadLimits → RowCells
-cellsOf k = record {
+unfoldable pub cellsWithin : RoadLimits → RowCells
+cellsWithin k = record {
   urban = cellBetween (k .urban .low) (k .urban .high);
   rural = cellBetween (k .rural .low) (k .rural .high);
   highway = cellBetween (k .highway .low) (k .highway .high);

@@ -14,9 +14,9 @@ use Rattle.map_shares.specs.Roads.{urbanRoad, ruralRoad, highwayRoad}
 use Rattle.map_shares.specs.Shares.{total, rowShares}
 use Rattle.map_shares.specs.ExactShares.{ExactMasses, InWords, exactSum}
 use Rattle.map_rows.specs.declared.RowCells.{RowCells}
-use Rattle.map_rows.specs.declared.RowAnswer.{RowAnswer}
-use Rattle.map_rows.specs.declared.RowAnswer.the-variants.{Cells}
-use Rattle.map_rows.specs.Rows.{numberOf, placeOf}
+use Rattle.map_rows.specs.declared.RowCellsAnswer.{RowCellsAnswer}
+use Rattle.map_rows.specs.declared.RowCellsAnswer.the-variants.{Cells}
+use Rattle.map_rows.specs.Rows.{rowNumberOf, rowPlaceOf}
 
 -- no cell's high is above 2⁵³
 pub record RoomIn (s : RowShares) : Type 0 where
@@ -42,6 +42,6 @@ pub record RowSays (w : Words) (t : Travel) (number place : ℕ) : Type 0 where
       ((number ≡ 28) × ¬ (TravelIn t)) ⊎
       ((number ≡ 27) × TravelIn t × ¬ (WordsIn w × RoomIn (rowShares w t)))
 
-pub record RowPromise (w : Words) (t : Travel) (r : RowAnswer) : Type 0 where
-  pub says : RowSays w t (numberOf r) (placeOf r)
+pub record RowCellsPromise (w : Words) (t : Travel) (r : RowCellsAnswer) : Type 0 where
+  pub says : RowSays w t (rowNumberOf r) (rowPlaceOf r)
   pub cells : (v : RowCells) → r ≡ Cells v → CellsPromise w t v

@@ -12,8 +12,8 @@ use Rattle.map_shares.specs.declared.RoadShares.{RoadShares}
 use Rattle.map_shares.specs.declared.RowShares.{RowShares}
 use Rattle.map_shares.specs.Demands.{travelLimit}
 use Rattle.map_shares.specs.Shares.{total, rowShares}
-use Rattle.map_rows.specs.declared.RowAnswer.{RowAnswer}
-use Rattle.map_rows.specs.declared.RowAnswer.the-variants.{Cells, Refused}
+use Rattle.map_rows.specs.declared.RowCellsAnswer.{RowCellsAnswer}
+use Rattle.map_rows.specs.declared.RowCellsAnswer.the-variants.{Cells, Refused}
 
 -- "not from 1 to 1,000,000"
 unfoldable pub amiss : ℕ → Bool
@@ -39,23 +39,23 @@ unfoldable pub roadCell : RoadShares → Cell
 roadCell s = cellOf (total (s .low)) (total (s .high))
 
 -- the three cells of a row's shares, or a refusal
-unfoldable pub sharedOut : RowShares → RowAnswer
+unfoldable pub sharedOut : RowShares → RowCellsAnswer
 sharedOut s =
     cond (over (s .urban) || over (s .rural) || over (s .highway)) (Refused 27 0)
     (Cells (record { urban = roadCell (s .urban); rural = roadCell (s .rural); highway = roadCell (s .highway) }))
 
 -- "28 .. checked first"; "place 0"
-unfoldable pub rowAnswer : Words → Travel → RowAnswer
-rowAnswer w t =
+unfoldable pub rowCellsAnswer : Words → Travel → RowCellsAnswer
+rowCellsAnswer w t =
     cond (travelWrong t) (Refused 28 0)
     (cond (wordsWrong w) (Refused 27 0)
     (sharedOut (rowShares w t)))
 
 -- "a definition gives this paper's number and values for each of the enum's cases": number 0 stands for cells
-unfoldable pub numberOf : RowAnswer → ℕ
-numberOf (Cells v) = 0
-numberOf (Refused number place) = number
+unfoldable pub rowNumberOf : RowCellsAnswer → ℕ
+rowNumberOf (Cells v) = 0
+rowNumberOf (Refused number place) = number
 
-unfoldable pub placeOf : RowAnswer → ℕ
-placeOf (Cells v) = 0
-placeOf (Refused number place) = place
+unfoldable pub rowPlaceOf : RowCellsAnswer → ℕ
+rowPlaceOf (Cells v) = 0
+rowPlaceOf (Refused number place) = place

@@ -7,8 +7,8 @@ use map_shares::Travel;
 use map_shares::Words;
 use sums::share_out;
 ghost use mathlib.Core.Path.{_≡_};
-ghost use Rattle.map_rows.specs.Promise.{RowPromise};
-ghost use Rattle.map_rows.specs.Rows.{rowAnswer};
+ghost use Rattle.map_rows.specs.Promise.{RowCellsPromise};
+ghost use Rattle.map_rows.specs.Rows.{rowCellsAnswer};
 
 mod checks;
 pub mod roads;
@@ -37,20 +37,20 @@ pub struct RowCells {
 }
 
 // What the call answers: three cells, or the number and the place of a refusal, which holds no cell.
-pub enum RowAnswer {
+pub enum RowCellsAnswer {
     Cells(RowCells),
     Refused(u64, u64),
 }
 
 // The cells of a row, or a refusal: 28 before 27.
-pub fn cells_of_row(w: Words, t: Travel) -> RowAnswer
-    ensures { λ r. ⌜ (r ≡ rowAnswer w t) × RowPromise w t r ⌝ }
+pub fn cells_of_row(w: Words, t: Travel) -> RowCellsAnswer
+    ensures { λ r. ⌜ (r ≡ rowCellsAnswer w t) × RowCellsPromise w t r ⌝ }
 {
     if travel_wrong(t) {
-        return RowAnswer::Refused(28, 0);
+        return RowCellsAnswer::Refused(28, 0);
     }
     if words_wrong(w) {
-        return RowAnswer::Refused(27, 0);
+        return RowCellsAnswer::Refused(27, 0);
     }
     share_out(row_shares(w, t))
 }

@@ -16,7 +16,7 @@ fn in_town(town: bool, a: u64, b: u64) -> u64
 }
 
 // A mileage times a speed.
-fn time(mileage: u64, speed: u64) -> u64
+fn crossed(mileage: u64, speed: u64) -> u64
     requires { ⌜ (mileage ≤ travelLimit) × (speed ≤ travelLimit) ⌝ }
     ensures { λ r. ⌜ (r ≡ mileage * speed) × (r ≤ 10 ^ 12) ⌝ }
 {
@@ -50,8 +50,8 @@ pub fn rural_road(t: Travel) -> Road
     requires { ⌜ TravelIn t ⌝ }
     ensures { λ r. ⌜ r ≡ ruralRoad t ⌝ }
 {
-    let rural = time(t.mileage.rural, t.speed.highway);
-    let both = rural + time(t.mileage.highway, t.speed.rural);
+    let rural = crossed(t.mileage.rural, t.speed.highway);
+    let both = rural + crossed(t.mileage.highway, t.speed.rural);
     let diurnal = Part {
         part: rural,
         all: in_town(t.town, 12 * both, both),
@@ -75,8 +75,8 @@ pub fn highway_road(t: Travel) -> Road
     requires { ⌜ TravelIn t ⌝ }
     ensures { λ r. ⌜ r ≡ highwayRoad t ⌝ }
 {
-    let highway = time(t.mileage.highway, t.speed.rural);
-    let both = time(t.mileage.rural, t.speed.highway) + highway;
+    let highway = crossed(t.mileage.highway, t.speed.rural);
+    let both = crossed(t.mileage.rural, t.speed.highway) + highway;
     let diurnal = Part {
         part: highway,
         all: in_town(t.town, 12 * both, both),

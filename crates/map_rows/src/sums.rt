@@ -1,8 +1,8 @@
 // The shares of each road kind, added as doubles, and the cells between their sums.
 use crate::Limits;
 use crate::RoadLimits;
-use crate::RowAnswer;
 use crate::RowCells;
+use crate::RowCellsAnswer;
 use map_cells::doubles::MASS_LIMIT;
 use map_cells::doubles::add_three;
 use map_cells::kinds::cell_between;
@@ -11,7 +11,7 @@ use map_shares::RowShares;
 ghost use mathlib.Core.Path.{_≡_};
 ghost use Rattle.map_shares.specs.Range.{SharesIn, RowIn};
 ghost use Rattle.map_rows.specs.Rows.{over, sharedOut};
-ghost use Rattle.map_rows.specs.Limits.{Fits, limitsOf, LimitsIn, cellsOf};
+ghost use Rattle.map_rows.specs.Limits.{Fits, limitsOf, LimitsIn, cellsWithin};
 
 // The highs of a road kind pass 2^53. Asked of whole numbers: the double of 2^53 + 1 would not show it.
 fn over(s: RoadShares) -> bool
@@ -35,7 +35,7 @@ fn limits(s: RoadShares) -> Limits
 // The three cells, from the lows and highs of the three road kinds.
 fn cells_of(k: RoadLimits) -> RowCells
     requires { ⌜ LimitsIn k ⌝ }
-    ensures { λ r. ⌜ r ≡ cellsOf k ⌝ }
+    ensures { λ r. ⌜ r ≡ cellsWithin k ⌝ }
 {
     RowCells {
         urban: cell_between(k.urban.low, k.urban.high),
@@ -45,7 +45,7 @@ fn cells_of(k: RoadLimits) -> RowCells
 }
 
 // The cells of a row's shares, or a refusal where one of them would pass 2^53.
-pub fn share_out(s: RowShares) -> RowAnswer
+pub fn share_out(s: RowShares) -> RowCellsAnswer
     requires { ⌜ RowIn s ⌝ }
     ensures { λ r. ⌜ r ≡ sharedOut s ⌝ }
 {
@@ -53,12 +53,12 @@ pub fn share_out(s: RowShares) -> RowAnswer
     let r = s.rural;
     let h = s.highway;
     if over(u) | over(r) | over(h) {
-        return RowAnswer::Refused(27, 0);
+        return RowCellsAnswer::Refused(27, 0);
     }
     let k = RoadLimits {
         urban: limits(u),
         rural: limits(r),
         highway: limits(h),
     };
-    RowAnswer::Cells(cells_of(k))
+    RowCellsAnswer::Cells(cells_of(k))
 }

@@ -3,7 +3,7 @@ use bounds::exp::ZERO;
 use bounds::exp::exponential;
 use bounds::fixed::mul_shift;
 use bounds::hours::weights_table;
-use bounds::order::less;
+use bounds::order::minus;
 use bounds::power::power;
 use exact::Season;
 use fields::warmth;
@@ -124,7 +124,7 @@ fn steps(heats: [u64; 48]) -> [u64; 48]
     let mut out = [0u64; 48];
     let mut i: usize = 0;
     while i < 48 {
-        out[i] = less(heats[(i + 1) % 48], heats[i]);
+        out[i] = minus(heats[(i + 1) % 48], heats[i]);
         i += 1;
     }
     out

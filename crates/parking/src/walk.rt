@@ -1,7 +1,7 @@
 // What passes in each parking, end hour by end hour: a half-hour further back adds its mark's value to what is carried along, so that
 // an end hour takes 24 steps for its 24 parkings.
 use crate::cells::start_mark;
-use bounds::order::less;
+use bounds::order::minus;
 ghost use mathlib.Core.Path.{_≡_};
 ghost use Prim.Native.Nat.{ℕ, _+_, _*_, _-_, _/_, _^_, _<_, _≤_};
 ghost use lib.ListN.{length};
@@ -84,7 +84,7 @@ fn lowered(values: &[u64; 576]) -> [u64; 576]
     let mut out = [0u64; 576];
     let mut cell: usize = 0;
     while cell < 576 {
-        out[cell] = less(values[cell], RISE_ERROR);
+        out[cell] = minus(values[cell], RISE_ERROR);
         cell += 1;
     }
     out

@@ -18,7 +18,7 @@ use Rattle.sheet.proofs.Checks.{Tests, Judges, then-pass, below-suc, tests-as, 
 use Rattle.sheet.proofs.Conditions.{mark-judged, sheet-judged, met-accepted}
 use Rattle.pooling.specs.declared.PoolAnswer.the-variants.{Accepted, First, Second, Pooled}
 use Rattle.pooling.specs.Pool.{pool, regionCheck, sharedBytes, someDiffers, differ, pairCheck, poolCheck}
-use Rattle.pooling.specs.PoolCall.{answered, poolAnswer, checkOf, regionDemands, Agree, pairDemands, PoolSays}
+use Rattle.pooling.specs.PoolCall.{poolAnswered, poolAnswer, checkOf, regionDemands, Agree, pairDemands, PoolSays}
 use Rattle.pooling.specs.Late.{lateCheck}
 use Rattle.pooling.proofs.PoolBytes.{Region, Pair, pool-long}
 use Rattle.pooling.proofs.PoolChecks.{pooled-check}
@@ -47,8 +47,8 @@ unfolding pairCheck
 pair-judged a b room = differ-tests a b ⊳ judges-then (sheet-judged (pool a b)) (judges-refuse (ltb-tests room (length (pool a b))))
 
 -- the answer's number and place are those of the first check that applies
-answered-check : (first second together : Check) → checkOf (answered first second together) ≡ (first then second then together)
-unfolding checkOf answered _then_
+answered-check : (first second together : Check) → checkOf (poolAnswered first second together) ≡ (first then second then together)
+unfolding checkOf poolAnswered _then_
 answered-check (Refused number place) second together = refl
 answered-check Pass (Refused number place) together = refl
 answered-check Pass Pass (Refused number place) = refl
@@ -61,24 +61,24 @@ answer-check a b room = answered-check _ _ _
 -- Each outcome of the checks is the answer.
 module _ (a b : List ℕ) (room : ℕ) {number place : ℕ} where
   pub first-is : regionCheck a ≡ Refused number place → First number place ≡ poolAnswer a b room
-  unfolding poolAnswer answered
+  unfolding poolAnswer poolAnswered
   first-is p = rw p
 
   pub second-is : regionCheck a ≡ Pass → regionCheck b ≡ Refused number place → Second number place ≡ poolAnswer a b room
-  unfolding poolAnswer answered
+  unfolding poolAnswer poolAnswered
   second-is p q = rw (p, q)
 
   pub pooled-is : regionCheck a ≡ Pass → regionCheck b ≡ Pass → pairCheck a b room ≡ Refused number place → Pooled number place ≡ poolAnswer a b room
-  unfolding poolAnswer answered
+  unfolding poolAnswer poolAnswered
   pooled-is p q r = rw (p, q, r)
 
 pub accepted-is : (a b : List ℕ) (room : ℕ) → regionCheck a ≡ Pass → regionCheck b ≡ Pass → pairCheck a b room ≡ Pass → Accepted ≡ poolAnswer a b room
-unfolding poolAnswer answered
+unfolding poolAnswer poolAnswered
 accepted-is a b room p q r = rw (p, q, r)
 
 -- and it says of which sheet
-told : (a b : List ℕ) (room : ℕ) (c d e : Check) → regionCheck a ≡ c → regionCheck b ≡ d → pairCheck a b room ≡ e → PoolSays a b room (answered c d e)
-unfolding answered
+told : (a b : List ℕ) (room : ℕ) (c d e : Check) → regionCheck a ≡ c → regionCheck b ≡ d → pairCheck a b room ≡ e → PoolSays a b room (poolAnswered c d e)
+unfolding poolAnswered
 told a b room (Refused number place) d e p q r = region-judged a .refuses number place p
 told a b room Pass (Refused number place) e p q r = (region-judged a .passes p, region-judged b .refuses number place q)
 told a b room Pass Pass (Refused number place) p q r =

@@ -17,7 +17,7 @@ use Rattle.sheet.specs.Sheet.{vehiclesBefore, sheetCheck}
 use Rattle.sheet.proofs.Versions.{rows-many, most-many, start-grid}
 use Rattle.sheet.proofs.Accepted.{accepted}
 use Rattle.sheet.proofs.Local.{Same, row-same}
-use Rattle.sheet.proofs.NextVersion.{Kept}
+use Rattle.sheet.proofs.NextVersion.{SheetKept}
 use Rattle.pooling.specs.Pool.{regionVersion, rowsTogether, pool, sharedBytes}
 use Rattle.pooling.specs.PoolCall.{Agree}
 
@@ -139,7 +139,7 @@ module _ {a b : List ℕ} (h : Pair a b) where
       omega (arith, rows-many (pool a b) many-pool, low-byte a b (omega (arith, long)), high-byte a b (omega (arith, long)), rows-most (h .first), rows-most (h .second))
 
   -- parking and seasons are those of the first,
-  pub kept-first : Kept a (pool a b)
+  pub kept-first : SheetKept a (pool a b)
   kept-first = record {
     grid-of-s = grid (h .first);
     grid-of-t = grid-pool;
@@ -148,7 +148,7 @@ module _ {a b : List ℕ} (h : Pair a b) where
   }
 
   -- and of the second
-  pub kept-second : Kept b (pool a b)
+  pub kept-second : SheetKept b (pool a b)
   kept-second = record {
     grid-of-s = grid (h .second);
     grid-of-t = grid-pool;

@@ -24,7 +24,7 @@ use Rattle.sheet.proofs.Conditions.{mark-judged, length-judged, parking-judged,
 use Rattle.sheet.proofs.Stages.{then-pass-right, each-append}
 use Rattle.sheet.proofs.BeforeRows.{each-cong}
 use Rattle.sheet.proofs.Local.{Same, byte-at, word-at, equipment-same}
-use Rattle.sheet.proofs.NextVersion.{Kept, counts-kept, season-kept, days-kept, some-kept}
+use Rattle.sheet.proofs.NextVersion.{SheetKept, counts-kept, season-kept, days-kept, some-kept}
 use Rattle.pooling.specs.Pool.{rowsTogether, pool}
 use Rattle.pooling.specs.Late.{fleetCheck, lateCheck}
 use Rattle.pooling.proofs.PoolBytes.{Pair, start, length-is, version-pool, seasons-pool, letters-pool, many-pool, rows-pool, pool-long}
@@ -88,7 +88,7 @@ abbrev exceeds : List ℕ → ℕ → Bool
 exceeds s i = hasManyRows s && ltb fleetLimit (vehiclesBefore s i + (rowAt s i) .vehicles)
 
 -- the checks of a row that t has of s, of the same version and with the same parking and seasons
-row-with : {s t : List ℕ} (i j : ℕ) → Kept s t → versionOf t ≡ versionOf s → Same t s (rowPlace t j) (rowPlace s i) 24 → rowAt t j ≡ rowAt s i
+row-with : {s t : List ℕ} (i j : ℕ) → SheetKept s t → versionOf t ≡ versionOf s → Same t s (rowPlace t j) (rowPlace s i) 24 → rowAt t j ≡ rowAt s i
     → rowCheck t j ≡ rowWith s i (exceeds t j) (rowPlace t j)
 unfolding rowCheck rowWith mileageWrong
 row-with {s} {t} i j kept version bytes row =

@@ -14,7 +14,7 @@ use Rattle.pooling.specs.declared.PoolAnswer.{PoolAnswer}
 use Rattle.pooling.specs.declared.PoolAnswer.the-variants.{Accepted}
 use Rattle.pooling.specs.Pool.{pool, poolCheck}
 use Rattle.pooling.specs.Late.{Regions}
-use Rattle.pooling.specs.PoolCall.{poolAnswer, checkOf, PoolReply}
+use Rattle.pooling.specs.PoolCall.{poolAnswer, checkOf, PoolCall}
 use Rattle.pooling.proofs.PoolAnswers.{answer-check, answer-says, regions, poolable}
 
 -- all bytes of the pooled sheet, one after another
@@ -23,7 +23,7 @@ unfolding written
 filled-pool a b old e = rw e (ap (λ (r : List ℕ). r ++ drop (length (pool a b)) old) (tab-getD (pool a b)))
 
 -- what holds after the call
-pub pool-reply : {a b old out : List ℕ} {r : PoolAnswer} → r ≡ poolAnswer a b (length old) → out ≡ written (checkOf r) (pool a b) old → PoolReply a b old out r
+pub pool-reply : {a b old out : List ℕ} {r : PoolAnswer} → r ≡ poolAnswer a b (length old) → out ≡ written (checkOf r) (pool a b) old → PoolCall a b old out r
 pool-reply {a} {b} {old} e w =
     let check = ap checkOf e ∙ answer-check a b (length old) in
     record { answer-is = e; check-is = check; bytes-are = w ∙ rw check; says = rw e (answer-says a b (length old)) }
@@ -42,7 +42,7 @@ pub record Pools (a b old out : List ℕ) : Type 0 where
   pub fits : length (pool a b) ≤ length old
   pub first : take (length (pool a b)) out ≡ pool a b
 
-pub pools : {a b old out : List ℕ} {r : PoolAnswer} → PoolReply a b old out r → r ≡ Accepted → Pools a b old out
+pub pools : {a b old out : List ℕ} {r : PoolAnswer} → PoolCall a b old out r → r ≡ Accepted → Pools a b old out
 unfolding checkOf written
 pools {a} {b} {old} reply e =
     let pass : poolCheck a b (length old) ≡ Pass = sym (reply .check-is) ∙ ap checkOf e in

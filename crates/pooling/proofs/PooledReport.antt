@@ -14,19 +14,19 @@ use Rattle.sheet.specs.Versions.{versionOf}
 use Rattle.sheet.specs.Bytes.{seasonsOf, rowsOf, rowPlace, rowAt}
 use Rattle.sheet.proofs.Conditions.{sheet-judged}
 use Rattle.sheet.proofs.Local.{Same}
-use Rattle.sheet.proofs.NextVersion.{Kept, cells-kept, season-list-kept}
+use Rattle.sheet.proofs.NextVersion.{SheetKept, cells-kept, season-list-kept}
 use Rattle.report_words.specs.Report.{wordsOf, anyClass, subtotal, grandTotal, report}
 use Rattle.report_words.specs.Years.{category}
 use Rattle.report_words.proofs.ReportPlaces.{row-word-at, category-word-at, total-at}
 use Rattle.pooling.specs.Pool.{rowsTogether, pool, sharedBytes}
-use Rattle.pooling.specs.PooledReport.{RowMoved, sumWord, PoolTheorem, OrderTheorem}
+use Rattle.pooling.specs.PooledReport.{RowMoved, totalsWord, PoolTheorem, OrderTheorem}
 use Rattle.pooling.proofs.PoolBytes.{Pair, exchanged, start, length-is, first-byte, low-byte, high-byte, rows-pool, pool-long, kept-first}
 use Rattle.pooling.proofs.PoolBytes.{kept-second, place-pool, first-same, second-same, row-first, row-second}
 use Rattle.pooling.proofs.PoolAnswers.{poolable}
 use Rattle.pooling.proofs.RefusedOnly.{passes-exchanged}
 
 -- a row that t has of s, with the same parking and seasons
-row-moved : {s t : List ℕ} (i j : ℕ) → Kept s t → Same t s (rowPlace t j) (rowPlace s i) 24 → rowAt t j ≡ rowAt s i → i < rowsOf s → j < rowsOf t → RowMoved s t i j
+row-moved : {s t : List ℕ} (i j : ℕ) → SheetKept s t → Same t s (rowPlace t j) (rowPlace s i) 24 → rowAt t j ≡ rowAt s i → i < rowsOf s → j < rowsOf t → RowMoved s t i j
 unfolding wordsOf
 row-moved {s} {t} i j kept bytes row l m =
     let words : wordsOf t j ≡ wordsOf s i = rw (cells-kept kept, season-list-kept kept, row) in
@@ -45,11 +45,11 @@ moved-both m n = record {
 }
 
 -- the first 24 of the words after the rows, and the last two
-category-sum : (s : List ℕ) (k : ℕ) → k < 24 → sumWord s k ≡ subtotal s (category (k / 6)) (rowsOf s) (k % 6)
+category-sum : (s : List ℕ) (k : ℕ) → k < 24 → totalsWord s k ≡ subtotal s (category (k / 6)) (rowsOf s) (k % 6)
 category-sum s k l =
     ap (at (report s)) {x = 6 * rowsOf s + k} {y = 6 * (rowsOf s + k / 6) + k % 6} (omega arith) ∙ category-word-at s (k / 6) (k % 6) (omega arith) (omega arith)
 
-total-sum : (s : List ℕ) (j : ℕ) → j < 2 → sumWord s (24 + j) ≡ grandTotal s j
+total-sum : (s : List ℕ) (j : ℕ) → j < 2 → totalsWord s (24 + j) ≡ grandTotal s j
 total-sum s j l = ap (at (report s)) {x = 6 * rowsOf s + (24 + j)} {y = 6 * rowsOf s + 24 + j} (omega arith) ∙ total-at s j l
 
 module _ {a b : List ℕ} (h : Pair a b) where
@@ -92,7 +92,7 @@ module _ {a b : List ℕ} (h : Pair a b) where
   total-pool j = omega (arith, subtotal-pool anyClass j, subtotal-pool anyClass (2 + j), subtotal-pool anyClass (4 + j))
 
   -- "every subtotal is the sum of theirs", and so are the grand totals
-  sums-pool : (k : ℕ) → k < 26 → sumWord (pool a b) k ≡ sumWord a k + sumWord b k
+  sums-pool : (k : ℕ) → k < 26 → totalsWord (pool a b) k ≡ totalsWord a k + totalsWord b k
   sums-pool k l =
       elim (decLe 24 k) [
         | yes m ↦

@@ -15,15 +15,15 @@ use Rattle.pooling.specs.declared.PoolAnswer.the-variants.{Accepted, Fir
 use Rattle.pooling.specs.Pool.{regionVersion, pool, regionCheck, sharedBytes, pairCheck, poolCheck}
 
 -- the first of the three that refuses: the first sheet, the second, or the two together
-unfoldable pub answered : Check → Check → Check → PoolAnswer
-answered (Refused number place) second together = First number place
-answered Pass (Refused number place) together = Second number place
-answered Pass Pass (Refused number place) = Pooled number place
-answered Pass Pass Pass = Accepted
+unfoldable pub poolAnswered : Check → Check → Check → PoolAnswer
+poolAnswered (Refused number place) second together = First number place
+poolAnswered Pass (Refused number place) together = Second number place
+poolAnswered Pass Pass (Refused number place) = Pooled number place
+poolAnswered Pass Pass Pass = Accepted
 
 -- the answer, as a function of the bytes and the room
 unfoldable pub poolAnswer : List ℕ → List ℕ → ℕ → PoolAnswer
-poolAnswer a b room = answered (regionCheck a) (regionCheck b) (pairCheck a b room)
+poolAnswer a b room = poolAnswered (regionCheck a) (regionCheck b) (pairCheck a b room)
 
 -- "a definition gives this paper's number and values for each of the enum's cases": a refusal's number and place, of whichever sheet
 unfoldable pub checkOf : PoolAnswer → Check
@@ -54,7 +54,7 @@ PoolSays a b room (Pooled number place) =
 
 -- What holds after the call, with the bytes that stood in the buffer before it and those that stand there now: "the output buffer is
 -- untouched by every refusal", and bytes beyond the pooled sheet are kept.
-pub record PoolReply (a b old out : List ℕ) (r : PoolAnswer) : Type 0 where
+pub record PoolCall (a b old out : List ℕ) (r : PoolAnswer) : Type 0 where
   pub answer-is : r ≡ poolAnswer a b (length old)
   pub check-is : checkOf r ≡ poolCheck a b (length old)
   pub bytes-are : out ≡ written (poolCheck a b (length old)) (pool a b) old

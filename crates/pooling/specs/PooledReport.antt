@@ -27,15 +27,15 @@ pub record RowMoved (s t : List ℕ) (i j : ℕ) : Type 0 where
   pub words : (k : ℕ) → k < 6 → at (report t) (6 * j + k) ≡ at (report s) (6 * i + k)
 
 -- word k of the 26 that follow the rows' words: six for each of three categories, six for all rows, and the grand total's two
-abbrev pub sumWord : List ℕ → ℕ → ℕ
-sumWord s k = at (report s) (6 * rowsOf s + k)
+abbrev pub totalsWord : List ℕ → ℕ → ℕ
+totalsWord s k = at (report s) (6 * rowsOf s + k)
 
 -- "both sheets' row words and every subtotal is the sum of theirs": low and high of each subtotal and of the total
 pub record PooledReport (a b : List ℕ) : Type 0 where
   pub rows : rowsOf (pool a b) ≡ rowsOf a + rowsOf b
   pub first : (i : ℕ) → i < rowsOf a → RowMoved a (pool a b) i i
   pub second : (i : ℕ) → i < rowsOf b → RowMoved b (pool a b) i (rowsOf a + i)
-  pub sums : (k : ℕ) → k < 26 → sumWord (pool a b) k ≡ sumWord a k + sumWord b k
+  pub sums : (k : ℕ) → k < 26 → totalsWord (pool a b) k ≡ totalsWord a k + totalsWord b k
 
 abbrev pub PoolTheorem : Type 0
 PoolTheorem = (a b : List ℕ) (room : ℕ) → poolCheck a b room ≡ Pass → PooledReport a b
@@ -48,7 +48,7 @@ pub record OtherOrder (a b : List ℕ) (room : ℕ) : Type 0 where
   pub before-rows : (k : ℕ) → k < rowPlace (pool a b) 0 → u8At (pool b a) k ≡ u8At (pool a b) k
   pub first : (i : ℕ) → i < rowsOf a → RowMoved (pool a b) (pool b a) i (rowsOf b + i)
   pub second : (i : ℕ) → i < rowsOf b → RowMoved (pool a b) (pool b a) (rowsOf a + i) i
-  pub sums : (k : ℕ) → k < 26 → sumWord (pool b a) k ≡ sumWord (pool a b) k
+  pub sums : (k : ℕ) → k < 26 → totalsWord (pool b a) k ≡ totalsWord (pool a b) k
 
 abbrev pub OrderTheorem : Type 0
 OrderTheorem = (a b : List ℕ) (room : ℕ) → poolCheck a b room ≡ Pass → OtherOrder a b room

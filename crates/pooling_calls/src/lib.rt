@@ -12,7 +12,7 @@ ghost use Rattle.sheet.specs.declared.Check.the-variants.{Pass};
 ghost use Rattle.sheet.specs.Integers.{u8At};
 ghost use Rattle.inventory.specs.ReportCall.{written};
 ghost use Rattle.pooling.specs.Pool.{pool};
-ghost use Rattle.pooling.specs.PoolCall.{checkOf, PoolReply};
+ghost use Rattle.pooling.specs.PoolCall.{checkOf, PoolCall};
 ghost use Rattle.pooling.specs.Late.{Regions};
 
 mod check;
@@ -76,7 +76,7 @@ fn check_of(answer: PoolAnswer) -> Check
 
 // The pooled sheet's bytes, or a refusal that leaves the buffer as it is.
 pub fn pool(a: &[u8], b: &[u8], out: &mut [u8]) -> PoolAnswer
-    ensures { λ r. ⌜ PoolReply (now (a .entry)) (now (b .entry)) (now (out .entry)) (now (out .exit)) r ⌝ }
+    ensures { λ r. ⌜ PoolCall (now (a .entry)) (now (b .entry)) (now (out .entry)) (now (out .exit)) r ⌝ }
 {
     let answer = pool_answer(a, b, out.len());
     if let Check::Refused(_, _) = check_of(answer) {

@@ -2,6 +2,7 @@
 use fields::row_place;
 use fields::rows_of;
 use fields::u8_at;
+use report_words::words::ROW_WORDS;
 use std::num::wrapping_add_u64;
 ghost use mathlib.Core.Path.{_≡_};
 ghost use Prim.Native.Nat.{_+_, _*_, _%_, _^_, _≤_, _<_};
@@ -14,9 +15,6 @@ ghost use Rattle.report_words.specs.Years.{category};
 ghost use Rattle.report_sums.specs.Sums.{bufferSum, summed, threeWord, totalled, resummed};
 
 pub mod renewal;
-
-// How many words a row has, and a category.
-const SIX: usize = 6;
 
 // The class of a row.
 fn class_of(s: &[u8], i: usize) -> u64
@@ -54,7 +52,10 @@ fn sum_of(s: &[u8], words: &[u64], c: usize, j: usize) -> u64
     let mut sum: u64 = 0;
     let mut i: usize = 0;
     while i < rows {
-        sum = wrapping_add_u64(sum, counted(belongs(c, class_of(s, i)), words[SIX * i + j]));
+        sum = wrapping_add_u64(
+            sum,
+            counted(belongs(c, class_of(s, i)), words[ROW_WORDS * i + j]),
+        );
         i += 1;
     }
     sum
@@ -65,10 +66,10 @@ fn subtotals(s: &[u8], words: &mut [u64])
     requires { ⌜ (sheetCheck (now s) ≡ Pass) × (6 * rowsOf (now s) + 24 ≤ length (now words)) ⌝ }
     ensures { λ _. ⌜ now (words .exit) ≡ summed (now (s .entry)) (now (words .entry)) ⌝ }
 {
-    let start = SIX * rows_of(s);
+    let start = ROW_WORDS * rows_of(s);
     let mut k: usize = 0;
     while k < 24 {
-        words[start + k] = sum_of(s, words, k / SIX, k % SIX);
+        words[start + k] = sum_of(s, words, k / ROW_WORDS, k % ROW_WORDS);
         k += 1;
     }
 }
@@ -87,7 +88,7 @@ fn totals(s: &[u8], words: &mut [u64])
     requires { ⌜ (sheetCheck (now s) ≡ Pass) × (6 * rowsOf (now s) + 26 ≤ length (now words)) ⌝ }
     ensures { λ _. ⌜ now (words .exit) ≡ totalled (now (s .entry)) (now (words .entry)) ⌝ }
 {
-    let all = SIX * rows_of(s) + 18;
+    let all = ROW_WORDS * rows_of(s) + 18;
     let low = sum_of_three(words, all);
     let high = sum_of_three(words, all + 1);
     words[all + 6] = low;

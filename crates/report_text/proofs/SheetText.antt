@@ -15,7 +15,7 @@ use Rattle.sheet.proofs.Accepted.{accepted}
 use Rattle.sheet.proofs.Versions.{start-between}
 use Rattle.report_words.specs.Report.{report, reportLength}
 use Rattle.report_words.proofs.ReportPlaces.{report-length}
-use Rattle.inventory.specs.ReportCall.{reportCheck, written, ReportAnswer}
+use Rattle.inventory.specs.ReportCall.{reportCheck, written, ReportCall}
 use Rattle.inventory.proofs.CallConditions.{report-accepted, report-sheet}
 use Rattle.inventory.proofs.Written.{written-length}
 use Rattle.text.specs.Lines.{reportLines, refusalLine}
@@ -23,7 +23,7 @@ use Rattle.text.specs.Put.{Room, Put}
 use Rattle.text.proofs.Putting.{put-front}
 use Rattle.text.proofs.LineSizes.{Words, words-first, report-most, refusal-most}
 use Rattle.report_text.specs.Reported.{Reported}
-use Rattle.report_text.specs.Text.{textOf, reportText, textMost, TextAnswer}
+use Rattle.report_text.specs.Text.{textOf, reportText, textMost, TextCall}
 use Rattle.report_text.proofs.Printed.{printed-fits, printed-short, printed-first}
 
 -- The lines of an accepted sheet.
@@ -64,7 +64,7 @@ pub end-most : {old text new : List ℕ} {end : ℕ} → length text ≤ textMos
 end-most h a = omega (arith, a .end-is)
 
 -- What the report call leaves is what the lines are made from.
-pub reported : {s old words : List ℕ} {check : Check} → ReportAnswer s old words check → check ≡ Pass → Reported s words
+pub reported : {s old words : List ℕ} {check : Check} → ReportCall s old words check → check ≡ Pass → Reported s words
 unfolding written
 reported {s} {old} {words} {check} a passed =
     let passes : reportCheck s (length old) ≡ Pass = sym (a .answer-is) ∙ passed in
@@ -77,7 +77,7 @@ reported {s} {old} {words} {check} a passed =
     }
 
 -- What holds after the call, where the text was first put into a buffer of no byte.
-module _ {s old words : List ℕ} {check : Check} (a : ReportAnswer s old words check)
+module _ {s old words : List ℕ} {check : Check} (a : ReportCall s old words check)
     {none between : List ℕ} {size : ℕ} (counted : Put none 0 (textOf check s) between size × (size ≤ textMost)) where
   text-is : textOf check s ≡ reportText s (length old)
   unfolding reportText
@@ -87,7 +87,7 @@ module _ {s old words : List ℕ} {check : Check} (a : ReportAnswer s old words 
   size-is = rw (← text-is) (omega (arith, counted .0 .end-is))
 
   -- it does not fit
-  pub text-kept : {before : List ℕ} → length before < size → TextAnswer s old words before before size
+  pub text-kept : {before : List ℕ} → length before < size → TextCall s old words before before size
   text-kept {before} h = record {
     reported = rw (a .answer-is) at a;
     length-is = size-is;
@@ -96,7 +96,7 @@ module _ {s old words : List ℕ} {check : Check} (a : ReportAnswer s old words 
   }
 
   -- it fits
-  pub text-put : {before out : List ℕ} {end : ℕ} → size ≤ length before → Put before 0 (textOf check s) out end → TextAnswer s old words before out end
+  pub text-put : {before out : List ℕ} {end : ℕ} → size ≤ length before → Put before 0 (textOf check s) out end → TextCall s old words before out end
   text-put {before} h put =
       let short : length (reportText s (length old)) ≤ length before = omega (arith, size-is) in
       record {
@@ -107,7 +107,7 @@ module _ {s old words : List ℕ} {check : Check} (a : ReportAnswer s old words 
       }
 
 -- In a buffer that is long enough for any text, as many bytes at the front as the call answers are the text.
-pub text-first : {s old words before out : List ℕ} {r : ℕ} → TextAnswer s old words before out r → textMost ≤ length before
+pub text-first : {s old words before out : List ℕ} {r : ℕ} → TextCall s old words before out r → textMost ≤ length before
     → take r out ≡ reportText s (length old)
 text-first {s} {old} {words} {before} {out} {r} a h =
     ap (take r) (a .text-is) ∙

@@ -10,7 +10,7 @@ use Rattle.sheet.specs.declared.Check.the-variants.{Pass, Refused}
 use Rattle.sheet.specs.Versions.{versionOf}
 use Rattle.sheet.specs.Bytes.{rowsOf}
 use Rattle.report_words.specs.Report.{report}
-use Rattle.inventory.specs.ReportCall.{reportCheck, ReportAnswer}
+use Rattle.inventory.specs.ReportCall.{reportCheck, ReportCall}
 use Rattle.text.specs.Lines.{reportLines, refusalLine}
 
 -- "prints `refused N at P`, or all words as below"
@@ -32,8 +32,8 @@ printed text old = elim (leb (length text) (length old)) [ true ↦ text ++ drop
 
 -- What holds after the call, with the words and the bytes that stood in the two buffers before it and those that stand there now: the
 -- words are those of the report call, and the answer is the length of the text, whether it fits or not.
-pub record TextAnswer (s old words before out : List ℕ) (r : ℕ) : Type 0 where
-  pub reported : ReportAnswer s old words (reportCheck s (length old))
+pub record TextCall (s old words before out : List ℕ) (r : ℕ) : Type 0 where
+  pub reported : ReportCall s old words (reportCheck s (length old))
   pub length-is : r ≡ length (reportText s (length old))
   pub text-is : out ≡ printed (reportText s (length old)) before
   pub length-most : r ≤ textMost

@@ -10,7 +10,7 @@ ghost use Prim.Native.Nat.{_≤_};
 ghost use Rattle.sheet.specs.declared.Check.the-variants.{Pass};
 ghost use Rattle.text.specs.Put.{Put};
 ghost use Rattle.report_text.specs.Reported.{Reported};
-ghost use Rattle.report_text.specs.Text.{textOf, textMost, TextAnswer};
+ghost use Rattle.report_text.specs.Text.{textOf, textMost, TextCall};
 
 // The lines of an accepted sheet, as far as the buffer reaches.
 fn put_accepted(out: &mut [u8], s: &[u8], words: &[u64]) -> usize
@@ -37,7 +37,7 @@ fn put_text(out: &mut [u8], s: &[u8], check: Check, words: &[u64]) -> usize
 // them. Answers the length of the text. Where this is more than the buffer has, the buffer is left as it is: so the length comes first, from
 // the same code with a buffer of no byte.
 pub fn report_text(s: &[u8], words: &mut [u64], out: &mut [u8]) -> usize
-    ensures { λ r. ⌜ TextAnswer (now (s .entry)) (now (words .entry)) (now (words .exit)) (now (out .entry)) (now (out .exit)) r ⌝ }
+    ensures { λ r. ⌜ TextCall (now (s .entry)) (now (words .entry)) (now (words .exit)) (now (out .entry)) (now (out .exit)) r ⌝ }
 {
     let check = report(s, words);
     let mut none = [0u8; 0];

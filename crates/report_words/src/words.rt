@@ -15,8 +15,8 @@ ghost use Rattle.report_words.specs.Years.{RowsHold, yearWord, filled, r
 // Units of 10^-12 g in a milligram.
 const MILLIGRAM: u64 = 1000000000;
 
-// How many words a row has.
-const SIX: usize = 6;
+// How many words a row has, and a category.
+pub const ROW_WORDS: usize = 6;
 
 // A year's figure of one vehicle, for all vehicles, in milligrams, with what is to be added before it is cut. In parts,
 // since the product has more than 64 bits.
@@ -32,11 +32,11 @@ fn row_words(s: &[u8], words: &mut [u64])
     requires { ⌜ (sheetCheck (now s) ≡ Pass) × RowsHold (yearWord (now s) (seasonsOf (now s))) (now s) (now words) ⌝ }
     ensures { λ _. ⌜ now (words .exit) ≡ filled (reportWord (now (s .entry))) (6 * rowsOf (now (s .entry))) (now (words .entry)) ⌝ }
 {
-    let n = SIX * rows_of(s);
+    let n = ROW_WORDS * rows_of(s);
     let mut k: usize = 0;
     while k < n {
         let added = (k % 2) as u64 * (MILLIGRAM - 1);
-        words[k] = milligrams(words[k], vehicles_of(s, k / SIX), added);
+        words[k] = milligrams(words[k], vehicles_of(s, k / ROW_WORDS), added);
         k += 1;
     }
 }

@@ -29,7 +29,7 @@ use Rattle.ledger.specs.Ledger.{sheetAfter, Ledger, answer, after}
 use Rattle.ledger.proofs.Counts.{count-at}
 use Rattle.ledger.proofs.Kept.{answer-open, count-bits, row-inside, room}
 use Rattle.shared_ledger.specs.Opening.{vehiclesEach, vehiclesHeld, sharedCheck}
-use Rattle.shared_ledger.specs.Calls.{ownerOf, changeCheck, WithinShare}
+use Rattle.shared_ledger.specs.Calls.{ownerOf, sharedChangeCheck, WithinShare}
 use Rattle.shared_ledger.proofs.Conditions.{shared-judged, change-judged, shared-report, shared-share}
 use Rattle.shared_ledger.proofs.Holdings.{owner-there, owned-there, held-upto, held-most}
 
@@ -41,8 +41,8 @@ pub record Passed (s owners : List ℕ) (room who : ℕ) (call : Call) : Type 0 
   pub right : wrong (hasManyRows s) (countsOf s) call ≡ false
   pub within : WithinShare (vehiclesHeld s owners who (rowsOf s)) call
 
-pub change-passed : (s owners : List ℕ) (room who : ℕ) (call : Call) → changeCheck s owners room who call ≡ Pass → Passed s owners room who call
-unfolding changeCheck
+pub change-passed : (s owners : List ℕ) (room who : ℕ) (call : Call) → sharedChangeCheck s owners room who call ≡ Pass → Passed s owners room who call
+unfolding sharedChangeCheck
 change-passed s owners room who call h =
     let met = change-judged s owners room who call .passes h in
     let (shared, rest) = then-pass _ _ h in
@@ -99,7 +99,7 @@ moved-within held v (Arrival row k) h within = omega arith
 moved-within held v (Departure row k) h within = omega arith
 
 -- A ledger that opens, and a change of it that passes.
-module _ (x : Ledger) (owners : List ℕ) (who : ℕ) (call : Call) (passes : changeCheck (x .sheet) owners (length (x .words)) who call ≡ Pass) where
+module _ (x : Ledger) (owners : List ℕ) (who : ℕ) (call : Call) (passes : sharedChangeCheck (x .sheet) owners (length (x .words)) who call ≡ Pass) where
   abbrev s : List ℕ
   s = x .sheet
 

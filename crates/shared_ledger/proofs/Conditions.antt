@@ -27,8 +27,8 @@ use Rattle.ledger.specs.Machine.{rowOf}
 use Rattle.ledger.proofs.Conditions.{call-tests}
 use Rattle.shared_ledger.specs.Opening.{vehiclesEach, participants, rowsEach, rowsHeld, vehiclesHeld, shareWrong, shareCheck, sharedCheck}
 use Rattle.shared_ledger.specs.Opening.{Share, sharedDemands}
-use Rattle.shared_ledger.specs.Calls.{ownerOf, mayChange, mayRead, mayTotal, pastShare, changeCheck, rowCheck, totalsCheck, WithinShare}
-use Rattle.shared_ledger.specs.Calls.{changeDemands, rowDemands, totalsDemands}
+use Rattle.shared_ledger.specs.Calls.{ownerOf, mayChange, mayRead, mayTotal, pastShare, sharedChangeCheck, sharedRowCheck, sharedTotalsCheck, WithinShare}
+use Rattle.shared_ledger.specs.Calls.{sharedChangeDemands, sharedRowDemands, sharedTotalsDemands}
 
 -- a row and its owner
 pub share-tests : (s owners : List ℕ) (i : ℕ) → Tests (shareWrong s owners i) (Share s owners i)
@@ -76,20 +76,20 @@ past-tests held (Arrival row k) = ltb-tests vehiclesEach (held + k)
 past-tests held (Departure row k) = record { holds = λ h. tt; fails = λ h. absurd (true-is-not-false (sym h)) }
 
 -- each call
-pub change-judged : (s owners : List ℕ) (room who : ℕ) (call : Call) → Judges (changeCheck s owners room who call) (changeDemands s owners room who call)
-unfolding changeCheck
+pub change-judged : (s owners : List ℕ) (room who : ℕ) (call : Call) → Judges (sharedChangeCheck s owners room who call) (sharedChangeDemands s owners room who call)
+unfolding sharedChangeCheck
 change-judged s owners room who call =
     judges-then (shared-judged s owners room)
     (judges-then (judges-refuse (change-tests s owners who (rowOf call)))
     (judges-then (judges-refuse (call-tests s call)) (judges-refuse (past-tests (vehiclesHeld s owners who (rowsOf s)) call))))
 
-pub row-judged : (s owners : List ℕ) (room who i : ℕ) → Judges (rowCheck s owners room who i) (rowDemands s owners room who i)
-unfolding rowCheck
+pub row-judged : (s owners : List ℕ) (room who i : ℕ) → Judges (sharedRowCheck s owners room who i) (sharedRowDemands s owners room who i)
+unfolding sharedRowCheck
 row-judged s owners room who i =
     judges-then (shared-judged s owners room) (judges-then (judges-refuse (read-tests s owners who i)) (judges-refuse (row-tests s i)))
 
-pub totals-judged : (s owners : List ℕ) (room who : ℕ) → Judges (totalsCheck s owners room who) (totalsDemands s owners room who)
-unfolding totalsCheck
+pub totals-judged : (s owners : List ℕ) (room who : ℕ) → Judges (sharedTotalsCheck s owners room who) (sharedTotalsDemands s owners room who)
+unfolding sharedTotalsCheck
 totals-judged s owners room who = judges-then (shared-judged s owners room) (judges-refuse (totals-tests who))
 
 -- number 0 stands for a call that is answered alone
@@ -100,21 +100,21 @@ pub shared-says : (s owners : List ℕ) (room : ℕ) → Says (sharedDemands s o
 shared-says s owners room = says (sharedCheck s owners room) (shared-judged s owners room) (never-zero s owners room)
 
 pub change-says : (s owners : List ℕ) (room who : ℕ) (call : Call)
-    → Says (changeDemands s owners room who call) (numberOf (changeCheck s owners room who call)) (placeOf (changeCheck s owners room who call))
+    → Says (sharedChangeDemands s owners room who call) (numberOf (sharedChangeCheck s owners room who call)) (placeOf (sharedChangeCheck s owners room who call))
 change-says s owners room who call =
-    says (changeCheck s owners room who call) (change-judged s owners room who call)
+    says (sharedChangeCheck s owners room who call) (change-judged s owners room who call)
     (λ p u. ⊎-elim (never-zero s owners room p) (λ r. ⊎-elim (λ m. omega (arith, m .0)) (λ l. ⊎-elim (λ m. omega (arith, m .0)) (λ m. omega (arith, m .1 .0)) (l .1)) (r .1)) u)
 
 pub row-says : (s owners : List ℕ) (room who i : ℕ)
-    → Says (rowDemands s owners room who i) (numberOf (rowCheck s owners room who i)) (placeOf (rowCheck s owners room who i))
+    → Says (sharedRowDemands s owners room who i) (numberOf (sharedRowCheck s owners room who i)) (placeOf (sharedRowCheck s owners room who i))
 row-says s owners room who i =
-    says (rowCheck s owners room who i) (row-judged s owners room who i)
+    says (sharedRowCheck s owners room who i) (row-judged s owners room who i)
     (λ p u. ⊎-elim (never-zero s owners room p) (λ r. ⊎-elim (λ m. omega (arith, m .0)) (λ m. omega (arith, m .1 .0)) (r .1)) u)
 
 pub totals-says : (s owners : List ℕ) (room who : ℕ)
-    → Says (totalsDemands s owners room who) (numberOf (totalsCheck s owners room who)) (placeOf (totalsCheck s owners room who))
+    → Says (sharedTotalsDemands s owners room who) (numberOf (sharedTotalsCheck s owners room who)) (placeOf (sharedTotalsCheck s owners room who))
 totals-says s owners room who =
-    says (totalsCheck s owners room who) (totals-judged s owners room who) (λ p u. ⊎-elim (never-zero s owners room p) (λ m. omega (arith, m .1 .0)) u)
+    says (sharedTotalsCheck s owners room who) (totals-judged s owners room who) (λ p u. ⊎-elim (never-zero s owners room p) (λ m. omega (arith, m .1 .0)) u)
 
 -- so a number 0 passes
 pub shared-zero : (s owners : List ℕ) (room : ℕ) → numberOf (sharedCheck s owners room) ≡ 0 → sharedCheck s owners room ≡ Pass

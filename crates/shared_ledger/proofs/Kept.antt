@@ -26,8 +26,8 @@ use Rattle.ledger.specs.Ledger.{Ledger, after, opened, run}
 use Rattle.ledger.proofs.Counts.{count-at}
 use Rattle.ledger.proofs.Kept.{Inv, room, stepped, fresh, ledger-kept}
 use Rattle.shared_ledger.specs.Opening.{sharedCheck}
-use Rattle.shared_ledger.specs.Calls.{ownerOf, mayRead, mayTotal, changeCheck, rowCheck, totalsCheck, wordsFrom, rowTold, rowAnswer, totalsTold}
-use Rattle.shared_ledger.specs.Calls.{totalsAnswer}
+use Rattle.shared_ledger.specs.Calls.{ownerOf, mayRead, mayTotal, sharedChangeCheck, sharedRowCheck, sharedTotalsCheck, wordsFrom, rowTold, sharedRowAnswer, totalsTold}
+use Rattle.shared_ledger.specs.Calls.{sharedTotalsAnswer}
 use Rattle.shared_ledger.specs.Told.{Ask, change, readRow, readTotals, ofRow, ofTotals, reply, leaves, afterAsk, runAsks, ifPassed, passed}
 use Rattle.shared_ledger.specs.Told.{SharedTheorem}
 use Rattle.shared_ledger.proofs.Conditions.{shared-report}
@@ -47,7 +47,7 @@ fresh-shared s owners w bytes h =
     record { inv = inv; shared = rw (room s w (opened s w) inv) h }
 
 -- a change that passes
-pub change-kept : (s owners w : List ℕ) (x : Ledger) → SharedInv s owners w x → (who : ℕ) (call : Call) → changeCheck (x .sheet) owners (length (x .words)) who call ≡ Pass
+pub change-kept : (s owners w : List ℕ) (x : Ledger) → SharedInv s owners w x → (who : ℕ) (call : Call) → sharedChangeCheck (x .sheet) owners (length (x .words)) who call ≡ Pass
     → SharedInv s owners w (after x call)
 change-kept s owners w x good who call passes =
     let inv = stepped s w x (good .inv) call .0 in
@@ -57,9 +57,9 @@ change-kept s owners w x good who call passes =
 -- any call
 pub ask-kept : (s owners w : List ℕ) (x : Ledger) → SharedInv s owners w x → (ask : Ask) → SharedInv s owners w (afterAsk owners x ask)
 unfolding afterAsk leaves
-ask-kept s owners w x good (change who call) = go (changeCheck (x .sheet) owners (length (x .words)) who call) refl
+ask-kept s owners w x good (change who call) = go (sharedChangeCheck (x .sheet) owners (length (x .words)) who call) refl
   where
-    go : (c : Check) → changeCheck (x .sheet) owners (length (x .words)) who call ≡ c → SharedInv s owners w (leaves c x call)
+    go : (c : Check) → sharedChangeCheck (x .sheet) owners (length (x .words)) who call ≡ c → SharedInv s owners w (leaves c x call)
     go Pass h = change-kept s owners w x good who call h
     go (Refused number place) h = good
 ask-kept s owners w x good (readRow who i) = good
@@ -74,7 +74,7 @@ runs s owners w (ask ∷ asks) x good = runs s owners w asks (afterAsk owners x 
 run-passed : (owners : List ℕ) (asks : List Ask) (x : Ledger) → runAsks owners asks x ≡ run (passed owners asks x) x
 unfolding runAsks passed run afterAsk leaves ifPassed
 run-passed owners [] x = refl
-run-passed owners (change who call ∷ asks) x = go (changeCheck (x .sheet) owners (length (x .words)) who call) (run-passed owners asks)
+run-passed owners (change who call ∷ asks) x = go (sharedChangeCheck (x .sheet) owners (length (x .words)) who call) (run-passed owners asks)
   where
     go : (c : Check) → ((y : Ledger) → runAsks owners asks y ≡ run (passed owners asks y) y)
         → runAsks owners asks (leaves c x call) ≡ run (ifPassed c call (passed owners asks (leaves c x call))) x
@@ -124,13 +124,13 @@ module _ (s owners w : List ℕ) (x : Ledger) (good : SharedInv s owners w x) wh
   may-read who i = rw (owner-is i) refl
 
   -- a read by one who has the right
-  pub row-passes : (who i : ℕ) → i < rowsOf (x .sheet) → mayRead (x .sheet) owners who i ≡ true → rowCheck (x .sheet) owners (length (x .words)) who i ≡ Pass
-  unfolding rowCheck refuse _then_
+  pub row-passes : (who i : ℕ) → i < rowsOf (x .sheet) → mayRead (x .sheet) owners who i ≡ true → sharedRowCheck (x .sheet) owners (length (x .words)) who i ≡ Pass
+  unfolding sharedRowCheck refuse _then_
   row-passes who i l h = pass-on _ ∙ rw (h, lt-leb (rowsOf (x .sheet)) i l) refl
 
   pub row-shown : (who i : ℕ) → i < rowsOf (x .sheet) → mayRead (x .sheet) owners who i ≡ true
-      → rowAnswer (x .sheet) owners (x .words) who i ≡ rowTold Pass ((rowAt (x .sheet) i) .vehicles) (wordsOf (x .sheet) i)
-  unfolding rowAnswer
+      → sharedRowAnswer (x .sheet) owners (x .words) who i ≡ rowTold Pass ((rowAt (x .sheet) i) .vehicles) (wordsOf (x .sheet) i)
+  unfolding sharedRowAnswer
   row-shown who i l h = rw (row-passes who i l h, row-words i l) refl
 
   row-read : (who i : ℕ) → i < rowsOf s → mayRead s owners who i ≡ true
@@ -141,8 +141,8 @@ module _ (s owners w : List ℕ) (x : Ledger) (good : SharedInv s owners w x) wh
       ap ofRow (row-shown who i there (may-read who i ∙ h) ∙ ap (λ (n : ℕ). rowTold Pass n (wordsOf (x .sheet) i)) (sym (count-at (x .sheet) i there)))
 
   totals-read : reply owners x (readTotals 0) ≡ ofTotals (totalsTold Pass (wordsFrom (report (x .sheet)) (6 * rowsOf s) 26))
-  unfolding reply totalsAnswer totalsCheck mayTotal refuse
-  totals-read = let passes : totalsCheck (x .sheet) owners (length (x .words)) 0 ≡ Pass = pass-on _ in ap ofTotals (rw (passes, last-words) refl)
+  unfolding reply sharedTotalsAnswer sharedTotalsCheck mayTotal refuse
+  totals-read = let passes : sharedTotalsCheck (x .sheet) owners (length (x .words)) 0 ≡ Pass = pass-on _ in ap ofTotals (rw (passes, last-words) refl)
 
 -- "For every list of calls from a fresh opening": what is read is the ledger's
 pub shared-kept : SharedTheorem

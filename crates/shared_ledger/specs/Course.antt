@@ -11,28 +11,28 @@ use Rattle.sheet.specs.Integers.{u8At}
 use Rattle.ledger.specs.declared.Call.{Call}
 use Rattle.shared_ledger.specs.declared.RowAnswer.{RowAnswer}
 use Rattle.shared_ledger.specs.declared.TotalsAnswer.{TotalsAnswer}
-use Rattle.shared_ledger.specs.Opening.{OpenAnswer}
-use Rattle.shared_ledger.specs.Calls.{SharedChange, SharedRow, SharedTotals}
+use Rattle.shared_ledger.specs.Opening.{OpenCall}
+use Rattle.shared_ledger.specs.Calls.{SharedChangeCall, SharedRowCall, SharedTotalsCall}
 use Rattle.shared_ledger.specs.Told.{Ask, change, readRow, readTotals, askerOf, Reply, ofChange, ofRow, ofTotals, madeBy, SameTo, SharedKept}
 
 -- from bytes s and words w, by these calls with these replies, to bytes t and words u; a read leaves both as they are
 pub data Made (owners : List ℕ) : List ℕ → List ℕ → List Ask → List Reply → List ℕ → List ℕ → Type 0 where
   none : {s w : List ℕ} → Made owners s w [] [] s w
   changed : {s w s' w' t u : List ℕ} {who : ℕ} {call : Call} {r : Check} {asks : List Ask} {replies : List Reply}
-      → SharedChange s owners w who call s' w' r → Made owners s' w' asks replies t u
+      → SharedChangeCall s owners w who call s' w' r → Made owners s' w' asks replies t u
       → Made owners s w (change who call ∷ asks) (ofChange r ∷ replies) t u
   rowRead : {s w t u : List ℕ} {who i : ℕ} {r : RowAnswer} {asks : List Ask} {replies : List Reply}
-      → SharedRow s owners w who i r → Made owners s w asks replies t u
+      → SharedRowCall s owners w who i r → Made owners s w asks replies t u
       → Made owners s w (readRow who i ∷ asks) (ofRow r ∷ replies) t u
   totalsRead : {s w t u : List ℕ} {who : ℕ} {r : TotalsAnswer} {asks : List Ask} {replies : List Reply}
-      → SharedTotals s owners w who r → Made owners s w asks replies t u
+      → SharedTotalsCall s owners w who r → Made owners s w asks replies t u
       → Made owners s w (readTotals who ∷ asks) (ofTotals r ∷ replies) t u
 
 -- "from a fresh opening": the opening passes and leaves the words `opened`, on which the calls are made
 pub record Course (s owners w : List ℕ) (asks : List Ask) (replies : List Reply) (t u : List ℕ) : Type 0 where
   pub opened : List ℕ
   pub answer : Check
-  pub opening : OpenAnswer s owners w opened answer
+  pub opening : OpenCall s owners w opened answer
   pub accepted : answer ≡ Pass
   pub made : Made owners s opened asks replies t u
 

@@ -59,7 +59,7 @@ abbrev pub sharedDemands : List ℕ → List ℕ → ℕ → Demands
 sharedDemands s owners room = reportDemands s room next every (rowsOf s) (λ (i : ℕ). demand 31 (rowPlace s i) (Share s owners i))
 
 -- What holds after an opening, with the words that stood in the buffer before it and those that stand there now.
-pub record OpenAnswer (s owners old words : List ℕ) (r : Check) : Type 0 where
+pub record OpenCall (s owners old words : List ℕ) (r : Check) : Type 0 where
   pub answer-is : r ≡ sharedCheck s owners (length old)
   pub words-are : words ≡ written r (report s) old
   pub says : Says (sharedDemands s owners (length old)) (numberOf r) (placeOf r)

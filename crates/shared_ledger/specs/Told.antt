@@ -20,7 +20,7 @@ use Rattle.ledger.specs.Kept.{Kept}
 use Rattle.shared_ledger.specs.declared.RowAnswer.{RowAnswer}
 use Rattle.shared_ledger.specs.declared.TotalsAnswer.{TotalsAnswer}
 use Rattle.shared_ledger.specs.Opening.{vehiclesEach, vehiclesHeld, sharedCheck}
-use Rattle.shared_ledger.specs.Calls.{ownerOf, mayRead, changeCheck, wordsFrom, rowTold, rowAnswer, totalsTold, totalsAnswer}
+use Rattle.shared_ledger.specs.Calls.{ownerOf, mayRead, sharedChangeCheck, wordsFrom, rowTold, sharedRowAnswer, totalsTold, sharedTotalsAnswer}
 
 -- who asks, and for what
 pub data Ask : Type 0 where
@@ -40,9 +40,9 @@ pub data Reply : Type 0 where
   ofTotals : TotalsAnswer → Reply
 
 unfoldable pub reply : List ℕ → Ledger → Ask → Reply
-reply owners x (change who call) = ofChange (changeCheck (x .sheet) owners (length (x .words)) who call)
-reply owners x (readRow who i) = ofRow (rowAnswer (x .sheet) owners (x .words) who i)
-reply owners x (readTotals who) = ofTotals (totalsAnswer (x .sheet) owners (x .words) who)
+reply owners x (change who call) = ofChange (sharedChangeCheck (x .sheet) owners (length (x .words)) who call)
+reply owners x (readRow who i) = ofRow (sharedRowAnswer (x .sheet) owners (x .words) who i)
+reply owners x (readTotals who) = ofTotals (sharedTotalsAnswer (x .sheet) owners (x .words) who)
 
 -- and what it leaves: a change that passes is the ledger's own call, all else leaves both buffers as they are
 unfoldable pub leaves : Check → Ledger → Call → Ledger
@@ -50,7 +50,7 @@ leaves Pass x call = after x call
 leaves (Refused number place) x call = x
 
 unfoldable pub afterAsk : List ℕ → Ledger → Ask → Ledger
-afterAsk owners x (change who call) = leaves (changeCheck (x .sheet) owners (length (x .words)) who call) x call
+afterAsk owners x (change who call) = leaves (sharedChangeCheck (x .sheet) owners (length (x .words)) who call) x call
 afterAsk owners x (readRow who i) = x
 afterAsk owners x (readTotals who) = x
 
@@ -96,7 +96,7 @@ ifPassed (Refused number place) call calls = calls
 unfoldable pub passed : List ℕ → List Ask → Ledger → List Call
 passed owners [] x = []
 passed owners (change who call ∷ asks) x =
-    ifPassed (changeCheck (x .sheet) owners (length (x .words)) who call) call (passed owners asks (afterAsk owners x (change who call)))
+    ifPassed (sharedChangeCheck (x .sheet) owners (length (x .words)) who call) call (passed owners asks (afterAsk owners x (change who call)))
 passed owners (readRow who i ∷ asks) x = passed owners asks x
 passed owners (readTotals who ∷ asks) x = passed owners asks x
 

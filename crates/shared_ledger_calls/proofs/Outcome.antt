@@ -27,9 +27,9 @@ use Rattle.ledger.specs.Ledger.{sheetAfter, wordsAfter}
 use Rattle.ledger_calls.proofs.Outcome.{room-left}
 use Rattle.shared_ledger.specs.declared.RowAnswer.{RowAnswer}
 use Rattle.shared_ledger.specs.declared.TotalsAnswer.{TotalsAnswer}
-use Rattle.shared_ledger.specs.Opening.{vehiclesEach, sharedCheck, OpenAnswer}
-use Rattle.shared_ledger.specs.Calls.{ownerOf, mayChange, mayRead, pastShare, changeCheck, rowCheck, totalsCheck, wordsFrom, zeros, rowTold}
-use Rattle.shared_ledger.specs.Calls.{rowAnswer, totalsTold, totalsAnswer, SharedChange, SharedRow, SharedTotals}
+use Rattle.shared_ledger.specs.Opening.{vehiclesEach, sharedCheck, OpenCall}
+use Rattle.shared_ledger.specs.Calls.{ownerOf, mayChange, mayRead, pastShare, sharedChangeCheck, sharedRowCheck, sharedTotalsCheck, wordsFrom, zeros, rowTold}
+use Rattle.shared_ledger.specs.Calls.{sharedRowAnswer, totalsTold, sharedTotalsAnswer, SharedChangeCall, SharedRowCall, SharedTotalsCall}
 use Rattle.shared_ledger.proofs.Conditions.{shared-report, shared-sheet, shared-room, shared-says, shared-zero, change-says, row-says, totals-says}
 use Rattle.shared_ledger.proofs.Changed.{change-passed}
 
@@ -53,7 +53,7 @@ may-read-is s owners who i e = rw e refl
 
 -- An opening.
 module _ (s owners w : List ℕ) where
-  pub open-refused : {r : Check} {n p : ℕ} → r ≡ sharedCheck s owners (length w) → r ≡ Refused n p → OpenAnswer s owners w w r
+  pub open-refused : {r : Check} {n p : ℕ} → r ≡ sharedCheck s owners (length w) → r ≡ Refused n p → OpenCall s owners w w r
   unfolding written
   open-refused {r} {n} {p} e h = record {
     answer-is = e;
@@ -68,7 +68,7 @@ module _ (s owners w : List ℕ) where
   open-passed e h = shared-report s owners (length w) (sym e ∙ h)
 
   pub open-done : {r : Check} {w' : List ℕ} → Bytes s → r ≡ sharedCheck s owners (length w) → r ≡ Pass → w' ≡ written Pass (report s) w
-      → OpenAnswer s owners w w' r
+      → OpenCall s owners w w' r
   open-done {r} {w'} bytes e h done =
       let words-are : w' ≡ written r (report s) w = rw h done in
       let passed : r ≡ reportCheck s (length w) = h ∙ sym (open-passed e h) in
@@ -81,19 +81,19 @@ module _ (s owners w : List ℕ) where
 
 -- A change.
 module _ (s owners w : List ℕ) (who : ℕ) (call : Call) where
-  pub change-refused : {r : Check} {n p : ℕ} → r ≡ changeCheck s owners (length w) who call → r ≡ Refused n p → SharedChange s owners w who call s w r
+  pub change-refused : {r : Check} {n p : ℕ} → r ≡ sharedChangeCheck s owners (length w) who call → r ≡ Refused n p → SharedChangeCall s owners w who call s w r
   unfolding sheetAfter wordsAfter
   change-refused {r} {n} {p} e h = record { answer-is = e; sheet-is = rw h refl; words-are = rw h refl; says = rw e (change-says s owners (length w) who call) }
 
   -- what passes here, the ledger itself allows
-  pub change-allowed : {r : Check} → r ≡ changeCheck s owners (length w) who call → r ≡ Pass
+  pub change-allowed : {r : Check} → r ≡ sharedChangeCheck s owners (length w) who call → r ≡ Pass
       → (reportCheck s (length w) ≡ Pass) × (wrong (hasManyRows s) (countsOf s) call ≡ false)
   change-allowed e h =
       let met = change-passed s owners (length w) who call (sym e ∙ h) in
       (shared-report s owners (length w) (met .shared), met .right)
 
-  pub change-done : {r : Check} {s' w' : List ℕ} → r ≡ changeCheck s owners (length w) who call → r ≡ Pass → s' ≡ sheetAfter Pass s call
-      → w' ≡ wordsAfter Pass s' call w → SharedChange s owners w who call s' w' r
+  pub change-done : {r : Check} {s' w' : List ℕ} → r ≡ sharedChangeCheck s owners (length w) who call → r ≡ Pass → s' ≡ sheetAfter Pass s call
+      → w' ≡ wordsAfter Pass s' call w → SharedChangeCall s owners w who call s' w' r
   change-done {r} {s'} {w'} e h sheet words = record {
     answer-is = e;
     sheet-is = rw h sheet;
@@ -104,20 +104,20 @@ module _ (s owners w : List ℕ) (who : ℕ) (call : Call) where
 -- A read of a row.
 module _ (s owners w : List ℕ) (who i : ℕ) where
   -- says what its check says
-  row-answer : {r : RowAnswer} → r .check ≡ rowCheck s owners (length w) who i → r ≡ rowAnswer s owners w who i → SharedRow s owners w who i r
+  row-answer : {r : RowAnswer} → r .check ≡ sharedRowCheck s owners (length w) who i → r ≡ sharedRowAnswer s owners w who i → SharedRowCall s owners w who i r
   row-answer e same = record { answer-is = same; says = rw e (row-says s owners (length w) who i) }
 
-  pub row-refused : {r : Check} {n p : ℕ} → r ≡ rowCheck s owners (length w) who i → r ≡ Refused n p → SharedRow s owners w who i (record { check = r; count = 0; words = zeros 6 })
-  unfolding rowAnswer rowTold
-  row-refused {r} {n} {p} e h = let c : rowCheck s owners (length w) who i ≡ Refused n p = sym e ∙ h in row-answer e (rw (c, h) refl)
+  pub row-refused : {r : Check} {n p : ℕ} → r ≡ sharedRowCheck s owners (length w) who i → r ≡ Refused n p → SharedRowCall s owners w who i (record { check = r; count = 0; words = zeros 6 })
+  unfolding sharedRowAnswer rowTold
+  row-refused {r} {n} {p} e h = let c : sharedRowCheck s owners (length w) who i ≡ Refused n p = sym e ∙ h in row-answer e (rw (c, h) refl)
 
-  pub row-done : {r : Check} {v : ℕ} {six : List ℕ} → r ≡ rowCheck s owners (length w) who i → r ≡ Pass → v ≡ (rowAt s i) .vehicles → six ≡ wordsFrom w (6 * i) 6
-      → SharedRow s owners w who i (record { check = r; count = v; words = six })
-  unfolding rowAnswer rowTold
-  row-done e h f g = let c : rowCheck s owners (length w) who i ≡ Pass = sym e ∙ h in row-answer e (rw (c, h, f, g) refl)
+  pub row-done : {r : Check} {v : ℕ} {six : List ℕ} → r ≡ sharedRowCheck s owners (length w) who i → r ≡ Pass → v ≡ (rowAt s i) .vehicles → six ≡ wordsFrom w (6 * i) 6
+      → SharedRowCall s owners w who i (record { check = r; count = v; words = six })
+  unfolding sharedRowAnswer rowTold
+  row-done e h f g = let c : sharedRowCheck s owners (length w) who i ≡ Pass = sym e ∙ h in row-answer e (rw (c, h, f, g) refl)
 
-  pub read-there : rowCheck s owners (length w) who i ≡ Pass → (sheetCheck s ≡ Pass) × (i < rowsOf s) × (6 * rowsOf s + 26 ≤ length w)
-  unfolding rowCheck
+  pub read-there : sharedRowCheck s owners (length w) who i ≡ Pass → (sheetCheck s ≡ Pass) × (i < rowsOf s) × (6 * rowsOf s + 26 ≤ length w)
+  unfolding sharedRowCheck
   read-there c =
       let (shared, rest) = then-pass _ _ c in
       let (right, last) = then-pass _ _ rest in
@@ -125,20 +125,20 @@ module _ (s owners w : List ℕ) (who i : ℕ) where
 
 -- A read of the totals.
 module _ (s owners w : List ℕ) (who : ℕ) where
-  totals-answer : {r : TotalsAnswer} → r .check ≡ totalsCheck s owners (length w) who → r ≡ totalsAnswer s owners w who → SharedTotals s owners w who r
+  totals-answer : {r : TotalsAnswer} → r .check ≡ sharedTotalsCheck s owners (length w) who → r ≡ sharedTotalsAnswer s owners w who → SharedTotalsCall s owners w who r
   totals-answer e same = record { answer-is = same; says = rw e (totals-says s owners (length w) who) }
 
-  pub totals-refused : {r : Check} {n p : ℕ} → r ≡ totalsCheck s owners (length w) who → r ≡ Refused n p → SharedTotals s owners w who (record { check = r; words = zeros 26 })
-  unfolding totalsAnswer totalsTold
-  totals-refused {r} {n} {p} e h = let c : totalsCheck s owners (length w) who ≡ Refused n p = sym e ∙ h in totals-answer e (rw (c, h) refl)
+  pub totals-refused : {r : Check} {n p : ℕ} → r ≡ sharedTotalsCheck s owners (length w) who → r ≡ Refused n p → SharedTotalsCall s owners w who (record { check = r; words = zeros 26 })
+  unfolding sharedTotalsAnswer totalsTold
+  totals-refused {r} {n} {p} e h = let c : sharedTotalsCheck s owners (length w) who ≡ Refused n p = sym e ∙ h in totals-answer e (rw (c, h) refl)
 
-  pub totals-done : {r : Check} {last : List ℕ} {place : ℕ} → r ≡ totalsCheck s owners (length w) who → r ≡ Pass → last ≡ wordsFrom w place 26 → place ≡ 6 * rowsOf s
-      → SharedTotals s owners w who (record { check = r; words = last })
-  unfolding totalsAnswer totalsTold
-  totals-done e h f g = let c : totalsCheck s owners (length w) who ≡ Pass = sym e ∙ h in totals-answer e (rw (c, h, f, g) refl)
+  pub totals-done : {r : Check} {last : List ℕ} {place : ℕ} → r ≡ sharedTotalsCheck s owners (length w) who → r ≡ Pass → last ≡ wordsFrom w place 26 → place ≡ 6 * rowsOf s
+      → SharedTotalsCall s owners w who (record { check = r; words = last })
+  unfolding sharedTotalsAnswer totalsTold
+  totals-done e h f g = let c : sharedTotalsCheck s owners (length w) who ≡ Pass = sym e ∙ h in totals-answer e (rw (c, h, f, g) refl)
 
-  pub totals-there : totalsCheck s owners (length w) who ≡ Pass → (sheetCheck s ≡ Pass) × (6 * rowsOf s + 26 ≤ length w)
-  unfolding totalsCheck
+  pub totals-there : sharedTotalsCheck s owners (length w) who ≡ Pass → (sheetCheck s ≡ Pass) × (6 * rowsOf s + 26 ≤ length w)
+  unfolding sharedTotalsCheck
   totals-there c =
       let (shared, last) = then-pass _ _ c in
       (shared-sheet s owners (length w) shared, shared-room s owners (length w) shared)

@@ -22,14 +22,14 @@ ghost use lib.ListN.{length};
 ghost use Rattle.sheet.specs.declared.Check.the-variants.{Pass};
 ghost use Rattle.sheet.specs.Sheet.{sheetCheck};
 ghost use Rattle.ledger.specs.declared.Call.the-variants.{Arrival, Departure};
-ghost use Rattle.shared_ledger.specs.Opening.{vehiclesEach, OpenAnswer};
-ghost use Rattle.shared_ledger.specs.Calls.{ownerOf, pastShare, changeCheck, rowCheck, totalsCheck, wordsFrom, SharedChange, SharedRow, SharedTotals};
+ghost use Rattle.shared_ledger.specs.Opening.{vehiclesEach, OpenCall};
+ghost use Rattle.shared_ledger.specs.Calls.{ownerOf, pastShare, sharedChangeCheck, sharedRowCheck, sharedTotalsCheck, wordsFrom, SharedChangeCall, SharedRowCall, SharedTotalsCall};
 
 mod opening;
 
 // The ledger is opened: the report is written, or all words stay.
 pub fn open(s: &[u8], owners: &[u8], words: &mut [u64]) -> Check
-    ensures { λ r. ⌜ OpenAnswer (now (s .entry)) (now (owners .entry)) (now (words .entry)) (now (words .exit)) r ⌝ }
+    ensures { λ r. ⌜ OpenCall (now (s .entry)) (now (owners .entry)) (now (words .entry)) (now (words .exit)) r ⌝ }
 {
     let check = shared_check(s, owners, words.len());
     if let Check::Refused(_, _) = check {
@@ -63,7 +63,7 @@ fn past_share(held: u64, call: Call) -> bool
 
 // A change: what opening would refuse, then 30, 29 and 31.
 fn change_check(s: &[u8], owners: &[u8], room: usize, who: u64, call: Call) -> Check
-    ensures { λ r. ⌜ r ≡ changeCheck (now (s .entry)) (now (owners .entry)) room who call ⌝ }
+    ensures { λ r. ⌜ r ≡ sharedChangeCheck (now (s .entry)) (now (owners .entry)) room who call ⌝ }
 {
     let check = shared_check(s, owners, room);
     if let Check::Refused(_, _) = check {
@@ -82,7 +82,7 @@ fn change_check(s: &[u8], owners: &[u8], room: usize, who: u64, call: Call) -> C
 
 // Vehicles arrive at a row or depart from it, where its owner calls. A refused call changes neither buffer.
 pub fn change(s: &mut [u8], owners: &[u8], words: &mut [u64], who: u64, call: Call) -> Check
-    ensures { λ r. ⌜ SharedChange (now (s .entry)) (now (owners .entry)) (now (words .entry)) who call (now (s .exit)) (now (words .exit)) r ⌝ }
+    ensures { λ r. ⌜ SharedChangeCall (now (s .entry)) (now (owners .entry)) (now (words .entry)) who call (now (s .exit)) (now (words .exit)) r ⌝ }
 {
     let check = change_check(s, owners, words.len(), who, call);
     if let Check::Refused(_, _) = check {
@@ -101,7 +101,7 @@ pub fn arrive(
     row: u64,
     vehicles: u64,
 ) -> Check
-    ensures { λ r. ⌜ SharedChange (now (s .entry)) (now (owners .entry)) (now (words .entry)) who (Arrival row vehicles)
+    ensures { λ r. ⌜ SharedChangeCall (now (s .entry)) (now (owners .entry)) (now (words .entry)) who (Arrival row vehicles)
         (now (s .exit)) (now (words .exit)) r ⌝ }
 {
     change(s, owners, words, who, Call::Arrival(row, vehicles))
@@ -116,7 +116,7 @@ pub fn depart(
     row: u64,
     vehicles: u64,
 ) -> Check
-    ensures { λ r. ⌜ SharedChange (now (s .entry)) (now (owners .entry)) (now (words .entry)) who (Departure row vehicles)
+    ensures { λ r. ⌜ SharedChangeCall (now (s .entry)) (now (owners .entry)) (now (words .entry)) who (Departure row vehicles)
         (now (s .exit)) (now (words .exit)) r ⌝ }
 {
     change(s, owners, words, who, Call::Departure(row, vehicles))
@@ -124,7 +124,7 @@ pub fn depart(
 
 // A read of a row: what opening would refuse, then 30 and 29.
 fn row_check(s: &[u8], owners: &[u8], room: usize, who: u64, row: u64) -> Check
-    ensures { λ r. ⌜ r ≡ rowCheck (now (s .entry)) (now (owners .entry)) room who row ⌝ }
+    ensures { λ r. ⌜ r ≡ sharedRowCheck (now (s .entry)) (now (owners .entry)) room who row ⌝ }
 {
     let check = shared_check(s, owners, room);
     if let Check::Refused(_, _) = check {
@@ -142,7 +142,7 @@ fn row_check(s: &[u8], owners: &[u8], room: usize, who: u64, row: u64) -> Check
 
 // A read of the totals: what opening would refuse, then 30.
 fn totals_check(s: &[u8], owners: &[u8], room: usize, who: u64) -> Check
-    ensures { λ r. ⌜ r ≡ totalsCheck (now (s .entry)) (now (owners .entry)) room who ⌝ }
+    ensures { λ r. ⌜ r ≡ sharedTotalsCheck (now (s .entry)) (now (owners .entry)) room who ⌝ }
 {
     let check = shared_check(s, owners, room);
     if let Check::Refused(_, _) = check {
@@ -169,7 +169,7 @@ fn copy_words(words: &[u64], place: usize, out: &mut [u64])
 
 // The count and the six words of a row.
 pub fn read_row(s: &[u8], owners: &[u8], words: &[u64], who: u64, row: u64) -> RowAnswer
-    ensures { λ r. ⌜ SharedRow (now (s .entry)) (now (owners .entry)) (now (words .entry)) who row r ⌝ }
+    ensures { λ r. ⌜ SharedRowCall (now (s .entry)) (now (owners .entry)) (now (words .entry)) who row r ⌝ }
 {
     let mut six = [0u64; 6];
     let check = row_check(s, owners, words.len(), who, row);
@@ -192,7 +192,7 @@ pub fn read_row(s: &[u8], owners: &[u8], words: &[u64], who: u64, row: u64) -> R
 
 // The 26 words after the rows.
 pub fn read_totals(s: &[u8], owners: &[u8], words: &[u64], who: u64) -> TotalsAnswer
-    ensures { λ r. ⌜ SharedTotals (now (s .entry)) (now (owners .entry)) (now (words .entry)) who r ⌝ }
+    ensures { λ r. ⌜ SharedTotalsCall (now (s .entry)) (now (owners .entry)) (now (words .entry)) who r ⌝ }
 {
     let mut last = [0u64; 26];
     let check = totals_check(s, owners, words.len(), who);

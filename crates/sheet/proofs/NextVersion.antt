@@ -25,13 +25,13 @@ use Rattle.sheet.proofs.Fleet.{vehicles-more, vehicles-rise}
 use Rattle.sheet.proofs.Alike.{Alike}
 
 -- Two sheets with a grid and with the same bytes from the parking to the last season.
-pub record Kept (s t : List ℕ) : Type 0 where
+pub record SheetKept (s t : List ℕ) : Type 0 where
   pub grid-of-s : hasGrid s ≡ true
   pub grid-of-t : hasGrid t ≡ true
   pub seasons : seasonsOf t ≡ seasonsOf s
   pub bytes : (k : ℕ) → k < 1152 + 8 * seasonsOf s → u8At t (8 + k) ≡ u8At s (8 + k)
 
-module _ {s t : List ℕ} (same : Kept s t) where
+module _ {s t : List ℕ} (same : SheetKept s t) where
   -- n bytes that stand k places on are the same:
   from : (n k : ℕ) {p q : ℕ} → p ≡ 8 + k → q ≡ 8 + k → k + n ≤ 1152 + 8 * seasonsOf s → Same t s p q n
   from n k {p} {q} e f h = record {
@@ -81,7 +81,7 @@ module _ {s t : List ℕ} (same : Kept s t) where
 
 -- A row.
 module _ {s t : List ℕ} {i j : ℕ} (same : SameRow s t i j) where
-  pub kept : Kept s t
+  pub kept : SheetKept s t
   kept = record { grid-of-s = rw (same .old); grid-of-t = rw (same .new); seasons = same .seasons; bytes = same .parking-and-seasons }
 
   pub row-kept : rowAt t j ≡ rowAt s i
@@ -105,7 +105,7 @@ module _ {s t : List ℕ} (next : Renumbered s t) where
   seasons : seasonsOf t ≡ seasonsOf s
   seasons = next .after 0
 
-  same-before-rows : Kept s t
+  same-before-rows : SheetKept s t
   same-before-rows = record {
     grid-of-s = next .grid-of-s;
     grid-of-t = next .grid-of-t;

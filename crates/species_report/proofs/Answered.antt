@@ -15,17 +15,17 @@ use Rattle.sheet.proofs.Accepted.{Accepted}
 use Rattle.sheet.proofs.Versions.{start-between}
 use Rattle.report_words.specs.Report.{reportLength, report}
 use Rattle.report_words.proofs.ReportPlaces.{report-length, total-at}
-use Rattle.inventory.specs.ReportCall.{reportCheck, ReportAnswer}
+use Rattle.inventory.specs.ReportCall.{reportCheck, ReportCall}
 use Rattle.inventory.proofs.CallConditions.{report-accepted, report-judged, number-zero}
 use Rattle.inventory.proofs.Written.{written-first, written-length}
 use Rattle.speciation.specs.Split.{speciesMass, speciesMasses, SpeciesPromise}
 use Rattle.species_report.specs.declared.composition.Composition.{Composition}
-use Rattle.species_report.specs.Composition.{highTotal, answered, composition, CompositionAnswer}
+use Rattle.species_report.specs.Composition.{highTotal, compositionAnswered, composition, CompositionCall}
 
-module _ {s old words : List ℕ} {check : Check} (a : ReportAnswer s old words check) where
-  answer-of : answered check s ≡ composition s (length old)
+module _ {s old words : List ℕ} {check : Check} (a : ReportCall s old words check) where
+  answer-of : compositionAnswered check s ≡ composition s (length old)
   unfolding composition
-  answer-of = ap (λ (c : Check). answered c s) (a .answer-is)
+  answer-of = ap (λ (c : Check). compositionAnswered c s) (a .answer-is)
 
   -- number 0 is that of an accepted sheet alone
   zero-passed : numberOf check ≡ 0 → check ≡ Pass
@@ -35,10 +35,10 @@ module _ {s old words : List ℕ} {check : Check} (a : ReportAnswer s old words 
 
   -- A refused sheet.
   pub refusal-is : {number place : ℕ} → check ≡ Refused number place
-      → CompositionAnswer s old words (record { check = check; total = 0; milligrams = replicate 29 0 })
-  unfolding answered
+      → CompositionCall s old words (record { check = check; total = 0; milligrams = replicate 29 0 })
+  unfolding compositionAnswered
   refusal-is {number} {place} e = record {
-    answer-is = rw e refl ∙ ap (λ (c : Check). answered c s) (sym e) ∙ answer-of;
+    answer-is = rw e refl ∙ ap (λ (c : Check). compositionAnswered c s) (sym e) ∙ answer-of;
     reported = a;
     total-is = λ zero. none zero;
     promise = λ zero. none zero;
@@ -71,22 +71,22 @@ module _ {s old words : List ℕ} {check : Check} (a : ReportAnswer s old words 
 
     pub species-are : {total : ℕ} {masses : List ℕ}
         → total ≡ at words (6 * rowsOf s + 25) → masses ≡ speciesMasses total → SpeciesPromise total masses
-        → CompositionAnswer s old words (record { check = check; total = total; milligrams = masses })
-    unfolding answered
+        → CompositionCall s old words (record { check = check; total = total; milligrams = masses })
+    unfolding compositionAnswered
     species-are {total} {masses} t m p = record {
-      answer-is = rw (passed, m, t ∙ last-word) refl ∙ ap (λ (c : Check). answered c s) (sym passed) ∙ answer-of;
+      answer-is = rw (passed, m, t ∙ last-word) refl ∙ ap (λ (c : Check). compositionAnswered c s) (sym passed) ∙ answer-of;
       reported = a;
       total-is = λ _. t;
       promise = λ _. p;
     }
 
 -- There are 29 masses, of a refused sheet too.
-answered-length : (check : Check) (s : List ℕ) → length ((answered check s) .milligrams) ≡ 29
-unfolding answered speciesMasses
+answered-length : (check : Check) (s : List ℕ) → length ((compositionAnswered check s) .milligrams) ≡ 29
+unfolding compositionAnswered speciesMasses
 answered-length Pass s = tab-length (speciesMass (highTotal s)) 29
 answered-length (Refused number place) s = refl
 
-pub species-length : {s old words : List ℕ} {found : Composition} → CompositionAnswer s old words found → length (found .milligrams) ≡ 29
+pub species-length : {s old words : List ℕ} {found : Composition} → CompositionCall s old words found → length (found .milligrams) ≡ 29
 unfolding composition
 species-length {s} {old} a =
     ap (λ (found : Composition). length (found .milligrams)) (a .answer-is) ∙ answered-length (reportCheck s (length old)) s

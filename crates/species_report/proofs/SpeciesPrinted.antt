@@ -8,7 +8,7 @@ use lib.ListN.{length, take}
 use Rattle.sheet.specs.declared.Check.{Check}
 use Rattle.sheet.specs.declared.Check.the-variants.{Pass, Refused}
 use Rattle.sheet.proofs.Versions.{start-between}
-use Rattle.inventory.specs.ReportCall.{reportCheck, ReportAnswer}
+use Rattle.inventory.specs.ReportCall.{reportCheck, ReportCall}
 use Rattle.inventory.proofs.CallConditions.{report-accepted}
 use Rattle.text.specs.Lines.{refusalLine}
 use Rattle.text.specs.Put.{Room, Put}
@@ -16,8 +16,8 @@ use Rattle.text.proofs.Putting.{put-front}
 use Rattle.text.proofs.LineSizes.{refusal-most}
 use Rattle.report_text.proofs.Printed.{printed-fits, printed-short, printed-first}
 use Rattle.species_report.specs.declared.composition.Composition.{Composition}
-use Rattle.species_report.specs.Composition.{CompositionAnswer}
-use Rattle.species_report.specs.SpeciesText.{linesOf, textOf, speciesText, linesMost, SpeciesTextAnswer}
+use Rattle.species_report.specs.Composition.{CompositionCall}
+use Rattle.species_report.specs.SpeciesText.{linesOf, textOf, speciesText, linesMost, SpeciesTextCall}
 
 -- The line of a refusal.
 pub refusal-is : (total : ℕ) (masses s : List ℕ) {number place : ℕ} {check : Check} → check ≡ Refused number place
@@ -35,7 +35,7 @@ room h = record { fits = omega arith }
 pub end-most : {old text new : List ℕ} {end : ℕ} → length text ≤ linesMost → Put old 0 text new end → end ≤ linesMost
 end-most h a = omega (arith, a .end-is)
 
-module _ {s old words : List ℕ} {found : Composition} (a : CompositionAnswer s old words found) where
+module _ {s old words : List ℕ} {found : Composition} (a : CompositionCall s old words found) where
   -- an accepted sheet has its head
   pub head-there : found .check ≡ Pass → 8 ≤ length s
   head-there passed =
@@ -51,11 +51,11 @@ module _ {s old words : List ℕ} {found : Composition} (a : CompositionAnswer s
     size-is : size ≡ length (speciesText s (length old))
     size-is = rw (← text-is) (omega (arith, counted .0 .end-is))
 
-    words-are : ReportAnswer s old words (reportCheck s (length old))
+    words-are : ReportCall s old words (reportCheck s (length old))
     words-are = rw (a .reported .answer-is) at (a .reported)
 
     -- it does not fit
-    pub text-kept : {before : List ℕ} → length before < size → SpeciesTextAnswer s old words before before size
+    pub text-kept : {before : List ℕ} → length before < size → SpeciesTextCall s old words before before size
     text-kept {before} h = record {
       reported = words-are;
       length-is = size-is;
@@ -65,7 +65,7 @@ module _ {s old words : List ℕ} {found : Composition} (a : CompositionAnswer s
 
     -- it fits
     pub text-put : {before out : List ℕ} {end : ℕ} → size ≤ length before → Put before 0 (textOf found s) out end
-        → SpeciesTextAnswer s old words before out end
+        → SpeciesTextCall s old words before out end
     text-put {before} h put =
         let short : length (speciesText s (length old)) ≤ length before = omega (arith, size-is) in
         record {
@@ -76,7 +76,7 @@ module _ {s old words : List ℕ} {found : Composition} (a : CompositionAnswer s
         }
 
 -- In a buffer that is long enough for any text, as many bytes at the front as the call answers are the text.
-pub text-first : {s old words before out : List ℕ} {r : ℕ} → SpeciesTextAnswer s old words before out r → linesMost ≤ length before
+pub text-first : {s old words before out : List ℕ} {r : ℕ} → SpeciesTextCall s old words before out r → linesMost ≤ length before
     → take r out ≡ speciesText s (length old)
 text-first {s} {old} {words} {before} {out} {r} a h =
     ap (take r) (a .text-is) ∙

@@ -6,7 +6,7 @@ use lib.ListN.{length}
 use Rattle.sheet.specs.declared.Check.{Check}
 use Rattle.sheet.specs.declared.Check.the-variants.{Pass, Refused}
 use Rattle.sheet.specs.Versions.{versionOf}
-use Rattle.inventory.specs.ReportCall.{reportCheck, ReportAnswer}
+use Rattle.inventory.specs.ReportCall.{reportCheck, ReportCall}
 use Rattle.text.specs.Lines.{refusalLine}
 use Rattle.report_text.specs.Text.{printed}
 use Rattle.species_report.specs.declared.composition.Composition.{Composition}
@@ -31,8 +31,8 @@ linesMost = 44 * 29 + 52
 
 -- What holds after the call, with the words and the bytes that stood in the two buffers before it and those that stand there now: the
 -- words are those of the report call, and the answer is the length of the text, whether it fits or not.
-pub record SpeciesTextAnswer (s old words before out : List ℕ) (r : ℕ) : Type 0 where
-  pub reported : ReportAnswer s old words (reportCheck s (length old))
+pub record SpeciesTextCall (s old words before out : List ℕ) (r : ℕ) : Type 0 where
+  pub reported : ReportCall s old words (reportCheck s (length old))
   pub length-is : r ≡ length (speciesText s (length old))
   pub text-is : out ≡ printed (speciesText s (length old)) before
   pub length-most : r ≤ linesMost

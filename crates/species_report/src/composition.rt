@@ -3,7 +3,7 @@ use fields::rows_of;
 use inventory::report;
 use sheet::Check;
 use speciation::split;
-ghost use Rattle.species_report.specs.Composition.{CompositionAnswer};
+ghost use Rattle.species_report.specs.Composition.{CompositionCall};
 
 // What the call answers.
 pub struct Composition {
@@ -18,7 +18,7 @@ pub struct Composition {
 // Makes the report in words that the caller lends, with every check of that call, and splits its last word. The words are left as the
 // report call leaves them.
 pub fn species_of(s: &[u8], words: &mut [u64]) -> Composition
-    ensures { λ r. ⌜ CompositionAnswer (now (s .entry)) (now (words .entry)) (now (words .exit)) r ⌝ }
+    ensures { λ r. ⌜ CompositionCall (now (s .entry)) (now (words .entry)) (now (words .exit)) r ⌝ }
 {
     let check = report(s, words);
     if let Check::Refused(_, _) = check {

@@ -9,7 +9,7 @@ ghost use Prim.Native.Nat.{_≤_};
 ghost use lib.ListN.{length};
 ghost use Rattle.sheet.specs.declared.Check.the-variants.{Pass};
 ghost use Rattle.text.specs.Put.{Put};
-ghost use Rattle.species_report.specs.SpeciesText.{linesOf, linesMost, SpeciesTextAnswer};
+ghost use Rattle.species_report.specs.SpeciesText.{linesOf, linesMost, SpeciesTextCall};
 
 pub mod composition;
 mod lines;
@@ -36,7 +36,7 @@ fn put_text(out: &mut [u8], s: &[u8], check: Check, total: u64, masses: &[u64]) 
 // The text that is printed for the species of a sheet, at the front of a buffer that it fits; the words are left as the report call leaves
 // them. Answers the length of the text. Where this is more than the buffer has, the buffer is left as it is.
 pub fn species_text(s: &[u8], words: &mut [u64], out: &mut [u8]) -> usize
-    ensures { λ r. ⌜ SpeciesTextAnswer (now (s .entry)) (now (words .entry)) (now (words .exit)) (now (out .entry)) (now (out .exit)) r ⌝ }
+    ensures { λ r. ⌜ SpeciesTextCall (now (s .entry)) (now (words .entry)) (now (words .exit)) (now (out .entry)) (now (out .exit)) r ⌝ }
 {
     let found = species_of(s, words);
     let check = found.check;

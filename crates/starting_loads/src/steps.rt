@@ -1,6 +1,6 @@
 // The load that a canister starts with, by steps up from the part of it that is kept, in units of 2^-40 g.
-use bounds::order::less;
-use bounds::order::lesser;
+use bounds::order::minus;
+use bounds::order::smaller;
 use bounds::short::line;
 use bounds::short::short;
 ghost use mathlib.Core.Path.{_≡_};
@@ -47,9 +47,9 @@ fn stepped(c: Balance, y: u64, load: u64) -> u64
     requires { ⌜ BalanceReady c × (y ≤ 2 ^ 36) × (min (c .saturation) (c .net) ≤ load) × (load ≤ c .saturation) ⌝ }
     ensures { λ r. ⌜ r ≡ stepped (c .growth) (c .saturation) (c .net) y load ⌝ }
 {
-    let missing = less(lesser(c.saturation, c.net + y * TWO_4), load);
+    let missing = minus(smaller(c.saturation, c.net + y * TWO_4), load);
     let added = missing * PARTS / (PARTS - slope(c.growth, y));
-    lesser(c.saturation, load + added)
+    smaller(c.saturation, load + added)
 }
 
 // A step.
@@ -99,7 +99,7 @@ pub fn starts(
     requires { ⌜ (now tables ≡ entries) × BalancesReady (now bases) (now growths) saturation net ⌝ }
     ensures { λ r. ⌜ r ≡ stepsAt (now (bases .entry)) (now (growths .entry)) saturation net stepCount ⌝ }
 {
-    let mut loads = [lesser(saturation, net); 25];
+    let mut loads = [smaller(saturation, net); 25];
     let mut taken: u64 = 0;
     while taken < STEPS {
         loads = round(tables, bases, growths, saturation, net, &loads);

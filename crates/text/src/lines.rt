@@ -7,7 +7,7 @@ ghost use Rattle.text.specs.Lines.{six, field, fields, line, pairLine, r
 ghost use Rattle.text.specs.Put.{Room, Put};
 
 // The words of a row, and of a category.
-const SIX: usize = 6;
+const ROW_WORDS: usize = 6;
 
 // A field of a line: a space and a word.
 fn put_field(out: &mut [u8], at: usize, word: u64) -> usize
@@ -46,8 +46,8 @@ fn put_row(out: &mut [u8], at: usize, words: &[u64], i: usize) -> usize
     requires { ⌜ Room at (rowLine (now words) i) × (6 * i + 6 ≤ length (now words)) ⌝ }
     ensures { λ r. ⌜ Put (now (out .entry)) at (rowLine (now (words .entry)) i) (now (out .exit)) r ⌝ }
 {
-    let from = SIX * i;
-    let to = from + SIX;
+    let from = ROW_WORDS * i;
+    let to = from + ROW_WORDS;
     let named = put(out, at, b"row ");
     let numbered = put_number(out, named, i as u64 + 1);
     let filled = put_fields(out, numbered, &words[from..to]);
@@ -72,7 +72,7 @@ fn put_six(out: &mut [u8], at: usize, name: &[u8], words: &[u64], from: usize) -
     requires { ⌜ Room at (line (now name) (six from (now words))) × (from + 6 ≤ length (now words)) ⌝ }
     ensures { λ r. ⌜ Put (now (out .entry)) at (line (now (name .entry)) (six from (now (words .entry)))) (now (out .exit)) r ⌝ }
 {
-    let to = from + SIX;
+    let to = from + ROW_WORDS;
     put_line(out, at, name, &words[from..to])
 }
 
@@ -109,7 +109,7 @@ pub fn put_report(out: &mut [u8], version: u64, rows: usize, words: &[u64]) -> u
 {
     let head = put_pair(out, b"EVP ", version, b" rows ", rows as u64);
     let sums = put_rows(out, head, words, rows);
-    put_sums(out, sums, words, SIX * rows)
+    put_sums(out, sums, words, ROW_WORDS * rows)
 }
 
 // The line of a refused sheet.

@@ -8,7 +8,7 @@ ghost use Rattle.thresholds.specs.Thresholds.{far, within, digit, digits
 // An exponent of 0, as `exponential` takes it; and of 1, in units.
 const ZERO: u64 = 1600000000000000;
 
-const ONE: u64 = 100000000000000;
+const TEN_14: u64 = 100000000000000;
 
 // How far 2^40 E(d) can be above what is computed of it, for d up to 2^47.
 const NEAR_ERROR: u64 = 35;
@@ -102,5 +102,5 @@ pub fn short(tables: &[u64; 1907], mileage: u64) -> u64
     let fars = far_table();
     let c = whole_above(tables, &fars, mileage);
     let d = digits(tables, &fars, mileage, c);
-    c as u64 * ONE - d - MARGIN
+    c as u64 * TEN_14 - d - MARGIN
 }

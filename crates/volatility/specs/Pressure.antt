@@ -13,7 +13,7 @@ use Rattle.sheet.specs.Bytes.{seasonsOf, rowsOf, cellsOf, seasonPlace, seasonLi
 use Rattle.sheet.specs.Check.{numberOf}
 use Rattle.sheet.specs.Sheet.{sheetCheck}
 use Rattle.report_words.specs.Report.{report}
-use Rattle.inventory.specs.ReportCall.{ReportAnswer}
+use Rattle.inventory.specs.ReportCall.{ReportCall}
 
 -- where the vapour pressure of season j starts: "Season, 8 bytes: .. u16 vapour pressure vp", its last two bytes in every version
 abbrev pub pressurePlace : List ℕ → ℕ → ℕ
@@ -57,7 +57,7 @@ WordTheorem = (s t : List ℕ) (j i : ℕ) (m : Mechanism) → ((k : ℕ) → u8
 pub record Reported (s words : List ℕ) : Type 0 where
   pub old : List ℕ
   pub answer : Check
-  pub left : ReportAnswer s old words answer
+  pub left : ReportCall s old words answer
   pub accepted : numberOf answer ≡ 0
 
 abbrev pub CallTheorem : Type 0

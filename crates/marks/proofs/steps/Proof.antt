@@ -15,7 +15,7 @@ abbrev μ-loop : tie.MeasureT-loop
 μ-loop heats out₀ i₀ out i = 48 - i
 
 loop-again : tie.Need-loop-again Inv-loop μ-loop
-loop-again c = filled-more (c .before .before .loop .inv) (omega arith) (c .less .ensures)
+loop-again c = filled-more (c .before .before .loop .inv) (omega arith) (c .minus .ensures)
 
 returns : tie.Need-returns Inv-loop μ-loop
 returns c = filled-all (c .before .loop .inv) (omega arith)

@@ -13,7 +13,7 @@ use Rattle.sheet.proofs.Stages.{stop, go}
 use Rattle.sheet.proofs.Places.{parking-there}
 use Rattle.ledger.specs.Machine.{rowOf}
 use Rattle.shared_ledger.specs.Opening.{vehiclesHeld, sharedCheck}
-use Rattle.shared_ledger.specs.Calls.{mayChange, changeCheck, pastShare}
+use Rattle.shared_ledger.specs.Calls.{mayChange, sharedChangeCheck, pastShare}
 use Rattle.shared_ledger_calls.proofs.Outcome.{may-change-is}
 use Rattle.shared_ledger.proofs.Conditions.{shared-sheet}
 use Rattle.shared_ledger.proofs.Holdings.{held-most}
@@ -36,7 +36,7 @@ past-is c =
     ap (λ (v : ℕ). pastShare v (x .call)) (c .before .vehicles-held .ensures ∙ ap (vehiclesHeld (x .s .now) (x .owners .now) (x .who)) (c .before .before .rows-of .ensures .0))
 
 returns : tie.Need-returns
-unfolding changeCheck
+unfolding sharedChangeCheck
 returns c = stop _ _ (c .before .before .shared-check .ensures) (c .enum-told .given .1)
 
 vehicles-held-requires : tie.Need-vehicles-held-requires
@@ -49,7 +49,7 @@ past-share-requires c κs =
 
 -- 30, then 29, then 31
 returns-2 : tie.Need-returns-2
-unfolding changeCheck
+unfolding sharedChangeCheck
 returns-2 c =
     let last = c .before .before in
     let counted = last .before .before .before .before in

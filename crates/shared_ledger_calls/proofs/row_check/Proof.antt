@@ -12,7 +12,7 @@ use Rattle.sheet.proofs.Stages.{stop, go, passed}
 use Rattle.sheet.proofs.Places.{parking-there}
 use Rattle.inventory.proofs.CallConditions.{refused, allowed}
 use Rattle.shared_ledger.specs.Opening.{sharedCheck}
-use Rattle.shared_ledger.specs.Calls.{mayRead, rowCheck}
+use Rattle.shared_ledger.specs.Calls.{mayRead, sharedRowCheck}
 use Rattle.shared_ledger_calls.proofs.Outcome.{at-once, may-read-is}
 use Rattle.shared_ledger.proofs.Conditions.{shared-sheet}
 use Rattle.shared_ledger_calls.proofs.row_check.Statement.{statement}
@@ -30,18 +30,18 @@ right : (c : tie.Else1) → let x = c .before .before .before .before .before .b
 right c = ap not (sym (right-is (c .before))) ∙ c .if1 .left
 
 returns : tie.Need-returns
-unfolding rowCheck
+unfolding sharedRowCheck
 returns c = stop _ _ (c .before .before .shared-check .ensures) (c .enum-told .given .1)
 
 returns-2 : tie.Need-returns-2
-unfolding rowCheck
+unfolding sharedRowCheck
 returns-2 c =
     let told = c .before .before in
     go _ _ (told .before .before .shared-check .ensures) (told .enum-told2 .given .1)
     (at-once 30 0 _ (ap not (sym (right-is (c .before))) ∙ c .if1 .taken))
 
 returns-3 : tie.Need-returns-3
-unfolding rowCheck
+unfolding sharedRowCheck
 returns-3 c =
     let told = c .before .before .before .before in
     let x = told .before .before .before .before .before .args in
@@ -49,7 +49,7 @@ returns-3 c =
     (passed 30 0 _ (right (c .before .before)) (refused 29 0 (le-leb (rowsOf (x .s .now)) (x .row) (omega (arith, c .before .rows-of .ensures .0)))))
 
 returns-4 : tie.Need-returns-4
-unfolding rowCheck
+unfolding sharedRowCheck
 returns-4 c =
     let told = c .before .before .before .before in
     let x = told .before .before .before .before .before .args in

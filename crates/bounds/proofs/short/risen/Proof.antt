@@ -24,7 +24,7 @@ known c = record {
 returns : tie.Need-returns
 returns c =
     let a = c .before .args in
-    c .lesser .ensures ∙ ap (λ (y : ℕ). min (a .z + y) (a .top)) (known (c .before) .together ∙ ap (λ (y : ℕ). y / 2 ^ 23) (mul-comm (a .r) (a .k)))
+    c .smaller .ensures ∙ ap (λ (y : ℕ). min (a .z + y) (a .top)) (known (c .before) .together ∙ ap (λ (y : ℕ). y / 2 ^ 23) (mul-comm (a .r) (a .k)))
 
 pub risen-spec : {M : Type 1} → statement M
 risen-spec =

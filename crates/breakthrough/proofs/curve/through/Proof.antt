@@ -7,7 +7,7 @@ use Rattle.breakthrough.proofs.curve.through.Tie as tie
 
 returns : tie.Need-returns
 unfolding through
-returns k = k .less .ensures ∙ cc
+returns k = k .minus .ensures ∙ cc
 
 pub through-spec : {M : Type 1} → statement M
 through-spec =

@@ -1,10 +1,10 @@
 -- `map_rows::sums::cells_of` meets its contract.
-use Rattle.map_rows.specs.Limits.{cellsOf}
+use Rattle.map_rows.specs.Limits.{cellsWithin}
 use Rattle.map_rows.proofs.sums.cells_of.Statement.{statement}
 use Rattle.map_rows.proofs.sums.cells_of.Tie as tie
 
 returns : tie.Need-returns
-unfolding cellsOf
+unfolding cellsWithin
 returns c = cc
 
 urban : tie.Need-cell-between-requires

@@ -17,7 +17,7 @@ abbrev μ-loop : tie.MeasureT-loop
 μ-loop values out₀ cell₀ out cell = 576 - cell
 
 loop-again : tie.Need-loop-again Inv-loop μ-loop
-loop-again c = filled-more (c .before .before .before .loop .inv) (omega arith) (c .less .ensures)
+loop-again c = filled-more (c .before .before .before .loop .inv) (omega arith) (c .minus .ensures)
 
 pub lowered-spec : {M : Type 1} → statement M
 lowered-spec =

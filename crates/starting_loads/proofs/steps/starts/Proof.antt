@@ -39,7 +39,7 @@ module _ (bases growths : List ℕ) (σ G i : ℕ) {loads : List ℕ} (e : loads
 
 loop-holds : tie.Need-loop-holds Inv-loop μ-loop
 unfolding steps
-loop-holds c = (omega arith, tab-constant 25 _ (λ k l. sym (c .lesser .ensures)))
+loop-holds c = (omega arith, tab-constant 25 _ (λ k l. sym (c .smaller .ensures)))
 
 round-requires : tie.Need-round-requires Inv-loop μ-loop
 round-requires c κs =

@@ -7,11 +7,11 @@ use Rattle.starting_loads.specs.Steps.{added, stepped}
 use Rattle.starting_loads.proofs.steps.stepped.Statement.{statement}
 use Rattle.starting_loads.proofs.steps.stepped.Tie as tie
 
-add-lesser-2 : tie.Need-add-lesser-2
-add-lesser-2 c =
+add-smaller-2 : tie.Need-add-smaller-2
+add-smaller-2 c =
     let d = c .before in
     let s = d .before .before .before in
-    record { fits = omega (arith, div-le-self (d .less .result * 524288) (524288 - c .slope .result), d .less .ensures, d .before .lesser .ensures, s .pre .0 .saturation-below) }
+    record { fits = omega (arith, div-le-self (d .minus .result * 524288) (524288 - c .slope .result), d .minus .ensures, d .before .smaller .ensures, s .pre .0 .saturation-below) }
 
 returns : tie.Need-returns
 unfolding added stepped
@@ -29,6 +29,6 @@ stepped-spec =
     (λ c κs. search needs)
     (λ c. search needs)
     (λ c. search needs)
-    add-lesser-2
+    add-smaller-2
     (λ c κs. search needs)
     returns)
