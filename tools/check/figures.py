@@ -1,19 +1,22 @@
-"""Figures in README.md and docs/*.md against what programs print and files hold, so that none goes stale.
+"""Figures in README.md, CONTRIBUTING.md and docs/*.md against what programs print and files hold.
 
 A claim is a piece of a sentence with the names of facts in braces. It must
 stand in some document, and wherever it stands the figures must be those of the
 facts; spaces and line ends count alike. A figure beside one of NOUNS that no
-claim holds is reported too. docs/changes tell how things were, and are not read.
+claim holds is reported too. docs/changes and docs/TIMES.md tell how things were
+in some run, and are not read.
 """
 
 import re
 from collections.abc import Iterator
 from typing import NamedTuple
 
+from tools import crates
 from tools.check import inputs
 from tools.check.edits import find as find_edits
 from tools.check.pressures import PRESSURES
 from tools.command import SAMPLES, TOP
+from tools.make import times
 
 NUMBER = r"(?:\d{1,3}(?:,\d{3})+|\d+)(?:\.\d+)?"
 
@@ -56,8 +59,6 @@ PRINTED = {
 CLAIMS = (
     # what the programs vectors_* were run on
     "{exponents} exponents and {temperatures} temperatures",
-    "{totals} totals, {sheets} sheets, {factors} factors, {masses} masses, {cell_rows} rows",
-    "and {cell_sums} sums of cells",
     "{sheets} sheets, {sheets_2} of them of version 2, {sheets_3} of version 3 and {sheets_4} of version 4",
     "{factors} factors, {factors_2} of them of version 2, {factors_3} of version 3 and {factors_4} of version 4",
     "on {factors} factors (every version", "and {refused_factors} refused calls",
@@ -67,11 +68,10 @@ CLAIMS = (
     "{totals} totals with",
     "{cell_rows} rows, {cell_rows_refused} of them refused,",
     "and {cell_sums} sums of two cells, {sums_27} of them refused",
-    "{ledger_calls} calls on ledgers", "{ledger_calls} calls on {ledgers} ledgers and on {no_ledgers} pairs of buffers",
+    "{ledger_calls} calls on {ledgers} ledgers and on {no_ledgers} pairs of buffers",
     "{ledger_passed} calls pass and {ledger_refused} are refused",
-    "{shared_calls} calls on shared ledgers", "{shared_calls} calls on {shared_ledgers} shared ledgers",
-    "{shared_pairs} pairs of lists", "{shared_pairs} pairs of ledgers",
-    "{pools} pairs of sheets to pool", "{pools} pairs of sheets, {refused_pools} of them refused",
+    "{shared_calls} calls on {shared_ledgers} shared ledgers", "{shared_pairs} pairs of ledgers",
+    "{pools} pairs of sheets, {refused_pools} of them refused",
     "{pressure_pairs} pairs of sheets",
     # the gate
     "{tests} tests: {crates} crates proved", "and {edits} must-fail edits refused",
@@ -161,8 +161,7 @@ def counted_facts() -> Iterator[tuple[str, int]]:
         yield from (("%s_%d" % (name, version), by_version[version]) for version in (2, 3, 4))
     opened = inputs.ledgers()
     yield from (("ledgers", opened[True]), ("no_ledgers", opened[False]))
-    crates = (TOP / "crates.txt").read_text(encoding="utf-8")
-    yield "crates", len(re.findall(r"^\w+:", crates, re.M))
+    yield "crates", len(crates.names())
     yield "edits", len(find_edits())
     yield "samples", len(list(SAMPLES.glob("*.evp")))
     yield "pressure_pairs", 4 * len(PRESSURES)  # of each version
@@ -190,7 +189,8 @@ def facts() -> dict[str, str]:
 
 
 def documents() -> list[Text]:
-    paths = [TOP / "README.md", *sorted((TOP / "docs").glob("*.md"))]
+    pages = sorted(set((TOP / "docs").glob("*.md")) - {TOP / times.PAGE})
+    paths = [TOP / "README.md", TOP / "CONTRIBUTING.md", *pages]
     return [Text(str(path.relative_to(TOP)), " ".join(path.read_text(encoding="utf-8").split())) for path in paths]
 
 
