@@ -29,6 +29,9 @@ def run_pressures(_: argparse.Namespace) -> int:
 
 
 def run_edits(given: argparse.Namespace) -> int:
+    if given.one:
+        error, faults = edits.try_edit(Path(given.one).resolve())
+        return finish("edits", faults, "refused by a fact: " + error)
     what = "are read whole and change one place" + (", and fail by a fact" if given.logs else "")
     return finish("edits", edits.faults(given.logs, given.crates),
                   "%d edits %s" % (len(edits.find(given.crates)), what))
@@ -60,11 +63,11 @@ def run_names(_: argparse.Namespace) -> int:
 
 
 def run_lines(given: argparse.Namespace) -> int:
-    if given.wrap:
-        for path in lines.wrap([Path(name).resolve() for name in given.files]):
-            print("%s: wrapped" % path)
-    return finish("lines", lines.faults(), "no line of %d files passes %d characters where it can be wrapped" % (
-        len(list(lines.files())), lines.LIMIT))
+    paths = [Path(name).resolve() for name in given.files] or list(lines.files())
+    for path in lines.wrap(paths) if given.wrap else []:
+        print("%s: wrapped" % path)
+    return finish("lines", lines.faults(paths), "no line of %d files passes %d characters where it can be wrapped" % (
+        len(paths), lines.LIMIT))
 
 
 def parser() -> argparse.ArgumentParser:
@@ -83,9 +86,10 @@ def parser() -> argparse.ArgumentParser:
         found[name].set_defaults(run=run_it)
     found["samples"].add_argument("--write", action="store_true", help="store what `report` prints")
     found["edits"].add_argument("--logs", action="store_true", help="look at the logs under target/must-fail too")
+    found["edits"].add_argument("--try", dest="one", metavar="FILE.edit", help="try this edit alone, by rt dev")
     found["edits"].add_argument("crates", nargs="*", metavar="CRATE", help="the edits of these crates alone")
-    found["lines"].add_argument("--wrap", action="store_true", help="wrap files of Markdown first")
-    found["lines"].add_argument("files", nargs="*", metavar="FILE", help="with --wrap: these alone")
+    found["lines"].add_argument("--wrap", action="store_true", help="wrap those of Markdown first")
+    found["lines"].add_argument("files", nargs="*", metavar="FILE", help="these files alone")
     return top
 
 

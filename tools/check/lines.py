@@ -116,17 +116,18 @@ def long_lines(text: str, is_markdown: bool) -> Iterator[int]:
                 yield number
 
 
-def faults() -> Iterator[str]:
-    for path in files():
+def faults(paths: list[Path]) -> Iterator[str]:
+    """The lines of these files that are too long."""
+    for path in paths:
         text = path.read_text(encoding="utf-8")
         for number in long_lines(text, path.suffix == ".md"):
             yield "%s:%d: %d characters" % (path.relative_to(TOP), number, len(text.splitlines()[number - 1]))
 
 
 def wrap(paths: list[Path]) -> list[Path]:
-    """Wraps these files of Markdown, or all, and gives those that have changed."""
+    """Wraps those of these files that are Markdown, and gives those that have changed."""
     changed = []
-    for path in paths or [path for path in files() if path.suffix == ".md"]:
+    for path in (path for path in paths if path.suffix == ".md"):
         text = path.read_text(encoding="utf-8")
         made = rewrapped(text)
         if made != text:
