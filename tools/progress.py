@@ -21,7 +21,8 @@ from tools.command import described, run
 
 PROVED = re.compile(r"rt: (\w+) proved \(")
 REFUSED = re.compile(r"rt: must-fail \w+/\S+: refused, as it must be")
-FAILED = re.compile(r"rt: (\w+ NOT PROVED|must-fail \S+: (NOT REFUSED|BAD EDIT)|\w+ proved, and its run FAILED|FAILED:)")
+FAILED = re.compile(
+    r"rt: (\w+ NOT PROVED|must-fail \S+: (NOT REFUSED|BAD EDIT)|\w+ proved, and its run FAILED|FAILED:)")
 LAST = re.compile(r"\d+ passed, \d+ failed")
 PARTS = 20  # so many lines tell the whole way, where no terminal is
 TOLD, WIDTH = 30, 300  # so much is printed of a failure: lines, and characters of each; the log has all

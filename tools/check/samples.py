@@ -55,7 +55,8 @@ def faults(sheets: Sequence[Path], reports: dict[Path, bytes]) -> Iterator[str]:
     for stored in sorted(SAMPLES.glob("*.report")):
         if stored.with_suffix(".evp") not in sheets:
             yield "samples/%s has no sheet" % stored.name
-    examples = [block for block in blocks((TOP / PAGE).read_text(encoding="utf-8")) if re.match(r"EVP \d+ rows ", block)]
+    shown = blocks((TOP / PAGE).read_text(encoding="utf-8"))
+    examples = [block for block in shown if re.match(r"EVP \d+ rows ", block)]
     if not examples:
         yield "%s has no example of a report" % PAGE
     for example in examples:

@@ -18,9 +18,10 @@ HEAD = "|" + " Crate | Check | Edits |" * COLUMNS
 TEXT = """\
 # The gate's time by crate
 
-`python3 -m tools.make times target/gate/rt-ci.log` makes this page from one run's log. {tests} tests of that run:
-{crates} crates proved from nothing, the programs run with theirs, and {edits} must-fail edits refused. In seconds, and of the
-edits how many there were and what all of them took. The times are those of one machine, where two run at a time.
+`python3 -m tools.make times target/gate/rt-ci.log` makes this page from the log of one run, which had {tests} tests:
+{crates} crates proved from nothing, the programs run with theirs, and {edits} must-fail edits refused. The check of
+each crate is in seconds; of its edits stand how many there were and the seconds of all. The times are those of one
+machine, where two run at a time.
 
 {table}
 Added up the proofs took {checked} s and the edits {edited} s. The longest check is that of `{longest}`, {most} s.
