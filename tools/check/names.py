@@ -23,7 +23,7 @@ ANY = re.compile(r"\*|\bNAME\b|\bX\b|\.\.|\{")
 LINK = re.compile(r"\[[^\]]*\]\(([^)\s]+)\)")
 LAW = re.compile(r"`([^`]+)` in ([a-z_]+/proofs/\w+)")
 SPECS = re.compile(r"([a-z_]+): ([A-Z]\w*(?:, [A-Z]\w*)*)")
-NAMED = re.compile(r"((?:`[\w·≤⊎-]+`(?:, and |, | and )?)+) in (crates/[\w/-]+\.(?:rt|antt))")
+NAMED = re.compile(r"((?:`[\w·≤⊎-]+`(?:, and |, | and | or )?)+) in (crates/[\w/-]+\.(?:rt|antt))")
 
 
 def pages() -> list[Path]:
