@@ -4,7 +4,7 @@
 //! of row, and how the time grows with rows and seasons.
 //!
 //! `thirteen FOLDER` writes the last figures to FOLDER/rows.txt and FOLDER/seasons.txt as well, in the form
-//! that tools/picture.py draws.
+//! that `python3 -m tools.make pictures` draws.
 use common::clock::{in_turn, Machine, Run, Times, RUNS};
 use common::library;
 use common::samples::{damaged, full, random, Kind, THREE};

@@ -1,6 +1,6 @@
-"""docs/COURSE.md: its commands print what it says.
+"""docs/COURSE.md and README.md: their commands print what they say.
 
-    python3 python/tests/test_course.py --write    puts what they print into it
+    python3 python/tests/test_course.py --write    puts what they print into them
 """
 
 import os
@@ -14,7 +14,7 @@ from pathlib import Path
 
 from support import SAMPLES, TOP, run_together
 
-COURSE = TOP / "docs" / "COURSE.md"
+COURSE, README = TOP / "docs" / "COURSE.md", TOP / "README.md"
 BLOCK = re.compile(r"(?<=^```console\n).*?(?=^```$)", re.M | re.S)
 
 
@@ -35,26 +35,30 @@ def with_output(text: str) -> str:
     return BLOCK.sub(block, text)
 
 
-class CourseTest(unittest.TestCase):
-    def test_page(self):
-        text = COURSE.read_text(encoding="utf-8")
-        with tempfile.TemporaryDirectory() as folder:
-            self.addCleanup(os.chdir, os.getcwd())
-            os.chdir(folder)
+def made(page: Path) -> str:
+    """The page with what its commands print, run in a folder of their own."""
+    text, before = page.read_text(encoding="utf-8"), os.getcwd()
+    with tempfile.TemporaryDirectory() as folder:
+        os.chdir(folder)
+        try:
             Path("samples").symlink_to(SAMPLES)
-            found = with_output(text)
-            os.chdir(TOP)
-        self.assertEqual(found.splitlines(), text.splitlines())
-        self.assertGreater(text.count("$ ./evp "), 10)
+            return with_output(text)
+        finally:
+            os.chdir(before)
+
+
+class CourseTest(unittest.TestCase):
+    def test_pages(self):
+        for page, commands in ((COURSE, 10), (README, 1)):
+            with self.subTest(page=page.name):
+                text = page.read_text(encoding="utf-8")
+                self.assertEqual(made(page).splitlines(), text.splitlines())
+                self.assertGreaterEqual(text.count("$ ./evp "), commands)
 
 
 def main():
-    with tempfile.TemporaryDirectory() as folder:
-        os.chdir(folder)
-        Path("samples").symlink_to(SAMPLES)
-        made = with_output(COURSE.read_text(encoding="utf-8"))
-        os.chdir(TOP)
-    COURSE.write_text(made, encoding="utf-8")
+    for page in (COURSE, README):
+        page.write_text(made(page), encoding="utf-8")
 
 
 if __name__ == "__main__":

@@ -234,7 +234,8 @@ class MarkTest(unittest.TestCase):
             low = draw.randrange(10 ** draw.randrange(1, 14))
             band = Band(low, low + draw.randrange(10 ** draw.randrange(1, 7)))
             filed = Filed(draw.randrange(10 ** draw.randrange(1, 19)), draw.randrange(17), draw.choice(list(Unit)))
-            self.assertEqual(tuple(LIBRARY.mark(filed, band)), tuple(marking.mark(tuple(filed), tuple(band))), (filed, band))
+            expected = tuple(marking.mark(tuple(filed), tuple(band)))
+            self.assertEqual(tuple(LIBRARY.mark(filed, band)), expected, (filed, band))
 
     def test_too_large_for_the_call(self):
         with self.assertRaises(OverflowError):

@@ -94,8 +94,8 @@ class CourseTest(DeskTestCase):
         filed = self.put("filed.csv", lines[0] + "".join(line for line in lines if line.startswith("moor")))
         with mock.patch("evp.hints.reckoning", return_value=None):
             found = run("mark", self.folder, "--filed", filed, "-o", self.folder / "marks.csv", "--hints")
-        self.assertIn("  no guess: moor.evp: 7 figures\n  cannot show: moor.evp: misreadings (the second reckoning, tools/, "
-                      "is not there)\n", found.out)
+        self.assertIn("  no guess: moor.evp: 7 figures\n"
+                      "  cannot show: moor.evp: misreadings (the second reckoning, tools/, is not there)\n", found.out)
 
 
 class FiledTest(DeskTestCase):

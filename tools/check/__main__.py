@@ -2,8 +2,9 @@
 
 import argparse
 import sys
+from pathlib import Path
 
-from tools.check import bounds, edits, figures, header, pressures, promises, samples
+from tools.check import bounds, edits, figures, header, lines, names, pressures, promises, samples
 from tools.command import add_command, described, report, run
 
 
@@ -16,8 +17,8 @@ def finish(name: str, faults, said: str) -> int:
 
 
 def run_samples(given: argparse.Namespace) -> int:
-    return finish("samples", samples.check(given.write),
-                  "samples: the programs print the stored reports and their species; README.md's example is one")
+    said = "samples: the programs print the stored reports and their species; the examples of %s are such"
+    return finish("samples", samples.check(given.write), said % samples.PAGE)
 
 
 def run_pressures(_: argparse.Namespace) -> int:
@@ -28,6 +29,9 @@ def run_pressures(_: argparse.Namespace) -> int:
 
 
 def run_edits(given: argparse.Namespace) -> int:
+    if given.one:
+        error, faults = edits.try_edit(Path(given.one).resolve())
+        return finish("edits", faults, "refused by a fact: " + error)
     what = "are read whole and change one place" + (", and fail by a fact" if given.logs else "")
     return finish("edits", edits.faults(given.logs, given.crates),
                   "%d edits %s" % (len(edits.find(given.crates)), what))
@@ -49,7 +53,21 @@ def run_promises(_: argparse.Namespace) -> int:
 
 
 def run_bounds(_: argparse.Namespace) -> int:
-    return finish("bounds", bounds.faults(), "the crates above bounds cite its %d listed laws alone" % len(bounds.listed()))
+    return finish("bounds", bounds.faults(),
+                  "the crates above bounds cite its %d listed laws alone" % len(bounds.listed()))
+
+
+def run_names(_: argparse.Namespace) -> int:
+    return finish("names", names.faults(), "the files, links and %d functions that %d pages name are there" % (
+        sum(len(list(names.named(page))) for page in names.pages()), len(names.pages())))
+
+
+def run_lines(given: argparse.Namespace) -> int:
+    paths = [Path(name).resolve() for name in given.files] or list(lines.files())
+    for path in lines.wrap(paths) if given.wrap else []:
+        print("%s: wrapped" % path)
+    return finish("lines", lines.faults(paths), "no line of %d files passes %d characters where it can be wrapped" % (
+        len(paths), lines.LIMIT))
 
 
 def parser() -> argparse.ArgumentParser:
@@ -61,14 +79,17 @@ def parser() -> argparse.ArgumentParser:
     for name, module, run_it in (
         ("samples", samples, run_samples), ("pressures", pressures, run_pressures), ("edits", edits, run_edits),
         ("figures", figures, run_figures), ("header", header, run_header), ("promises", promises, run_promises),
-        ("bounds", bounds, run_bounds),
+        ("bounds", bounds, run_bounds), ("names", names, run_names), ("lines", lines, run_lines),
     ):
         about, _, more = module.__doc__.partition("\n\n")
         found[name] = add_command(commands, name, about, "python3 -m tools.check " + name, "\n\n" + more)
         found[name].set_defaults(run=run_it)
     found["samples"].add_argument("--write", action="store_true", help="store what `report` prints")
     found["edits"].add_argument("--logs", action="store_true", help="look at the logs under target/must-fail too")
+    found["edits"].add_argument("--try", dest="one", metavar="FILE.edit", help="try this edit alone, by rt dev")
     found["edits"].add_argument("crates", nargs="*", metavar="CRATE", help="the edits of these crates alone")
+    found["lines"].add_argument("--wrap", action="store_true", help="wrap those of Markdown first")
+    found["lines"].add_argument("files", nargs="*", metavar="FILE", help="these files alone")
     return top
 
 

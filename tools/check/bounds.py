@@ -17,8 +17,8 @@ BOUNDS = TOP / "crates" / "bounds"
 # Modules that reckon with enclosures, fractions and tables alone.
 CALCULUS = {"Within", "Units", "Table", "Line", "Tangent", "ShortLine"}
 
-# A computed comparison of series, run on two tables of `thresholds`, with the laws that carry a passed test to every n; two facts on
-# whole roots, by which the examples of document 01 are computed; and `multiple`, which is k/2^n.
+# A computed comparison of series, run on two tables of `thresholds`, with the laws that carry a passed test to every n;
+# two facts on whole roots, by which the examples of document 01 are computed; and `multiple`, which is k/2^n.
 EXCEPT = {
     "thresholds": {"belowTest", "E-≤-ratio", "ratio-≤-E"},
     "exact": {"root-square", "four-power", "multiple"},

@@ -11,9 +11,13 @@ With --logs, after `rt must-fail` or `rt ci`, the first error of each log under
 target/must-fail is looked at: it must be a fact that no longer holds, and not a
 name or a field that is gone, a need that has another name, or a file that does
 not parse.
+
+With --try, one edit is tried in seconds: it is done in its crate, `rt dev` is run
+and the crate's files are put back. Its first error is printed.
 """
 
 import re
+import subprocess
 from collections.abc import Iterable, Iterator
 from pathlib import Path
 from typing import NamedTuple
@@ -127,6 +131,46 @@ def log_fault(log: str) -> str | None:
         if re.search(pattern, error):
             return "%s: %s" % (what, error[:200])
     return None
+
+
+def changed(changes: Iterable[Change], crate: Path) -> dict[Path, str]:
+    """The files of a crate that an edit changes, as it leaves them."""
+    texts: dict[Path, str] = {}
+    for change in changes:
+        path = crate / change.file
+        text = texts.get(path) or path.read_text(encoding="utf-8")
+        texts[path] = text.replace(change.old, change.new)
+    return texts
+
+
+def tried(edit: Path) -> str:
+    """What `rt dev` says of an edit's crate with the edit done; the files are put back, whatever happens."""
+    crate = edit.parent.parent
+    made = changed(read(edit.read_text(encoding="utf-8"))[0], crate)
+    before = {path: path.read_bytes() for path in made}
+    try:
+        for path, text in made.items():
+            path.write_text(text, encoding="utf-8")
+        run = subprocess.run(["rt", "dev", crate.name], cwd=TOP, stdout=subprocess.PIPE, stderr=subprocess.STDOUT)
+    finally:
+        for path, data in before.items():
+            path.write_bytes(data)
+    if not run.returncode:
+        raise ValueError("%s is still proved with this edit" % crate.name)
+    return run.stdout.decode(errors="replace")
+
+
+def try_edit(edit: Path) -> tuple[str, list[str]]:
+    """The first error of one edit, cut short, and what is wrong with it."""
+    found = ["line %d: %s" % fault for fault in form_faults(edit)]
+    if found:
+        return "", found
+    try:
+        log = tried(edit)
+    except (ValueError, FileNotFoundError) as error:
+        return "", [str(error)]
+    fault = log_fault(log)
+    return first_error(log)[:600], [fault] if fault else []
 
 
 def log_faults(edit: Path) -> Iterator[str]:

@@ -1,19 +1,22 @@
-"""Figures in README.md and docs/*.md against what programs print and files hold, so that none goes stale.
+"""Figures in README.md, CONTRIBUTING.md and docs/*.md against what programs print and files hold.
 
 A claim is a piece of a sentence with the names of facts in braces. It must
 stand in some document, and wherever it stands the figures must be those of the
 facts; spaces and line ends count alike. A figure beside one of NOUNS that no
-claim holds is reported too. docs/changes tell how things were, and are not read.
+claim holds is reported too. docs/changes and docs/TIMES.md tell how things were
+in some run, and are not read.
 """
 
 import re
 from collections.abc import Iterator
 from typing import NamedTuple
 
+from tools import crates
 from tools.check import inputs
 from tools.check.edits import find as find_edits
 from tools.check.pressures import PRESSURES
 from tools.command import SAMPLES, TOP
+from tools.make import times
 
 NUMBER = r"(?:\d{1,3}(?:,\d{3})+|\d+)(?:\.\d+)?"
 
@@ -56,8 +59,6 @@ PRINTED = {
 CLAIMS = (
     # what the programs vectors_* were run on
     "{exponents} exponents and {temperatures} temperatures",
-    "{totals} totals, {sheets} sheets, {factors} factors, {masses} masses, {cell_rows} rows",
-    "and {cell_sums} sums of cells",
     "{sheets} sheets, {sheets_2} of them of version 2, {sheets_3} of version 3 and {sheets_4} of version 4",
     "{factors} factors, {factors_2} of them of version 2, {factors_3} of version 3 and {factors_4} of version 4",
     "on {factors} factors (every version", "and {refused_factors} refused calls",
@@ -67,18 +68,43 @@ CLAIMS = (
     "{totals} totals with",
     "{cell_rows} rows, {cell_rows_refused} of them refused,",
     "and {cell_sums} sums of two cells, {sums_27} of them refused",
-    "{ledger_calls} calls on ledgers", "{ledger_calls} calls on {ledgers} ledgers and on {no_ledgers} pairs of buffers",
+    "{ledger_calls} calls on {ledgers} ledgers and on {no_ledgers} pairs of buffers",
     "{ledger_passed} calls pass and {ledger_refused} are refused",
-    "{shared_calls} calls on shared ledgers", "{shared_calls} calls on {shared_ledgers} shared ledgers",
-    "{shared_pairs} pairs of lists", "{shared_pairs} pairs of ledgers",
-    "{pools} pairs of sheets to pool", "{pools} pairs of sheets, {refused_pools} of them refused",
+    "{shared_calls} calls on {shared_ledgers} shared ledgers", "{shared_pairs} pairs of ledgers",
+    "{pools} pairs of sheets, {refused_pools} of them refused",
     "{pressure_pairs} pairs of sheets",
     # the gate
     "{tests} tests: {crates} crates proved", "and {edits} must-fail edits refused",
+    "12 of {crates} crates, 3 of {edits} edits",
     # the longest sheet, its report and its text
     "longest sheet, which has {sheet_bytes} bytes", "at most {sheet_bytes} for S = 12 and R = 1,000",
     "the report has at most {report_words} words", "lends {report_words}, those of 1,000 rows",
     "longer than {text_bytes} bytes",
+    # the limits of a sheet, in the tables of its fields and of its refusals
+    "| S | 1 to {seasonsLimit} | number of seasons", "S is not 1 to {seasonsLimit} |",
+    "u8 | R | 1 to {rowsLimit} |", "u16 | R | 1 to {manyRowsLimit} |",
+    "R is not 1 to {rowsLimit}; in version 4 not 1 to {manyRowsLimit} |",
+    "sum P from 1 to {countsLimit} |", "sum Q from 1 to {countsLimit} |",
+    "duration counts sum to 0 or to more than {countsLimit} |",
+    "end-hour counts sum to 0 or to more than {countsLimit} |",
+    "| grid | sum from 1 to {gridLimit} |", "counts of the grid sum to 0 or to more than {gridLimit} |",
+    "| 1 to {daysLimit}, all seasons together at most {daysLimit} |", "days are 0 or above {daysLimit}, or the",
+    "| lowest | 0.1 °C | −{coldLimit} to {warmLimit} |", "is below −{coldLimit} or above {warmLimit}, or lowest",
+    "| vp | 0.1 kPa | {vpLeast} to {vpLimit} |", "vp is below {vpLeast} or above {vpLimit} |",
+    "| h | % | 0 to {percentLimit} |", "c, p or h is above {percentLimit} |",
+    "| tank | 0.1 l | 0 to {tankLimit} |", "the tank is above {tankLimit} |",
+    "| vehicles | | 0 to {vehiclesLimit} |", "there are more than {vehiclesLimit} vehicles |",
+    "rows 0 to i together are more than {fleetLimit} |",
+    "| trips | 0.01 a day | 0 to {tripsLimit} |", "| minutes | min | 0 to {minutesLimit} |",
+    "trips are above {tripsLimit} or minutes above {minutesLimit} |",
+    "| mileage | km | 0 to {mileageLimit} |", "the mileage is above {mileageLimit}; or",
+    # how near a word comes to 2^64
+    "in the buffer | {year_most} | {year_share} % |",
+    "a word of a row, {vehiclesLimit} vehicles, in milligrams | {row_most} | {row_share} % |",
+    "a subtotal, {lists_fleet} vehicles ({rowsLimit} rows of versions 1 to 3) | {lists_sum} | {lists_share} % |",
+    "the grand total of these | {lists_total} | {lists_total_share} % |",
+    "a subtotal in version 4, {fleetLimit} vehicles in up to {manyRowsLimit} rows | {many_sum} | {many_share} % |",
+    "the grand total in version 4 | {many_total} | {many_total_share} % |",
     # docs/METHOD.md, proved and measured
     "the terms left out 11/4 | 2^-40 | 5 | {quadratic_error} |", "E up to 1/16 | 2^-40 | 8 | {fine_error} |",
     "0.004·vp | 2^-40 | {bound_2_3} | {error_2_3} |",
@@ -161,17 +187,41 @@ def counted_facts() -> Iterator[tuple[str, int]]:
         yield from (("%s_%d" % (name, version), by_version[version]) for version in (2, 3, 4))
     opened = inputs.ledgers()
     yield from (("ledgers", opened[True]), ("no_ledgers", opened[False]))
-    crates = (TOP / "crates.txt").read_text(encoding="utf-8")
-    yield "crates", len(re.findall(r"^\w+:", crates, re.M))
+    yield "crates", len(crates.names())
     yield "edits", len(find_edits())
     yield "samples", len(list(SAMPLES.glob("*.evp")))
     yield "pressure_pairs", 4 * len(PRESSURES)  # of each version
+
+
+def constants(path: str) -> dict[str, int]:
+    """The numbers that a file of definitions gives a name."""
+    found = re.findall(r"^ *(\w+) = (\d+)$", (TOP / path).read_text(encoding="utf-8"), re.M)
+    return {name: int(value) for name, value in found}
+
+
+def size_facts(limits: dict[str, int]) -> Iterator[tuple[str, str]]:
+    """How large the words of a report can be, as masses/proofs/MassSizes has it: a vehicle's in a year, a fleet's."""
+    sizes = (TOP / "crates/factors/proofs/Sizes.antt").read_text(encoding="utf-8")
+    micrograms = 10 ** 6 * int(re.search(r"^gramsLimit F2 = (\d+)$", sizes, re.M)[1])
+    year = limits["daysLimit"] * limits["tripsLimit"] * 10_000 * micrograms
+    row = year // 10 ** 9 * limits["vehiclesLimit"]
+    lists, many = limits["rowsLimit"] * limits["vehiclesLimit"], limits["fleetLimit"]
+    yield "lists_fleet", str(lists)
+    for name, most in (
+        ("year", year), ("row", row), ("lists_sum", year // 10 ** 9 * lists), ("many_sum", year // 10 ** 9 * many),
+        ("lists_total", 3 * (year // 10 ** 9) * lists), ("many_total", 3 * (year // 10 ** 9) * many),
+    ):
+        yield name if "_" in name else name + "_most", str(most)
+        yield name.removesuffix("_sum") + "_share", "%.1f" % (100 * most / 2 ** 64)
 
 
 def facts() -> dict[str, str]:
     """All facts, as decimals without commas."""
     found = dict(fact for program in PRINTED for fact in printed_facts(program)) | dict(header_facts())
     found |= {name: str(value) for name, value in counted_facts()}
+    limits = constants("crates/sheet/specs/Limits.antt")
+    found |= {name: str(value) for name, value in limits.items()}
+    sizes = dict(size_facts(limits))
     number = {name: int(value) for name, value in found.items()}
     sums = {
         "masses": 3 * number["rows"], "cell_rows": number["rows_with_cells"] + number["rows_27"] + number["rows_28"],
@@ -183,14 +233,15 @@ def facts() -> dict[str, str]:
     found |= {name: str(value) for name, value in sums.items()}
     found |= {name.removesuffix("_ng"): "%.3f" % (value / 1000)
               for name, value in number.items() if name.endswith("_ng")}
-    return found
+    return found | sizes
 
 
 # --------------------------------------------------------------- the documents
 
 
 def documents() -> list[Text]:
-    paths = [TOP / "README.md", *sorted((TOP / "docs").glob("*.md"))]
+    pages = sorted(set((TOP / "docs").glob("*.md")) - {TOP / times.PAGE})
+    paths = [TOP / "README.md", TOP / "CONTRIBUTING.md", *pages]
     return [Text(str(path.relative_to(TOP)), " ".join(path.read_text(encoding="utf-8").split())) for path in paths]
 
 

@@ -4,7 +4,8 @@ A line of its tables has a sentence of the papers, the definitions that say it,
 as `Name` in crate: File, and what holds of them: a law, as `law` in
 crate/proofs/File, or the contract of a function, as `fn` in crates/../file.rt.
 Every name must stand in its file, and a function that a line names without a
-file must have one in a line before.
+file must have one in a line before. The edits that the page names for what would
+be no delivery, as crate: edit, edit; crate: .., must be there.
 """
 
 import re
@@ -25,12 +26,26 @@ def has_word(text: str, name: str) -> bool:
     return re.search(r"(?<![\w·-])%s(?![\w·-])" % re.escape(name), text) is not None
 
 
-def rows() -> Iterator[tuple[int, list[str]]]:
-    """The lines of the tables that have a sentence, each with its number and its three cells."""
-    for number, line in enumerate((TOP / PAGE).read_text().splitlines(), 1):
+def rows(first: str = "Sentence") -> Iterator[tuple[int, list[str]]]:
+    """The lines of the tables whose first column has this heading, each with its number and its three cells."""
+    heading = ""
+    for number, line in enumerate((TOP / PAGE).read_text(encoding="utf-8").splitlines(), 1):
         cells = [cell.strip() for cell in re.split(r"(?<!\\)\|", line)[1:-1]]
-        if len(cells) == 3 and cells[0] != "Sentence" and set(cells[0]) != {"-"}:
+        if len(cells) != 3:
+            heading = ""
+        elif not heading:
+            heading = cells[0]
+        elif heading == first and set(cells[0]) != {"-"}:
             yield number, cells
+
+
+def edit_faults(tried: str) -> Iterator[str]:
+    """Edits of a cell that are not there."""
+    for group in tried.split("; "):
+        crate, _, edits = group.partition(": ")
+        for edit in edits.split(", "):
+            if not (TOP / "crates" / crate / "must-fail" / (edit + ".edit")).is_file():
+                yield "crates/%s has no edit %s" % (crate, edit)
 
 
 def spec_faults(said: str) -> Iterator[str]:
@@ -82,4 +97,6 @@ def faults() -> list[str]:
         if not SPEC.search(said) and not NAME.search(said):
             wrong.append("no definition is named")
         found += ["%s:%d: %s" % (PAGE, number, what) for what in wrong]
+    for number, (_, tried, _) in rows("No delivery"):
+        found += ["%s:%d: %s" % (PAGE, number, what) for what in edit_faults(tried)]
     return found

@@ -3,12 +3,14 @@
 What `report` prints is held against the stored report, samples/NAME.report;
 `species` must print the species of that report's last word as the reckoning has
 them. Of a sheet that lacks its last byte both must print the same refusal. The
-example of README.md must be one of the stored reports, word for word.
+examples of docs/SHEET.md must be stored reports, word for word, and the start of
+such species.
 
 The programs are target/bin/report and target/bin/species, as `rt check report
 species` or `rt ci` made them.
 """
 
+import re
 import subprocess
 from collections.abc import Iterator, Sequence
 from pathlib import Path
@@ -18,6 +20,7 @@ from tools.reckoning import species
 
 REPORT = TOP / "target" / "bin" / "report"
 SPECIES = TOP / "target" / "bin" / "species"
+PAGE = "docs/SHEET.md"
 INDENT = "    "
 
 
@@ -52,19 +55,32 @@ def faults(sheets: Sequence[Path], reports: dict[Path, bytes]) -> Iterator[str]:
     for stored in sorted(SAMPLES.glob("*.report")):
         if stored.with_suffix(".evp") not in sheets:
             yield "samples/%s has no sheet" % stored.name
-    examples = [block for block in blocks((TOP / "README.md").read_text(encoding="utf-8")) if block.startswith("EVP ")]
+    shown = blocks((TOP / PAGE).read_text(encoding="utf-8"))
+    examples = [block for block in shown if re.match(r"EVP \d+ rows ", block)]
     if not examples:
-        yield "README.md has no example of a report"
+        yield "%s has no example of a report" % PAGE
     for example in examples:
         if example.encode() not in reports.values():
-            yield "the example of README.md is no sample's report"
+            yield "%s has an example that is no sample's report:\n%s" % (PAGE, example)
+
+
+def example_faults(texts: Sequence[str]) -> Iterator[str]:
+    """Examples of species on the page with which none of these texts begins."""
+    for example in blocks((TOP / PAGE).read_text(encoding="utf-8")):
+        if re.match(r"EVP \d+ total ", example) and not any(text.startswith(example) for text in texts):
+            yield "%s has an example that is no sample's species:\n%s" % (PAGE, example)
+
+
+def species_of(report: bytes) -> str:
+    """The text of the species of a report's last word, as the reckoning has them."""
+    fields = report.split()
+    return species.text(int(fields[1]), int(fields[-1]))
 
 
 def species_faults(sheet: Path, report: bytes) -> Iterator[str]:
     """What the program `species` prints otherwise than it should."""
     data = sheet.read_bytes()
-    fields = report.split()
-    if printed(SPECIES, data).decode() != species.text(int(fields[1]), int(fields[-1])):
+    if printed(SPECIES, data).decode() != species_of(report):
         yield "samples/%s: other species than the reckoning has" % sheet.name
     refusal = printed(SPECIES, data[:-1])
     if not refusal.startswith(b"refused ") or refusal != printed(REPORT, data[:-1]):
@@ -92,3 +108,4 @@ def check(write: bool) -> Iterator[str]:
         for sheet, report in reports.items():
             sheet.with_suffix(".report").write_bytes(report)
     yield from faults(sheets, reports)
+    yield from example_faults([species_of(report) for report in reports.values()])

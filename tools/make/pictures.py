@@ -1,6 +1,7 @@
-"""docs/rows.svg, drawn from the figures in docs/rows.txt: how long the report call takes for how many rows.
+"""docs/pictures/layers.svg, the crates in their layers, from crates.txt; and docs/rows.svg, from docs/rows.txt.
 
-The text has a line for each measurement, the rows and the microseconds, such as
+docs/rows.svg shows how long the report call takes for how many rows. Its text
+has a line for each measurement, the rows and the microseconds, such as
 `1000 48210.5`, with rows going up; # starts a comment. A line `title` and words
 may stand before them. Both axes are logarithmic. The dashed line is the even
 one, on which every row takes the same time; it goes through the last figure.
@@ -12,6 +13,7 @@ from html import escape
 from itertools import product
 
 from tools.command import TOP, MadeFile
+from tools.make import layers
 from tools.make.error import MakeError
 
 FIGURES, PICTURE = "docs/rows.txt", "docs/rows.svg"
@@ -123,8 +125,9 @@ def drawn(text: str) -> str:
     return "\n".join(parts) + "\n"
 
 
-def files() -> list[MadeFile]:
+def files() -> Iterator[MadeFile]:
+    yield from layers.files()
     try:
-        return [MadeFile(PICTURE, drawn((TOP / FIGURES).read_text(encoding="utf-8")).encode())]
+        yield MadeFile(PICTURE, drawn((TOP / FIGURES).read_text(encoding="utf-8")).encode())
     except MakeError as error:
         raise MakeError("%s: %s" % (FIGURES, error)) from None

@@ -1,4 +1,4 @@
-"""The table of the gate's times in README.md, from the log of rt ci, target/gate/rt-ci.log.
+"""docs/TIMES.md: the gate's time by crate, from the log of rt ci, target/gate/rt-ci.log.
 
 Of each crate of crates.txt, lowest first: the seconds of its check, and how
 many edits were tried and the seconds of all of them.
@@ -8,13 +8,25 @@ import re
 from collections.abc import Iterator
 from typing import NamedTuple
 
-from tools.command import TOP, MadeFile
+from tools import crates
+from tools.command import MadeFile
 from tools.make.error import MakeError
 
-README = "README.md"
+PAGE = "docs/TIMES.md"
 COLUMNS = 3
 HEAD = "|" + " Crate | Check | Edits |" * COLUMNS
-TABLE = re.compile(re.escape(HEAD) + r"\n(?:\|.*\n)+")
+TEXT = """\
+# The gate's time by crate
+
+`python3 -m tools.make times target/gate/rt-ci.log` makes this page from the log of one run, which had {tests} tests:
+{crates} crates proved from nothing, the programs run with theirs, and {edits} must-fail edits refused. The check of
+each crate is in seconds; of its edits stand how many there were and the seconds of all. The times are those of one
+machine, where two run at a time.
+
+{table}
+Added up the proofs took {checked} s and the edits {edited} s. The longest check is that of `{longest}`, {most} s.
+docs/DECISIONS.md says what an edit may cost.
+"""
 
 
 class Times(NamedTuple):
@@ -38,10 +50,6 @@ def read(log: str) -> dict[str, Times]:
     return found
 
 
-def crates() -> list[str]:
-    return re.findall(r"^(\w+):", (TOP / "crates.txt").read_text(encoding="utf-8"), re.M)
-
-
 def table(times: dict[str, Times], names: list[str]) -> str:
     """The lines of the table; the crates go down its columns."""
     missing = [name for name in names if name not in times]
@@ -54,10 +62,16 @@ def table(times: dict[str, Times], names: list[str]) -> str:
     return "\n".join([HEAD, "|" + "---|" * 3 * COLUMNS, *rows]) + "\n"
 
 
+def page(times: dict[str, Times], names: list[str]) -> str:
+    """The page of these times."""
+    lines = table(times, names)
+    edits = [seconds for name in names for seconds in times[name].edits]
+    longest = max(names, key=lambda name: times[name].check)
+    return TEXT.format(
+        tests="{:,}".format(len(names) + len(edits)), crates=len(names), edits=len(edits), table=lines,
+        checked="{:,}".format(sum(times[name].check for name in names)), edited="{:,}".format(sum(edits)),
+        longest=longest, most=times[longest].check)
+
+
 def files(log: str) -> Iterator[MadeFile]:
-    """README.md with the table of this log."""
-    text = (TOP / README).read_text(encoding="utf-8")
-    made, found = TABLE.subn(lambda _: table(read(log), crates()), text)
-    if found != 1:
-        raise MakeError("%s has no place for the table" % README)
-    yield MadeFile(README, made.encode())
+    yield MadeFile(PAGE, page(read(log), crates.names()).encode())

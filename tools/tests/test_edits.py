@@ -3,6 +3,7 @@
 import tempfile
 import unittest
 from pathlib import Path
+from unittest import mock
 
 from tools.check import edits
 
@@ -48,6 +49,35 @@ class FormTest(unittest.TestCase):
         ):
             with self.subTest(what=what, text=text):
                 self.assertIn((line, what), [(fault.line, fault.what[:len(what)]) for fault in self.faults(text)])
+
+
+class TryTest(unittest.TestCase):
+    """One edit that is tried: done while rt runs, and undone behind it."""
+
+    def tried(self, status: int, log: str) -> tuple[str, list[str]]:
+        with tempfile.TemporaryDirectory() as folder:
+            file, edit = Path(folder, "specs/A.antt"), Path(folder, "must-fail/a.edit")
+            for path, text in ((file, "f = 3 + 1\n"), (edit, GOOD)):
+                path.parent.mkdir()
+                path.write_text(text)
+
+            def rt(words, **_):
+                self.assertEqual((words[:2], file.read_text()), (["rt", "dev"], "f = 3 + 2\n"))
+                return mock.Mock(returncode=status, stdout=log.encode())
+            with mock.patch.object(edits.subprocess, "run", rt):
+                found = edits.try_edit(edit)
+            self.assertEqual(file.read_text(), "f = 3 + 1\n")
+        return found
+
+    def test_refused(self):
+        error, faults = self.tried(1, LOG % "A.antt:3:1: error: 3 + 2 is not 3 + 1")
+        self.assertEqual((error, faults), ("A.antt:3:1: error: 3 + 2 is not 3 + 1 more of it", []))
+
+    def test_no_fact(self):
+        self.assertIn("a name that is gone", self.tried(1, LOG % "A.antt:3:1: error: `x` is not in scope")[1][0])
+
+    def test_proved(self):
+        self.assertIn("still proved", self.tried(0, "logic=proved\n")[1][0])
 
 
 class LogTest(unittest.TestCase):

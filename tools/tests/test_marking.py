@@ -53,7 +53,8 @@ class FindingTest(unittest.TestCase):
                 for value in (0, 255):
                     changed = data[:at] + bytes([value]) + data[at + 1:]
                     found = explain(changed)
-                    self.assertEqual((found.number, found.place), check(changed) or (0, 0), "byte %d of %s" % (at, name))
+                    self.assertEqual((found.number, found.place), check(changed) or (0, 0),
+                                     "byte %d of %s" % (at, name))
                     self.assertTrue(found == NOTHING or not found.least <= found.value <= found.most)
 
     def test_largest(self):

@@ -9,6 +9,11 @@ class Promises(unittest.TestCase):
     def test_the_page_has_lines(self):
         self.assertGreater(len(list(promises.rows())), 40)
 
+    def test_edits(self):
+        self.assertGreater(len(list(promises.rows("No delivery"))), 5)
+        self.assertEqual(list(promises.edit_faults("masses: band_from_zero, one_fixed_figure; sheet: equal_loads")), [])
+        self.assertEqual(list(promises.edit_faults("masses: band_from_zero, two")), ["crates/masses has no edit two"])
+
     def test_a_name_that_the_file_has(self):
         self.assertEqual(list(promises.spec_faults("`ReportAnswer` (`says`) in inventory: ReportCall")), [])
 
@@ -27,7 +32,8 @@ class Promises(unittest.TestCase):
 
     def test_a_contract(self):
         known = set()
-        self.assertEqual(list(promises.contract_faults("contract of `report` in crates/inventory/src/lib.rt", known)), [])
+        good = "contract of `report` in crates/inventory/src/lib.rt"
+        self.assertEqual(list(promises.contract_faults(good, known)), [])
         self.assertEqual(list(promises.contract_faults("contract of `report`", known)), [])
         self.assertEqual(list(promises.contract_faults("contract of `reports` in crates/inventory/src/lib.rt", known)),
                          ["crates/inventory/src/lib.rt has no function reports"])

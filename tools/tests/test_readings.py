@@ -7,7 +7,8 @@ from tools.reckoning import Reading
 from tools.tests.support import FEW_CELLS, sheet_of
 
 SEASON = "season days=10 lowest=15.0 highest=30.0 vp=60.0\n"
-ROW = "row class=1 technology=%d canister=%s carburettor=50 hot=50 fill=40 vehicles=10 trips=2 minutes=10 load=%s saturation=%s\n"
+ROW = ("row class=1 technology=%d canister=%s carburettor=50 hot=50 fill=40 vehicles=10 trips=2 minutes=10 load=%s "
+       "saturation=%s\n")
 
 
 def masses(canister: str, load: str = "40.0", saturation: str = "45.0", **misread: bool):

@@ -2,6 +2,7 @@
 
 import unittest
 
+from tools import crates
 from tools.make import times
 from tools.make.error import MakeError
 
@@ -36,9 +37,12 @@ class TimesTest(unittest.TestCase):
         with self.assertRaises(MakeError):
             times.read("rt: must-fail cells/band: refused, as it must be (4 s)\n")
 
-    def test_place(self):
-        """README.md has one place for the table, and it is replaced whole."""
-        log = "".join("rt: %s proved (1 s)\n" % crate for crate in times.crates())
-        made, = times.files(log)
-        self.assertEqual(made.path, "README.md")
-        self.assertEqual(made.data.decode().count("| 1 |"), len(times.crates()))
+    def test_page(self):
+        """docs/TIMES.md has a time of every crate, and the sums."""
+        log = "".join("rt: %s proved (%d s)\n" % (crate, 1 + (crate == "exact")) for crate in crates.names())
+        made, = times.files(log + "rt: must-fail exact/e: refused, as it must be (9 s)\n")
+        self.assertEqual(made.path, "docs/TIMES.md")
+        text = made.data.decode()
+        self.assertEqual(text.count("| 1 |"), len(crates.names()) - 1)
+        self.assertIn("The longest check is that of `exact`, 2 s.", text)
+        self.assertIn("Added up the proofs took %d s and the edits 9 s." % (len(crates.names()) + 1), text)
