@@ -230,7 +230,7 @@ def mark(given: Namespace) -> int:
     lines = limited(marking.summary(marks, len(sheets)), "sheets to look at")
     if given.hints:
         marks, remarks = with_hints(library, sheets, filed.filings, marks, Progress())
-        lines += limited(remarks, "guesses")
+        lines += limited(remarks, "such lines; the notes of the marks have all")
     if given.output:
         text = marking.marks_csv(marks, filed.semicolon)
         write_file(given.output, text.encode("utf-8", "surrogateescape"), given.force)  # names as the folder has them
