@@ -99,7 +99,7 @@ class CompareTest(DeskTestCase):
         found = run("compare", a, b)
         self.assertEqual(found.status, 0)
         self.assertRegex(found.out, r"row 1 diurnal +[\d.]+ t +[\d.]+ t +B higher \(\+\d+\.\d %\)\n")
-        self.assertRegex(found.out, r"For certain, since their bands are apart, \d+ of 19 figures are higher in B")
+        self.assertRegex(found.out, r"With bands apart, \d+ of 19 figures are higher in B for certain, and \d+ lower\.\n")
         figures = json.loads(run("compare", a, b, "--json").out)["figures"]
         verdicts = {(figure["row"], figure["mechanism"]): figure["verdict"] for figure in figures}
         self.assertEqual([verdicts["1", mechanism] for mechanism in library.MECHANISMS], ["higher"] * 3)
@@ -108,14 +108,16 @@ class CompareTest(DeskTestCase):
     def test_alike(self):
         found = run("compare", REGION, REGION)
         self.assertEqual(found.out,
-            "A: %s\nB: %s\n\nFor certain, since their bands are apart, 0 of 85 figures are higher in B "
-                         "and 0 lower.\n85 have the same band in both, 0 are open.\n" % (REGION, REGION))
+            "A: %s\nB: %s\n\nWith bands apart, 0 of 85 figures are higher in B for certain, "
+            "and 0 lower.\n85 have the same band in both, 0 are open.\n" % (REGION, REGION))
 
     def test_other_rows(self):
         """Sheets with other rows are compared by their sums."""
         figures = json.loads(run("compare", REGION, SAMPLES / "survey.evp", "--json").out)["figures"]
         self.assertEqual(len(figures), 13)
         self.assertEqual(figures[-1]["verdict"], "lower")
+        self.assertIn("\nA has 24 rows and B has 8 rows, so rows are not compared.\n",
+                      run("compare", REGION, SAMPLES / "survey.evp").out)
 
     def test_refused(self):
         self.assertEqual(run("compare", REGION, self.put("a.evp", b"EVP")).status, 1)

@@ -191,6 +191,11 @@ class FiledTest(DeskTestCase):
                 self.assert_plain(found, 2)
                 self.assertEqual(found.err, "evp: %s: line 2: %s\n" % (self.folder / "filed.csv", said))
 
+    def test_tabs(self):
+        self.assertEqual(self.mark("", HEADER.replace(",", "\t")).err,
+                         "evp: %s: the columns are parted by tabs; save it with , or ; between them\n" % (
+                             self.folder / "filed.csv"))
+
     def test_twice(self):
         found = self.mark("a.evp,1,soak,2,t\nb.evp,1,soak,2,t\na.evp,1,soak,3,kg\n")
         self.assertEqual(found.err,
@@ -277,6 +282,7 @@ class WordsTest(unittest.TestCase):
             (Band(1_000_000, 1_000_001), "t", "0.00100 t"),
         ):
             self.assertEqual(shown(band, unit), said)
+        self.assertEqual(shown(Band(57_400, 58_600), None, "–"), "57–59 g")
 
 
 if __name__ == "__main__":
