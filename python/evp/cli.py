@@ -1,31 +1,41 @@
 """The command `evp`: its arguments and its exit status."""
 
 import argparse
+import difflib
 import io
 import os
 import signal
 import sys
+import textwrap
 
 from evp import commands
 from evp.files import InputError
 from evp.library import MissingCall
 from evp.masses import UNITS
+from evp.wording import quoted
 
-STATUS = "Exit status 0 fine, 1 refused or a figure wrong, 2 not readable or not understood."
+STATUS = "Exit status 0 fine, 1 refused or a figure wrong,\n2 not readable or not understood."
 
 
 class Parser(argparse.ArgumentParser):
-    """A parser whose help ends with examples."""
+    """A parser whose help ends with examples, and which says in a line what is wrong with a call."""
+
+    commands: dict[str, "Parser"] = {}
 
     def __init__(self, *words, example: str, **more):
         lines = "".join("  %s\n" % line for line in example.splitlines())
         super().__init__(*words, epilog="example:\n%s\n%s" % (lines, STATUS),
                          formatter_class=argparse.RawDescriptionHelpFormatter, **more)
 
+    def error(self, message: str):
+        self.print_usage(sys.stderr)
+        self.exit(2, "evp: %s; %s --help says more\n" % (message, self.prog))
+
 
 def _add(subparsers, name: str, run, about: str, example: str, *options: str) -> Parser:
     """A command with the options that several have."""
-    parser = subparsers.add_parser(name, help=about, description=about[0].upper() + about[1:] + ".", example=example)
+    description = textwrap.fill(about[0].upper() + about[1:] + ".", 79)
+    parser = subparsers.add_parser(name, help=about, description=description, example=example)
     parser.set_defaults(run=run)
     if "json" in options:
         parser.add_argument("--json", action="store_true", help="for other programs")
@@ -36,13 +46,14 @@ def _add(subparsers, name: str, run, about: str, example: str, *options: str) ->
 
 def parser() -> Parser:
     top = Parser(
-        prog="evp", description="The desk of the evaporation workbook: sheets written, checked, explained, shown and "
-        "marked. - stands for standard input.",
+        prog="evp", description="The desk of the evaporation workbook: sheets written, checked, explained,\n"
+        "shown and marked. - stands for standard input.",
         example="evp write north.txt\nevp show north.evp\nevp mark sheets --filed filed.csv -o marks.csv")
-    add = top.add_subparsers(required=True, metavar="COMMAND", parser_class=Parser)
+    add = top.add_subparsers(metavar="COMMAND", parser_class=Parser)
     _add_sheet_commands(add)
     _add_table_commands(add)
     _add_report_commands(add)
+    top.commands = add.choices
     return top
 
 
@@ -119,6 +130,20 @@ def _add_report_commands(add):
     pool.add_argument("-o", dest="output", metavar="SHEET", required=True)
 
 
+def _no_command(top: Parser, words: list[str]) -> int | None:
+    """What to say where no command is named, or none that there is; the exit status."""
+    if not words:
+        _complain("a command is wanted: %s\nevp --help says what each does, evp COMMAND --help how" % (
+            ", ".join(top.commands)))
+        return 2
+    if words[0].startswith("-") or words[0] in top.commands:
+        return None
+    near = difflib.get_close_matches(words[0], top.commands, 1)
+    _complain("there is no command %s; %s" % (
+        quoted(words[0]), "did you mean evp %s?" % near[0] if near else "evp --help lists them"))
+    return 2
+
+
 def _complain(text: str):
     for line in commands.limited(text.split("\n"), "such messages"):
         print("evp: %s" % line, file=sys.stderr)
@@ -131,7 +156,11 @@ def main(words: list[str] | None = None) -> int:
     for stream in (sys.stdout, sys.stderr):
         if isinstance(stream, io.TextIOWrapper):  # a terminal may not know a sign
             stream.reconfigure(errors="replace")
-    given = parser().parse_args(words)
+    top, words = parser(), sys.argv[1:] if words is None else words
+    status = _no_command(top, words)
+    if status is not None:
+        return status
+    given = top.parse_args(words)
     try:
         return given.run(given)
     except commands.SheetRefused as refused:

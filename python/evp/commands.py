@@ -12,7 +12,7 @@ from evp import library as calls
 from evp import marking, show
 from evp.cells import cells_csv, cells_of, read_travel
 from evp.convert import converted
-from evp.explain import Explanation, call_text, explain
+from evp.explain import Explanation, call_text, explain, looks_like
 from evp.files import InputError, make_folder, read_sheet, read_text, write_file
 from evp.hints import with_hints
 from evp.library import Library, Refusal, Report
@@ -158,6 +158,9 @@ def _source_of(builder: Builder, explanation: Explanation) -> str:
 
 def read_back(given: Namespace) -> int:
     data = read_sheet(given.sheet)
+    other = looks_like(data)
+    if data and other:
+        raise InputError("%s: this is no sheet; %s" % (name_shown(given.sheet), other))
     try:
         if not given.csv:
             print(read(data), end="")
@@ -184,6 +187,7 @@ def _write_tables(folder: str, tables: dict[str, str], force: bool):
 
 def template(given: Namespace) -> int:
     _write_tables(given.folder, templates(given.grid, given.semicolon), given.force)
+    print("Fill them in, then evp write %s makes the sheet." % name_shown(given.folder))
     return FINE
 
 
@@ -230,7 +234,7 @@ def mark(given: Namespace) -> int:
     lines = limited(marking.summary(marks, len(sheets)), "sheets to look at")
     if given.hints:
         marks, remarks = with_hints(library, sheets, filed.filings, marks, Progress())
-        lines += limited(remarks, "guesses")
+        lines += limited(remarks, "such lines; the notes of the marks have all")
     if given.output:
         text = marking.marks_csv(marks, filed.semicolon)
         write_file(given.output, text.encode("utf-8", "surrogateescape"), given.force)  # names as the folder has them
@@ -249,7 +253,8 @@ def compare(given: Namespace) -> int:
     if given.json:
         print_json({"a": given.a, "b": given.b, "figures": [difference.json() for difference in found]})
     else:
-        say(show.comparison_lines(name_shown(given.a), name_shown(given.b), found))
+        rows = len(reports[0].rows), len(reports[1].rows)
+        say(show.comparison_lines(name_shown(given.a), name_shown(given.b), rows, found))
     return FINE
 
 

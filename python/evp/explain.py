@@ -3,6 +3,7 @@
 Number, place, reason, field, value and limits are those of the library's `explain`; here they get names and units.
 """
 
+import codecs
 import re
 from collections.abc import Callable
 from typing import NamedTuple
@@ -176,32 +177,37 @@ def _range(site: Site) -> str:
     return "write at most %s" % most if site.least == 0 else "write %s to %s" % (least, most)
 
 
-def _looks_like(data: bytes) -> str:
-    """What a file that is no sheet seems to be, and what to do."""
+RIGHT_FILE = "is this the right file?"
+
+
+def looks_like(data: bytes) -> str:
+    """What a file that is no sheet seems to be, and what to do; empty where it seems to be nothing else."""
+    if data.startswith(b"EVP"):
+        return ""
     if not data.strip(b"\0"):
         return "all its bytes are 0: take the sheet again"
     if data.startswith(b"PK\3\4"):
         return "this looks like a workbook: save its tables as csv, then evp write makes a sheet of them"
     try:
-        text = data[:200].decode("utf-8-sig", "strict" if len(data) < 200 else "ignore")
+        text = codecs.getincrementaldecoder("utf-8-sig")().decode(data[:200], final=len(data) <= 200)
     except UnicodeDecodeError:
-        return "is this the right file?"
+        return ""
     if all(sign.isprintable() or sign.isspace() for sign in text):
         return "this looks like a text: evp write makes a sheet of it"
-    return "is this the right file?"
+    return ""
 
 
 def _short(site: Site) -> Words:
     if not site.data:
         return Words("the file is empty", "take the sheet again")
     return Words("%s, and a sheet has at least 8 for its head" % counted(len(site.data), "byte"),
-                 _looks_like(site.data))
+                 looks_like(site.data) or RIGHT_FILE)
 
 
 def _letters(site: Site) -> Words:
     found = " ".join("%02x" % byte for byte in site.data[:3])
     return Words("a sheet starts with EVP (45 56 50 hexadecimal), this one with %s" % found,
-                 _looks_like(site.data))
+                 looks_like(site.data) or RIGHT_FILE)
 
 
 def _version(site: Site) -> Words:
@@ -215,9 +221,10 @@ def _count(name: str) -> Callable[[Site], Words]:
         version = " in version %d" % layout.version_of(site.data) if name == "rows" else ""
         sentence = "%s (%s); a sheet has %d to %s%s" % (
             counted(site.value, name[:-1]), site.where, site.least, apart(site.most), version)
-        grow = name == "rows" and site.value > site.most and layout.version_of(site.data) < 4
-        more = "; more need version 4, which has a grid" if grow else ""
-        return Words(sentence, "write %d to %s%s" % (site.least, apart(site.most), more))
+        if site.value < site.least:
+            return Words(sentence, "write at least one " + name[:-1])
+        more = "; more need version 4, which has a grid" if name == "rows" and layout.version_of(site.data) < 4 else ""
+        return Words(sentence, "write at most %s %s%s" % (apart(site.most), name, more))
     return words
 
 
@@ -281,7 +288,8 @@ def _temperature(site: Site) -> Words:
 def _lowest_above_highest(site: Site) -> Words:
     return Words("lowest %s (%s) is above highest %s (%s)" % (
         site.amount(site.value), site.where, site.amount(site.most), byte_range(site.finding.at + 2, 2)),
-        "write at most %s, or a higher highest" % site.field.shown(site.most))
+        "write at most %s, or a highest of %s to %s" % tuple(
+            map(site.field.shown, (site.most, site.value, FIELDS["highest"].most))))
 
 
 def _pressure(site: Site) -> Words:
@@ -327,9 +335,10 @@ def _canister_context(site: Site) -> tuple[str, ...]:
 
 
 def _load(site: Site) -> Words:
+    left_out = "" if site.most else ", or an m_sat of at least %s" % site.field.shown(site.value)
     return Words("load %s (%s) is above m_sat %s (%s)" % (
         site.amount(site.value), site.where, site.amount(site.most), byte_range(site.finding.at + 2, 2)),
-        "write at most %s" % site.field.shown(site.most), _canister_context(site))
+        "write at most %s%s" % (site.field.shown(site.most), left_out), _canister_context(site))
 
 
 def _without_canister(site: Site) -> Words:
@@ -342,10 +351,11 @@ def _saturation(limit: int, advice: str = "") -> Callable[[Site], Words]:
     def words(site: Site) -> Words:
         season = layout.season(site.data, site.finding.season)
         beside = "" if limit else " beside a mileage"
+        too = ", and no more for the load" if site.row["load"] > site.most else ""
         return Words(
             "m_sat %s (%s) is too large for a %s canister%s in season %d" % (
                 site.amount(site.value), site.where, canister_name(site.row), beside, site.finding.season + 1),
-            "write at most %s%s" % (site.field.shown(site.most), advice),
+            "write at most %s%s" % (site.field.shown(site.most), too or advice),
             (*_canister_context(site), "season %d: highest %s, vp %s; a + b·s·m_sat is above %d" % (
                 site.finding.season + 1, site.amount(season["highest"], "highest"), site.amount(season["vp"], "vp"),
                 limit)))

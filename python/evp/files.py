@@ -55,7 +55,7 @@ def read_text(name: str | os.PathLike) -> str:
         raise InputError("%s: this is a workbook or an archive; save its tables as csv, in Excel as \"CSV UTF-8\"" % (
             shown))
     if data.startswith(b"EVP"):
-        raise InputError("%s: this is a sheet already; evp read makes a text of it" % shown)
+        raise InputError("%s: this is a sheet, and a text or a table is wanted; evp read makes a text of it" % shown)
     if not data.strip():
         raise InputError("%s: the file is empty" % shown)
     zero = data.find(0)
@@ -79,6 +79,8 @@ def write_file(name: str | os.PathLike, data: bytes, force: bool = False):
             return
         with open(name, "wb" if force else "xb") as file:
             file.write(data)
+    except FileNotFoundError:
+        raise InputError("%s: there is no such folder" % name_shown(name)) from None
     except OSError as error:
         raise failed(name, error) from None
 

@@ -7,21 +7,28 @@ mark 48 as hour 24, once a misreading, is none since the day's curve runs throug
 
 import math
 import sys
-from collections.abc import Callable, Iterable, Iterator
+from bisect import bisect_left, bisect_right
+from collections import Counter
+from collections.abc import Callable, Iterator, Sequence
 from fractions import Fraction
 from functools import cached_property
 from typing import NamedTuple
 
 from evp import layout
 from evp.figures import TOTAL, Figure
-from evp.library import MECHANISMS, TOP, Band, Library, Outcome, Unit
+from evp.library import MECHANISMS, TOP, Band, Filed, Library, Outcome, Unit
 from evp.marking import Filing, Mark, Marked
+from evp.masses import POWERS
 from evp.wording import counted, name_shown
 
 ALL = range(1, 10)
 GROUP_CLASSES = {"cars": range(1, 4), "light": range(4, 5), "two": range(5, 10), "all": ALL, TOTAL: ALL}
 WRONG = ("low", "high")
 UNIT_NAMES = {Unit.MG: "mg", Unit.G: "g", Unit.KG: "kg", Unit.T: "t"}
+UNIT_POWERS = {unit: POWERS[name] for unit, name in UNIT_NAMES.items()}
+TRIES = 480  # rows times seasons that one run takes through the misreadings: some seconds
+MOST_NEAR = 20  # figures that one is compared with
+BY_CHANCE = 10  # a figure tells another row where not one wrong figure in so many sheets would tell one by chance
 
 
 class Misreading(NamedTuple):
@@ -44,30 +51,53 @@ MISREADINGS = (
 def with_hints(library: Library, sheets: dict[str, Marked], filings: list[Filing], marks: list[Mark],
                progress: Callable[[int, int], None]) -> tuple[list[Mark], list[str]]:
     """The marks with a guess in the note of each wrong figure, and what to say of the guesses."""
-    by_sheet: dict[str, list[int]] = {}
+    filed: dict[str, dict[Figure, Filing]] = {}
+    for filing in filings:
+        filed.setdefault(filing.sheet, {})[filing.figure] = filing
+    wrong: dict[str, list[int]] = {}
     for i, mark in enumerate(marks):
         if mark.verdict in WRONG:
-            by_sheet.setdefault(mark.sheet, []).append(i)
-    hinted, remarks = list(marks), []
-    for done, (name, wrong) in enumerate(by_sheet.items(), 1):
-        guesser = Guesser(library, sheets[name], {filing.figure: filing for filing in filings if filing.sheet == name})
-        guesses = {i: guesser.guess(filings[i]) for i in wrong}
-        for i, guess in guesses.items():
-            hinted[i] = marks[i]._replace(note="%s; %s" % (marks[i].note, "guess: " + guess if guess else "no guess"))
-        remarks += _remarks(name, guesses.values(), guesser)
-        progress(done, len(by_sheet))
-    return hinted, remarks
+            wrong.setdefault(mark.sheet, []).append(i)
+    guessers = {name: Guesser(library, sheets[name], filed[name], [filings[i] for i in places])
+                for name, places in wrong.items()}
+    try_misreadings(list(guessers.values()), progress)
+    hinted = list(marks)
+    for name, places in wrong.items():
+        notes = guessers[name].notes()
+        for i in places:
+            hinted[i] = marks[i]._replace(note="%s; %s" % (marks[i].note, notes[filings[i].figure]))
+    return hinted, _remarks(guessers)
 
 
-def _remarks(name: str, guesses: Iterable[str], guesser: "Guesser") -> Iterator[str]:
-    guesses = list(guesses)
-    for guess in dict.fromkeys(filter(None, guesses)):
-        yield "  guess: %s: %s: %s" % (name_shown(name), counted(guesses.count(guess), "figure"), guess)
-    left = guesses.count("")
-    if left:
-        yield "  no guess: %s: %s" % (name_shown(name), counted(left, "figure"))
-        for unseen in guesser.cannot_show():
-            yield "  cannot show: %s: %s" % (name_shown(name), unseen)
+def try_misreadings(guessers: list["Guesser"], progress: Callable[[int, int], None]):
+    """Tries the misreadings on the figures without a guess. Reckoning a row takes some milliseconds for each season, so
+    the sheets share what TRIES allows; what is left goes to those that a misreading has begun to explain."""
+    wanting = [guesser for guesser in guessers if guesser.left()]
+    if not reckoning() or not wanting:
+        return
+    share = TRIES // (len(MISREADINGS) * len(wanting))
+    for done, guesser in enumerate(wanting, 1):
+        guesser.misread(MISREADINGS, max(share, guesser.seasons))
+        progress(done, len(wanting))
+    begun = [guesser for guesser in wanting if guesser.explained and guesser.untried()]
+    rest = TRIES - sum(guesser.tries for guesser in wanting)
+    for guesser in begun:
+        guesser.misread(list(guesser.explained), rest // len(begun))
+
+
+def _remarks(guessers: dict[str, "Guesser"]) -> list[str]:
+    """The guesses, then what has none and why."""
+    found, none = [], []
+    for name, guesser in guessers.items():
+        shown, counts = name_shown(name), Counter(filter(None, guesser.guesses.values()))
+        found += ["  guess: %s: %s: %s" % (shown, counted(counts[guess], "figure"), guess) for guess in counts]
+        left = guesser.left()
+        if left:
+            some = " (misreadings tried on %d of its %s)" % (
+                guesser.rows_tried, counted(layout.row_count(guesser.sheet.data), "row")) if guesser.untried() else ""
+            none.append("  no guess: %s: %s%s" % (shown, counted(len(left), "figure"), some))
+            none += ["  cannot show: %s: %s" % (shown, unseen) for unseen in guesser.cannot_show()]
+    return found + none
 
 
 def _pair(a: Figure, b: Figure) -> tuple[str, str]:
@@ -76,16 +106,59 @@ def _pair(a: Figure, b: Figure) -> tuple[str, str]:
     return min(names), max(names)
 
 
+def _around(filed: Filed) -> tuple[int, int]:
+    """Whole milligrams around all that a figure stands for."""
+    power = UNIT_POWERS[filed.unit] - filed.places
+    if power >= 0:
+        return (filed.digits - 1) * 10 ** power, (filed.digits + 1) * 10 ** power
+    return (filed.digits - 1) // 10 ** -power, (filed.digits + 1) // 10 ** -power + 1
+
+
+class Nearby:
+    """The bands of one mechanism by size, to find the few that a figure may stand for."""
+
+    def __init__(self, bands: list[tuple[Band, Figure]]):
+        self.bands = sorted(bands)
+        self.lows = [band.low for band, _ in self.bands]
+        self.widest = max(band.high - band.low for band, _ in self.bands)
+
+    def of(self, filed: Filed) -> list[Figure]:
+        least, most = _around(filed)
+        here = slice(bisect_left(self.lows, least - self.widest), bisect_right(self.lows, most))
+        return [figure for _, figure in self.bands[here]]
+
+
 class Guesser:
-    """Guesses for one sheet."""
+    """Guesses for the wrong figures of one sheet."""
 
-    def __init__(self, library: Library, sheet: Marked, filings: dict[Figure, Filing]):
+    def __init__(self, library: Library, sheet: Marked, filings: dict[Figure, Filing], wrong: list[Filing]):
         self.library, self.sheet, self.filings = library, sheet, filings
-        self.unseen: dict[str, bool] = {}  # by the name of a misreading: whether it changes none of the figures tried
         self.kept: dict[tuple[int, str], tuple[Fraction, ...]] = {}  # the masses of a row by a misreading
+        self.explained: Counter[Misreading] = Counter()  # figures that a misreading explains
+        self.seen: dict[str, bool] = {}  # by the name of a misreading: whether it changes a figure that was tried
+        self.skipped: set[tuple[Figure, str]] = set()  # figures with the name of a misreading that was not tried
+        self.many = len(wrong)
+        self.guesses = {filing.figure: self._plain(filing) for filing in wrong}
 
-    def guess(self, filing: Filing) -> str:
-        return self._unit(filing) or self._rounding(filing) or self._exchange(filing) or self._misreading(filing)
+    def left(self) -> list[Figure]:
+        """The figures without a guess."""
+        return [figure for figure, guess in self.guesses.items() if not guess]
+
+    def untried(self) -> set[Figure]:
+        """Those of them that some misreading was not tried on."""
+        return {figure for figure, _ in self.skipped if not self.guesses[figure]}
+
+    def notes(self) -> dict[Figure, str]:
+        """What to say of each wrong figure."""
+        untried = self.untried()
+        return {figure: "guess: " + guess if guess else
+                "no guess, misreadings not tried" if figure in untried else "no guess"
+                for figure, guess in self.guesses.items()}
+
+    # -------------------------------------------------------------- units, rounding, exchanges
+
+    def _plain(self, filing: Filing) -> str:
+        return self._unit(filing) or self._rounding(filing) or self._exchange(filing)
 
     def _fits(self, filing: Filing, band: Band | None, unit: Unit | None = None) -> bool:
         """Whether a figure would be right for another band, or in another unit."""
@@ -104,35 +177,85 @@ class Guesser:
         more = filing._replace(filed=filing.filed._replace(digits=filing.filed.digits + 1))
         return "cut, not rounded" if self._fits(more, self.sheet.bands[filing.figure]) else ""
 
+    @cached_property
+    def _nearby(self) -> dict[str, Nearby]:
+        by_mechanism: dict[str, list[tuple[Band, Figure]]] = {}
+        for figure, band in self.sheet.bands.items():
+            by_mechanism.setdefault(figure.mechanism, []).append((band, figure))
+        return {mechanism: Nearby(bands) for mechanism, bands in by_mechanism.items()}
+
     def _exchange(self, filing: Filing) -> str:
         """A figure of the same mechanism or the same row that this one would be right for, alone among them."""
-        row, mechanism = filing.figure
-        if row == TOTAL or not filing.filed.digits:
+        figure, digits = filing.figure, filing.filed.digits
+        if figure.row == TOTAL or not digits:
             return ""
-        found = [other for other, band in self.sheet.bands.items() if other != filing.figure
-                 and (other.row == row or other.mechanism == mechanism) and self._fits(filing, band)]
-        band = self.sheet.bands[filing.figure]
+        near = self._nearby[figure.mechanism].of(filing.filed)
+        if len(near) > MOST_NEAR:  # so few digits tell no figure
+            return ""
+        near += [Figure(figure.row, mechanism) for mechanism in MECHANISMS]
+        found = [other for other in near if other != figure and self._fits(filing, self.sheet.bands[other])]
+        band = self.sheet.bands[figure]
         both = [other for other in found if other in self.filings and self._fits(self.filings[other], band)]
         if len(both) == 1:
-            return "%s and %s are exchanged" % _pair(filing.figure, both[0])
-        return "this is the mass of %s" % found[0].name if len(found) == 1 else ""
+            return "%s and %s are exchanged" % _pair(figure, both[0])
+        by_chance = digits < BY_CHANCE * self.many * len(self._nearby[figure.mechanism].bands)
+        return "this is the mass of %s" % found[0].name if len(found) == 1 and not by_chance else ""
 
-    def _misreading(self, filing: Filing) -> str:
-        for misreading in MISREADINGS if reckoning() else ():
-            misread, right = self._misread(filing.figure, misreading), self.sheet.bands[filing.figure]
-            same = right.low <= misread.low and misread.high <= right.high
-            if filing.figure.row == TOTAL or filing.figure.mechanism in misreading.mechanisms:
-                self.unseen[misreading.name] = self.unseen.get(misreading.name, True) and same
-            if not same and self._fits(filing, misread):
-                return misreading.words
-        return ""
+    # -------------------------------------------------------------- misreadings
+
+    @property
+    def seasons(self) -> int:
+        return layout.season_count(self.sheet.data)
+
+    @property
+    def tries(self) -> int:
+        """What the second reckoning was asked for: rows times seasons."""
+        return self.seasons * len(self.kept)
+
+    @property
+    def rows_tried(self) -> int:
+        return len({i for i, _ in self.kept})
+
+    def misread(self, misreadings: Sequence[Misreading], share: int):
+        """Tries misreadings on the figures without a guess, those of single rows first, each on as many rows as its
+        share allows."""
+        left = {misreading: share // self.seasons for misreading in misreadings}
+        for figure in sorted(self.left(), key=lambda figure: len(self._rows(figure.row))):
+            self.skipped |= {(figure, misreading.name) for misreading in misreadings}
+            for misreading in sorted(misreadings, key=lambda one: -self.explained[one]):
+                touched = self._touched(figure, misreading)
+                rows = sum((i, misreading.name) not in self.kept for i in touched)
+                if rows > left[misreading]:
+                    if self.explained[misreading]:  # what is left of all shares goes to this one
+                        break
+                    continue
+                self.skipped.remove((figure, misreading.name))
+                left[misreading] -= rows
+                if touched and self._explains(misreading, figure):
+                    self.guesses[figure] = misreading.words
+                    self.explained[misreading] += 1
+                    break
+
+    def _touched(self, figure: Figure, misreading: Misreading) -> list[int]:
+        """The rows of a figure whose masses a misreading can change."""
+        if figure.row != TOTAL and figure.mechanism not in misreading.mechanisms:
+            return []
+        return [i for i in self._rows(figure.row) if misreading.rows(self._records[i])]
+
+    def _explains(self, misreading: Misreading, figure: Figure) -> bool:
+        misread, right = self._misread(figure, misreading), self.sheet.bands[figure]
+        same = right.low <= misread.low and misread.high <= right.high
+        self.seen[misreading.name] = self.seen.get(misreading.name, False) or not same
+        return not same and self._fits(self.filings[figure], misread)
 
     def cannot_show(self) -> Iterator[str]:
         """Which misreadings this sheet cannot tell from the right reading."""
         if not reckoning():
             yield "misreadings (the second reckoning, tools/, is not there)"
+            return
         for misreading in MISREADINGS:
-            if self.unseen.get(misreading.name):
+            touched = any(map(misreading.rows, self._records))
+            if not touched or not self.untried() and not self.seen.get(misreading.name, True):
                 yield "%s (%s)" % (misreading.words, misreading.unseen)
 
     def _misread(self, figure: Figure, misreading: Misreading) -> Band:
@@ -145,16 +268,19 @@ class Guesser:
                 low, high = low + band[0], high + band[1]
         return Band(math.floor(low), math.ceil(high))
 
-    def _rows(self, row: str) -> list[int]:
+    @cached_property
+    def _records(self) -> list[dict[str, int]]:
+        return [layout.row(self.sheet.data, i) for i in range(layout.row_count(self.sheet.data))]
+
+    def _rows(self, row: str) -> Sequence[int]:
         """The rows of a figure, counted from 0."""
         if row not in GROUP_CLASSES:
-            return [int(row) - 1]
-        data, classes = self.sheet.data, GROUP_CLASSES[row]
-        return [i for i in range(layout.row_count(data)) if layout.row(data, i)["class"] in classes]
+            return (int(row) - 1,)
+        return [i for i, record in enumerate(self._records) if record["class"] in GROUP_CLASSES[row]]
 
     def _misread_row(self, i: int, mechanism: str, misreading: Misreading) -> tuple[Fraction | int, Fraction | int]:
         """Both ends of a row's mass: its band where the misreading cannot touch it."""
-        if mechanism not in misreading.mechanisms or not misreading.rows(layout.row(self.sheet.data, i)):
+        if mechanism not in misreading.mechanisms or not misreading.rows(self._records[i]):
             return self.sheet.bands[Figure(str(i + 1), mechanism)]
         key = i, misreading.name
         if key not in self.kept:

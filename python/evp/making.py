@@ -34,7 +34,8 @@ def make_library():
             raise InputError("the library is not made yet, and making it needs %s; "
                              "EVP_LIBRARY=FILE names one that is" % program)
     wanted = crates_wanted((TOP / "crates.txt").read_text(encoding="utf-8"))
-    print("evp: the library is not made yet. Proving and making it takes some minutes, once.", file=sys.stderr)
+    print("evp: the library is not made yet. Proving and making it takes some minutes;\n"
+          "evp: it is kept, and the next call starts at once.", file=sys.stderr)
     proved, last = set(), ""
     with subprocess.Popen(["bash", script], stdout=subprocess.PIPE, stderr=subprocess.STDOUT, text=True) as making:
         for line in making.stdout:
@@ -42,14 +43,17 @@ def make_library():
             words = line.split()
             if len(words) > 2 and words[0] == "rt:" and words[2] == "proved" and words[1] in wanted - proved:
                 proved.add(words[1])
-                _say("evp: %d of %d parts proved" % (len(proved), len(wanted)), len(proved) == len(wanted))
+                _say("evp: %d of %d parts proved" % (len(proved), len(wanted)))
     if making.returncode:
+        if proved and sys.stderr.isatty():
+            print(file=sys.stderr)  # behind the line that was written over
         raise InputError("the library could not be made: %s\nrun it by itself to see more: bash %s" % (
             last[:200], Path("c") / "shared"))
+    _say("evp: all %d parts proved, the library is made" % len(wanted), True)  # the last with the library
 
 
-def _say(words: str, is_last: bool):
-    """One line that is written over on a terminal."""
+def _say(words: str, is_last: bool = False):
+    """One line that is written over on a terminal; elsewhere every tenth, and the last."""
     if sys.stderr.isatty():
         print("\r%s " % words, end="\n" if is_last else "", file=sys.stderr, flush=True)
     elif is_last or words.split()[1].endswith("0"):

@@ -16,7 +16,7 @@ from evp.library import GROUPS, MECHANISMS, Band, Filed, Library, Outcome, Refus
 from evp.masses import UNITS, shown
 from evp.sheet.words import TextError
 from evp.tables import Line, Table, read_table, table_text
-from evp.wording import counted, name_shown, quoted
+from evp.wording import apart, counted, name_shown, quoted
 
 COLUMNS = ["sheet", "row", "mechanism", "mass", "unit"]
 MOST_WORD = 2 ** 64 - 1
@@ -208,8 +208,7 @@ def summary(marks: list[Mark], sheets: int) -> Iterator[str]:
     """How many of each verdict, and what to look at, sheet by sheet."""
     counts = Counter(mark.verdict for mark in marks)
     figures = len(marks) - counts["missing"]
-    yield "%s, %s: %s" % (counted(sheets, "sheet"), counted(figures, "figure"), ", ".join(
-        "%d %s" % (counts[verdict], verdict) for verdict in VERDICTS if counts[verdict]))
+    yield "%s, %s: %s" % (counted(sheets, "sheet"), counted(figures, "figure"), _verdicts(counts))
     wrong: dict[str, list[Mark]] = {}
     for mark in marks:
         if mark.verdict not in FINE:
@@ -222,7 +221,12 @@ def _sheet_summary(marks: list[Mark]) -> str:
     first = marks[0]
     if first.verdict in ("refused", "missing"):
         return first.note
-    counts = Counter(mark.verdict for mark in marks)
-    words = ", ".join("%d %s" % (counts[verdict], verdict) for verdict in VERDICTS if counts[verdict])
+    if first.verdict == "absent" and not first.sha256:
+        return "%s filed, and %s" % (counted(len(marks), "figure"), first.note)
+    words = _verdicts(Counter(mark.verdict for mark in marks))
     filed = Figure(first.row, first.mechanism).name
     return "%s; first %s: %s %s filed, %s" % (words, filed, first.mass, first.unit, first.note)
+
+
+def _verdicts(counts: Counter[str]) -> str:
+    return ", ".join("%s %s" % (apart(counts[verdict]), verdict) for verdict in VERDICTS if counts[verdict])

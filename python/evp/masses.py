@@ -26,9 +26,9 @@ def rounded(milligrams: int, unit: str, places: int) -> str:
     return apart(int(parts[0])) + parts[1] + parts[2]
 
 
-def shown(band: Band, unit: str | None = None) -> str:
+def shown(band: Band, unit: str | None = None, between: str = " to ") -> str:
     """A band as one number with its unit: the digits to which low and high both round, at most five. Where they round
-    to no common whole number, whole numbers around both."""
+    to no common whole number, whole numbers around both, with a word between them."""
     unit = unit or best_unit(band.high)
     if band.low == band.high and unit == "mg" or band.high == 0:
         return "%s %s" % (apart(band.high), unit)
@@ -38,5 +38,4 @@ def shown(band: Band, unit: str | None = None) -> str:
         if number == rounded(band.high, unit, places):
             return "%s %s" % (number, unit)
     step = 10 ** POWERS[unit]
-    return "%s to %s %s" % (apart(band.low // step), apart(-(-band.high // step)), unit)
-
+    return "%s%s%s %s" % (apart(band.low // step), between, apart(-(-band.high // step)), unit)

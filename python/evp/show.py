@@ -11,11 +11,14 @@ from evp.layout import CLASSES, canister_name, technology_name
 from evp.library import MECHANISMS, SPECIES, Band, Masses, Report
 from evp.masses import exact, shown
 from evp.tables import table_text
-from evp.wording import apart
+from evp.wording import apart, counted
 
 SHORT_NAMES = {  # of classes, for a table that a terminal has room for
     1: "car < 1.4 l", 2: "car 1.4-2.0 l", 3: "car > 2.0 l", 7: "4-stroke <250", 8: "4-stroke -750", 9: "4-stroke >750",
 }
+
+
+DASH = "–"  # between two ends, in a table where " to " is too wide
 
 
 def aligned(lines: Iterable[tuple[str, ...]], left: int) -> Iterator[str]:
@@ -55,9 +58,9 @@ def _table(data: bytes, report: Report, unit: str | None) -> Iterator[tuple[str,
         row = layout.row(data, i)
         technology = technology_name(row["technology"]) if row["technology"] else "conv."
         yield (str(i + 1), SHORT_NAMES.get(row["class"], CLASSES[row["class"]][0]), technology, canister_name(row),
-               apart(row["vehicles"]), *(shown(band, unit) for band in masses))
+               apart(row["vehicles"]), *(shown(band, unit, DASH) for band in masses))
     for name, masses in groups(report):
-        yield "", GROUP_NAMES[name], "", "", "", *(shown(band, unit) for band in masses)
+        yield "", GROUP_NAMES[name], "", "", "", *(shown(band, unit, DASH) for band in masses)
 
 
 def report_csv(report: Report, unit: str | None = None) -> str:
@@ -122,21 +125,24 @@ def _change(difference: Difference) -> str:
     return "(%+.1f %%)" % (100 * (b - a) / a) if a else ""
 
 
-def comparison_lines(name_a: str, name_b: str, found: list[Difference]) -> Iterator[str]:
+def comparison_lines(name_a: str, name_b: str, rows: tuple[int, int], found: list[Difference]) -> Iterator[str]:
+    """`rows` are those of each report."""
     words = {"higher": "B higher", "lower": "B lower", "open": "open: the bands meet"}
     lines = [("", "A", "B", "")]
     for d in found:
         if d.verdict in words:
             change = "" if d.verdict == "open" else " " + _change(d)
-            lines.append((d.figure.name, shown(d.a), shown(d.b), words[d.verdict] + change))
+            lines.append((d.figure.name, shown(d.a, None, DASH), shown(d.b, None, DASH), words[d.verdict] + change))
     yield "A: %s" % name_a
     yield "B: %s" % name_b
+    if rows[0] != rows[1]:
+        yield "A has %s and B has %s, so rows are not compared." % tuple(counted(count, "row") for count in rows)
     if len(lines) > 1:
         yield ""
         yield from aligned(lines, 1)
     yield ""
     counts = Counter(difference.verdict for difference in found)
-    yield "For certain, since their bands are apart, %d of %d figures are higher in B and %d lower." % (
+    yield "With bands apart, %d of %d figures are higher in B for certain, and %d lower." % (
         counts["higher"], len(found), counts["lower"])
     yield "%d have the same band in both, %d are open." % (counts["alike"], counts["open"])
 

@@ -55,6 +55,8 @@ def read_table(text: str, label: str, columns: list[str], needed: Iterable[str],
     `rename` gives the name of a column that may be written in several ways."""
     text = _without_separator_line(text)
     first = next((line for line in text.splitlines() if line.strip(" ;,\t") and not line.startswith("#")), "")
+    if "\t" in first and not set(";,") & set(first):
+        raise InputError("%s: the columns are parted by tabs; save it with , or ; between them" % label)
     separator = ";" if ";" in first else ","
     records = _records(text, separator, label)
     number, header = next(records, (1, []))

@@ -99,7 +99,7 @@ class CompareTest(DeskTestCase):
         found = run("compare", a, b)
         self.assertEqual(found.status, 0)
         self.assertRegex(found.out, r"row 1 diurnal +[\d.]+ t +[\d.]+ t +B higher \(\+\d+\.\d %\)\n")
-        self.assertRegex(found.out, r"For certain, since their bands are apart, \d+ of 19 figures are higher in B")
+        self.assertRegex(found.out, r"\nWith bands apart, \d+ of 19 figures are higher in B for certain, and \d+ lower")
         figures = json.loads(run("compare", a, b, "--json").out)["figures"]
         verdicts = {(figure["row"], figure["mechanism"]): figure["verdict"] for figure in figures}
         self.assertEqual([verdicts["1", mechanism] for mechanism in library.MECHANISMS], ["higher"] * 3)
@@ -108,14 +108,16 @@ class CompareTest(DeskTestCase):
     def test_alike(self):
         found = run("compare", REGION, REGION)
         self.assertEqual(found.out,
-            "A: %s\nB: %s\n\nFor certain, since their bands are apart, 0 of 85 figures are higher in B "
-                         "and 0 lower.\n85 have the same band in both, 0 are open.\n" % (REGION, REGION))
+            "A: %s\nB: %s\n\nWith bands apart, 0 of 85 figures are higher in B for certain, "
+            "and 0 lower.\n85 have the same band in both, 0 are open.\n" % (REGION, REGION))
 
     def test_other_rows(self):
         """Sheets with other rows are compared by their sums."""
         figures = json.loads(run("compare", REGION, SAMPLES / "survey.evp", "--json").out)["figures"]
         self.assertEqual(len(figures), 13)
         self.assertEqual(figures[-1]["verdict"], "lower")
+        self.assertIn("\nA has 24 rows and B has 8 rows, so rows are not compared.\n",
+                      run("compare", REGION, SAMPLES / "survey.evp").out)
 
     def test_refused(self):
         self.assertEqual(run("compare", REGION, self.put("a.evp", b"EVP")).status, 1)
@@ -209,8 +211,8 @@ class MakingTest(DeskTestCase):
         self.assertTrue(names and all(name.startswith("evp_") for name in names), names)
         self.assertEqual(os.readlink(self.folder / "lib" / "libevaporation.so"), library.NAME)
 
-    def make(self, script: str):
-        self.put("crates.txt", "numbers:\nbounds: numbers\nevaporation: bounds\nreport: io\n")
+    def make(self, script: str, crates: str = "numbers:\nbounds: numbers\nevaporation: bounds\nreport: io\n"):
+        self.put("crates.txt", crates)
         self.put("c/shared", script)
         err = io.StringIO()
         patched = mock.patch("evp.making.TOP", self.folder), mock.patch("shutil.which", return_value="rt")
@@ -219,9 +221,15 @@ class MakingTest(DeskTestCase):
         return err.getvalue()
 
     def test_progress(self):
-        said = self.make("for name in numbers bounds bounds evaporation; do echo rt: $name proved; done")
-        self.assertEqual(said, "evp: the library is not made yet. Proving and making it takes some minutes, once.\n"
-                         "evp: 3 of 3 parts proved\n")
+        """The last part is proved where the library is made, and not by itself."""
+        said = self.make("for name in numbers bounds bounds report; do echo rt: $name proved; done")
+        self.assertTrue(said.startswith("evp: the library is not made yet. Proving and making it takes some minutes;\n"))
+        self.assertTrue(said.endswith("\nevp: all 3 parts proved, the library is made\n"))
+        many = "".join("p%d:\n" % i for i in range(24)) + "evaporation:" + "".join(" p%d" % i for i in range(24))
+        said = self.make("for i in $(seq 0 23); do echo rt: p$i proved; done", many)
+        self.assertEqual(said.splitlines()[2:], [
+            "evp: 10 of 25 parts proved", "evp: 20 of 25 parts proved",
+            "evp: all 25 parts proved, the library is made"])
 
     def test_failure(self):
         with self.assertRaisesRegex(InputError, "could not be made: no room"):

@@ -3,11 +3,12 @@
 import json
 import random
 import unittest
+from collections.abc import Iterator
 
 from support import CAR, GRID_TEXT, LIBRARY, LISTS, SEASONS, TEXT, DeskTestCase, grid, run, sample
 
 from evp import layout, sheet
-from evp.explain import CALLS, REASONS, explain
+from evp.explain import CALLS, REASONS, Explanation, explain
 from evp.library import Finding, Number
 from tools import reckoning
 from tools.reckoning import findings
@@ -63,17 +64,17 @@ refused 3 at 3: head (bytes 0 to 7)
     ((4, 1), TEXT + "seasons 13", """
 refused 4 at 5: head (bytes 0 to 7)
   13 seasons (byte 5); a sheet has 1 to 12
-  write 1 to 12
+  write at most 12 seasons
 """),
     ((5, 1), TEXT + "rows 0", """
 refused 5 at 6: head (bytes 0 to 7)
   0 rows (byte 6); a sheet has 1 to 32 in version 1
-  write 1 to 32
+  write at least one row
 """),
     ((5, 1), TEXT + "rows 40", """
 refused 5 at 6: head (bytes 0 to 7)
   40 rows (byte 6); a sheet has 1 to 32 in version 1
-  write 1 to 32; more need version 4, which has a grid
+  write at most 32 rows; more need version 4, which has a grid
 """),
     ((6, 1), TEXT + "zero 1", """
 refused 6 at 7: head (bytes 0 to 7)
@@ -147,7 +148,7 @@ refused 11 at 112: season 2 (bytes 112 to 119)
     ((11, 3), changed("lowest=14.5", "lowest=29.1"), """
 refused 11 at 112: season 2 (bytes 112 to 119)
   lowest 29.1 °C (bytes 114 to 115) is above highest 29.0 °C (bytes 116 to 117)
-  write at most 29.0, or a higher highest
+  write at most 29.0, or a highest of 29.1 to 50.0
 """),
     ((12, 1), changed("vp=60.0", "vp=9.0"), """
 refused 12 at 112: season 2 (bytes 112 to 119)
@@ -225,6 +226,12 @@ refused 19 at 144: row 2 (bytes 144 to 167)
   canister: medium, by class 2 technology 3
   write at most 60.0
 """),
+    ((19, 1), changed("load=32.0 saturation=60.0", "load=32.0"), """
+refused 19 at 144: row 2 (bytes 144 to 167)
+  load 32.0 g (bytes 160 to 161) is above m_sat 0.0 g (bytes 162 to 163)
+  canister: medium, by class 2 technology 3
+  write at most 0.0, or an m_sat of at least 32.0
+"""),
     ((19, 2), changed("trips=4.80 minutes=12", "trips=4.80 minutes=12 load=3.0"), """
 refused 19 at 120: row 1 (bytes 120 to 143)
   load 3.0 g (bytes 136 to 137) is given, and the row has no canister
@@ -243,6 +250,13 @@ refused 20 at 144: row 2 (bytes 144 to 167)
   canister: medium, by class 2 technology 3
   season 1: highest 9.5 °C, vp 90.0 kPa; a + b·s·m_sat is above 3
   write at most 119.5
+"""),
+    ((20, 1), changed("load=32.0 saturation=60.0", "load=150.0 saturation=600.0"), """
+refused 20 at 144: row 2 (bytes 144 to 167)
+  m_sat 600.0 g (bytes 162 to 163) is too large for a medium canister in season 1
+  canister: medium, by class 2 technology 3
+  season 1: highest 9.5 °C, vp 90.0 kPa; a + b·s·m_sat is above 3
+  write at most 119.5, and no more for the load
 """),
     ((21, 1), changed("saturation=60.0", "saturation=60.0 spare=0a000000"), """
 refused 21 at 144: row 2 (bytes 144 to 167)
@@ -276,6 +290,33 @@ refused 25 at 1200: row 2 (bytes 1200 to 1223)
 )
 
 
+def counts_of(total: int, size: int) -> bytes:
+    """Counts of two bytes each with this sum."""
+    counts = []
+    for _ in range(size // 2):
+        counts.append(min(total, 65535))
+        total -= counts[-1]
+    return b"".join(count.to_bytes(2, "little") for count in counts)
+
+
+def mended(data: bytes, found: Explanation) -> Iterator[bytes]:
+    """The sheet with each limit that is told in place of what it has. Where a sum is too large, its last part is made
+    smaller, as far as it can be; a length is cut or filled with zeros."""
+    key = found.number, found.reason
+    for value in {found.least, found.most}:
+        if found.at is None:
+            yield (data + bytes(value))[:value]
+            continue
+        end = found.at + found.bytes
+        if key in ((10, 2), (26, 1)):
+            value = layout.number_at(data, found.at, found.bytes) - (found.value - value)
+            if value < 0 or not value and key == (10, 2):
+                continue
+        field = counts_of(value, found.bytes) if key in ((8, 1), (9, 1), (24, 1)) else (
+            value.to_bytes(found.bytes, "little", signed=value < 0))
+        yield data[:found.at] + field + data[end:]
+
+
 class WordsTest(DeskTestCase):
     """Each message as a participant reads it."""
 
@@ -291,20 +332,16 @@ class WordsTest(DeskTestCase):
         self.assertEqual({number for number, _ in REASONS} | set(CALLS) | {0}, set(Number))
 
     def test_what_is_advised_passes(self):
-        """A value at the limit that is told is not refused for this any more."""
-        tried = 0
+        """With each limit that is told the sheet is not refused for this any more, whatever the reason."""
+        tried = set()
         for key, text, _ in CASES:
             data = sheet.write(text)
             found = explain(LIBRARY, data)
-            if found.index is None or key in ((10, 2), (26, 1)):  # a sum has no value of its own
-                continue
-            for value in (found.least, found.most):
-                mended = bytearray(data)
-                mended[found.at:found.at + found.bytes] = value.to_bytes(found.bytes, "little", signed=value < 0)
-                after = explain(LIBRARY, bytes(mended))
+            for changed_data in mended(data, found):
+                after = explain(LIBRARY, changed_data)
                 self.assertNotEqual((after.number, after.reason, after.index), (*key, found.index), key)
-                tried += 1
-        self.assertGreater(tried, 40)
+                tried.add(key)
+        self.assertEqual(tried, set(REASONS))
 
     def test_command(self):
         path = self.put_sheet("a.evp", changed("load=32.0", "load=70.0"))
@@ -384,6 +421,11 @@ class DamagedTest(unittest.TestCase):
                 self.assertFalse(finding.least <= finding.value <= finding.most)
                 self.assertIn("refused %d at %d: " % second, said.line)
                 self.assertLess(len(said.lines), 6)
+                self.assertTrue(said.words.advice)
+                for changed_data in mended(data, said):
+                    after = LIBRARY.explain(changed_data)
+                    self.assertNotEqual((after.number, after.reason, after.index),
+                                        (finding.number, finding.reason, finding.index))
         self.assertGreater(len(numbers), 25)
 
 

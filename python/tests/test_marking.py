@@ -10,11 +10,12 @@ from unittest import mock
 
 from support import LIBRARY, SAMPLES, TEXT, DeskTestCase, run, sample
 
-from evp import layout, marking, sheet
+from evp import hints, layout, marking, sheet
 from evp.figures import Figure, bands
 from evp.library import Band, Filed, Unit
 from evp.masses import exact, shown
 from evp.tables import table_text
+from tools import reckoning
 
 COURSE = SAMPLES / "course"
 HEADER = "sheet,row,mechanism,mass,unit\n"
@@ -87,7 +88,6 @@ class CourseTest(DeskTestCase):
         self.assertIn("; guess: vapour counted while it cools,", notes)
         self.assertNotIn("guess", "".join(line for line in notes.splitlines() if line.startswith("north")))
 
-
     def test_hints_without_the_second_reckoning(self):
         shutil.copy(COURSE / "moor.evp", self.folder)
         lines = (COURSE / "filed.csv").read_text().splitlines(True)
@@ -96,6 +96,62 @@ class CourseTest(DeskTestCase):
             found = run("mark", self.folder, "--filed", filed, "-o", self.folder / "marks.csv", "--hints")
         self.assertIn("  no guess: moor.evp: 7 figures\n"
                       "  cannot show: moor.evp: misreadings (the second reckoning, tools/, is not there)\n", found.out)
+
+
+class ManyRowsHintsTest(DeskTestCase):
+    """Guesses on a sheet of 300 rows, of which no more than some are reckoned."""
+
+    def setUp(self):
+        super().setUp()
+        self.data = sample("districts")
+        self.bands = bands(LIBRARY.report(self.data))
+        self.put("a.evp", self.data)
+
+    def hints(self, figures: dict[Figure, int]):
+        """What is said where these milligrams are filed."""
+        filed = self.put("filed.csv", HEADER + "".join("a.evp,%s,%s,%d,mg\n" % (*figure, mass)
+                                                      for figure, mass in figures.items()))
+        return run("mark", self.folder, "--filed", filed, "-o", self.folder / "m.csv", "--hints", "--force")
+
+    def test_nothing_explains(self):
+        """All figures are wrong, and the second reckoning is asked for as many rows as TRIES allows."""
+        with mock.patch("tools.reckoning.masses", return_value=(Fraction(1), Fraction(1), Fraction(1))) as masses:
+            found = self.hints({figure: band.low * 137 // 100 + 1 for figure, band in self.bands.items()})
+        seasons = layout.season_count(self.data)
+        self.assertGreater(masses.call_count, hints.TRIES // seasons // 2)
+        self.assertLessEqual(masses.call_count * seasons, hints.TRIES)
+        self.assertRegex(found.out, "\n  no guess: a.evp: 913 figures "
+                         r"\(misreadings tried on [0-9]+ of its 300 rows\)\n")
+        with open(self.folder / "m.csv", encoding="utf-8", newline="") as file:
+            notes = {mark["note"].partition("; ")[2] for mark in csv.DictReader(file)}
+        self.assertEqual(notes, {"no guess", "no guess, misreadings not tried"})
+
+    def test_misread_rows(self):
+        """A misreading that explains a row goes on to others, as far as TRIES allows."""
+        second = reckoning.read(self.data)
+        rows = [i for i in range(300) if layout.canister_of(layout.row(self.data, i)) == 1][:12]
+        misread = {Figure(str(i + 1), "soak"): round(1000 * reckoning.masses(
+            second, i, reading=reckoning.Reading(divided=True))[1]) for i in rows}
+        misread = {figure: mass for figure, mass in misread.items() if mass < self.bands[figure].low}
+        misread = dict(list(misread.items())[:8])
+        with mock.patch("evp.hints.TRIES", 3 * 4 * 2):  # two rows for each misreading, and what is left of these
+            found = self.hints(misread)
+        self.assertIn("\n  guess: a.evp: 6 figures: load divided by s, not multiplied\n"
+                      "  no guess: a.evp: 2 figures (misreadings tried on 6 of its 300 rows)\n", found.out)
+        found = self.hints(misread)
+        self.assertIn("\n  guess: a.evp: 8 figures: load divided by s, not multiplied\n", found.out)
+        self.assertNotIn("no guess", found.out)
+
+    def test_other_rows(self):
+        """Another row's mass is told where its digits leave no doubt, and two that are exchanged."""
+        one, two = Figure("3", "diurnal"), Figure("40", "diurnal")
+        found = self.hints({one: self.bands[two].low, two: self.bands[one].low})
+        self.assertIn("\n  guess: a.evp: 2 figures: row 3 and row 40 are exchanged\n", found.out)
+        self.assertIn("\n  guess: a.evp: 1 figure: this is the mass of row 40 diurnal\n",
+                      self.hints({one: self.bands[two].low}).out)
+        filed = self.put("filed.csv", HEADER + "a.evp,3,diurnal,%s,t\n" % shown(self.bands[two], "t").split()[0][:4])
+        self.assertIn("\n  no guess: a.evp: 1 figure", run(
+            "mark", self.folder, "--filed", filed, "-o", self.folder / "m.csv", "--hints", "--force").out)
 
 
 class FiledTest(DeskTestCase):
@@ -134,6 +190,11 @@ class FiledTest(DeskTestCase):
                 found = self.mark(line + "\n")
                 self.assert_plain(found, 2)
                 self.assertEqual(found.err, "evp: %s: line 2: %s\n" % (self.folder / "filed.csv", said))
+
+    def test_tabs(self):
+        self.assertEqual(self.mark("", HEADER.replace(",", "\t")).err,
+                         "evp: %s: the columns are parted by tabs; save it with , or ; between them\n" % (
+                             self.folder / "filed.csv"))
 
     def test_twice(self):
         found = self.mark("a.evp,1,soak,2,t\nb.evp,1,soak,2,t\na.evp,1,soak,3,kg\n")
@@ -221,6 +282,7 @@ class WordsTest(unittest.TestCase):
             (Band(1_000_000, 1_000_001), "t", "0.00100 t"),
         ):
             self.assertEqual(shown(band, unit), said)
+        self.assertEqual(shown(Band(57_400, 58_600), None, "–"), "57–59 g")
 
 
 if __name__ == "__main__":

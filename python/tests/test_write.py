@@ -73,7 +73,7 @@ class TextTest(DeskTestCase):
              "line 1: byte 5 (e9 hexadecimal) is no UTF-8; save it as UTF-8, in Excel as \"CSV UTF-8\""),
             (TEXT.encode("utf-16"), "this is UTF-16; save it as UTF-8, in Excel as \"CSV UTF-8\""),
             (b"PK\3\4abc", "this is a workbook or an archive; save its tables as csv, in Excel as \"CSV UTF-8\""),
-            (sample("example"), "this is a sheet already; evp read makes a text of it"),
+            (sample("example"), "this is a sheet, and a text or a table is wanted; evp read makes a text of it"),
             (b"ab\0c", "this is no text: byte 2 is 0"),
         ):
             path = self.put("a.txt", content)
@@ -258,8 +258,9 @@ class FolderTest(DeskTestCase):
         for options, more in (((), "parking.csv"), (("--grid",), "grid.csv"), (("--grid", "--semicolon"), "grid.csv")):
             folder = self.folder / "t"
             found = run("template", folder, "--force", *options)
-            self.assertEqual(found,
-                (0, "".join("%s/%s\n" % (folder, name) for name in ("seasons.csv", "fleet.csv", more)), ""))
+            self.assertEqual(found, (
+                0, "".join("%s/%s\n" % (folder, name) for name in ("seasons.csv", "fleet.csv", more))
+                + "Fill them in, then evp write %s makes the sheet.\n" % folder, ""))
             sign, point = (";", ",") if "--semicolon" in options else (",", ".")
             with open(folder / "seasons.csv", "a", encoding="utf-8") as file:
                 file.write("summer,183,14.5,29,60\n".replace(",", sign).replace(".", point))

@@ -54,6 +54,8 @@ PRINTED = {
     "vectors_shared_ledger": ("openings {shared_ledgers} right *", "calls {shared_calls} right *",
                        "pairs told the same {shared_pairs} right *"),
     "vectors_pool": ("refused pairs {refused_pools} right *", "pooled sheets {accepted_pools} right *"),
+    "vectors_marks": ("figures {filed_figures} as given *",),
+    "vectors_findings": ("sheets {explained_sheets} explained as given *",),
 }
 
 CLAIMS = (
@@ -73,6 +75,7 @@ CLAIMS = (
     "{shared_calls} calls on {shared_ledgers} shared ledgers", "{shared_pairs} pairs of ledgers",
     "{pools} pairs of sheets, {refused_pools} of them refused",
     "{pressure_pairs} pairs of sheets",
+    "{filed_figures} filed figures", "what is wrong on each of the {explained_sheets} sheets",
     # the gate
     "{tests} tests: {crates} crates proved", "and {edits} must-fail edits refused",
     "12 of {crates} crates, 3 of {edits} edits",

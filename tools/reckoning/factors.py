@@ -35,10 +35,12 @@ class Day:
         self.numbers = numbers_of(mode, n)
         vp = Fraction(season.vp, 10)
         self.T = tuple(temperature(season, i) for i in range(48))
+        self.rises = tuple(self.T[(i + 1) % 48] > self.T[i] for i in range(48))  # from mark i to the next
         self.vapour_vp = self._E(Fraction(205, 10000) * vp)
         self.permeation_vp = self._E(Fraction(4, 1000) * vp)
         self._heat = {}
         self._permeation = {}
+        self._canister = {}
 
     def _E(self, y):
         return self.numbers.E(self.numbers.number(y))
@@ -59,6 +61,12 @@ class Day:
             self._permeation[key] = self.numbers.times(
                 self.permeation_vp, self.numbers.number(bracket))
         return self._permeation[key]
+
+    def canister(self, i):
+        """a and b of a canister at T(i) (eqs. 10 and 11)."""
+        if i not in self._canister:
+            self._canister[i] = canister_a_b(self.season, self.T[i])
+        return self._canister[i]
 
     def vapour(self, row, heat):
         """Vapour in grams for a difference of heat (eq. 8)."""
@@ -86,7 +94,7 @@ class Escape:
         self.cut = day.reading.cut
         self.fitted = canister_of(row) != NONE
         if self.fitted:
-            a, b = canister_a_b(day.season, day.T[i])
+            a, b = day.canister(i)
             s = CANISTER_S[canister_of(row)]
             self.a = self.numbers.number(a)
             self.bs = b / s if day.reading.divided else b * s
@@ -104,6 +112,12 @@ class Escape:
         if not self.fitted:
             return v
         return self.lost(self.m1 + v) - self.lost_before
+
+
+@functools.lru_cache(maxsize=256)
+def escape_of(day: Day, row: Row, i: int) -> Escape:
+    """The kept escape, as several factors ask for it."""
+    return Escape(day, row, i)
 
 
 def parkings(sheet: Sheet) -> list[tuple[int, int, int]]:
@@ -142,7 +156,7 @@ def _diurnal(sheet: Sheet, day: Day, row: Row):
         by_start.setdefault(start_mark(t, d), {})[d] = count
     total = 0
     for start, lengths in by_start.items():
-        escape = Escape(day, row, start)
+        escape = escape_of(day, row, start)
         heat = rates = 0
         least = most = day.heat(start)
         for d in range(1, max(lengths) + 1):
@@ -150,12 +164,12 @@ def _diurnal(sheet: Sheet, day: Day, row: Row):
             least, most = min(least, day.heat(there)), max(most, day.heat(there))
             if day.reading.cooling:
                 heat = most - least
-            elif day.T[there] > day.T[here]:
+            elif day.rises[here]:
                 heat += day.heat(there) - day.heat(here)
             rates += day.permeation(here)
             if d in lengths:
                 escaped = escape.of(day.vapour(row, heat))
-                total += lengths[d] * (escaped + day.numbers.scaled(rates, Fraction(1, 2)))
+                total += lengths[d] * (escaped + day.numbers.scaled(rates, HALF))
     return _mean(sheet, day.numbers, total)
 
 
@@ -163,10 +177,11 @@ def _raised(day: Day, row: Row, rise: Fraction) -> Callable:
     """Escape of the vapour from T(i) to T(i) + rise, as a function of i."""
     def value(i):
         v = day.vapour(row, day.heat(i, rise) - day.heat(i))
-        return Escape(day, row, i).of(v)
+        return escape_of(day, row, i).of(v)
     return value
 
 
+HALF = Fraction(1, 2)  # an hour
 SOAK_RISE_CAR = {3: Fraction(9, 2), 4: Fraction(6)}
 RUNNING_RISE_CAR = {6: Fraction(1), 7: Fraction(5)}
 SOAK_RISE_TWO = {2: Fraction(3, 2), 3: Fraction(7, 2), 4: Fraction(7, 2)}

@@ -97,7 +97,6 @@ class ScaledNumbers:
         return Fraction(x, 1 << BITS)
 
     def scaled(self, x, by):
-        by = Fraction(by)
         return x * by.numerator // by.denominator
 
     def times(self, x, y):

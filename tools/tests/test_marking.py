@@ -10,6 +10,9 @@ from tools.reckoning.marking import AGREES, FITS, HIGH, LOW, UNREADABLE, interva
 from tools.reckoning.quantities import canister_a_b
 from tools.reckoning.tables import CANISTER_S
 from tools.tests.support import NAMES, sample
+from tools.vectors import findings as finding_vectors
+from tools.vectors import marks as mark_vectors
+from tools.vectors.sheets.case import Case
 
 
 class MarkTest(unittest.TestCase):
@@ -35,6 +38,37 @@ class MarkTest(unittest.TestCase):
             ((1, 0, 4), (1, 1), (UNREADABLE, 0)),
         ):
             self.assertEqual(mark(filed, band), expected, "%s in %s" % (filed, band))
+
+
+class VectorTest(unittest.TestCase):
+    """The vectors notice what would be wrong with them."""
+
+    def test_marks(self):
+        found = mark_vectors.vectors()
+        self.assertEqual(list(mark_vectors.missing(found)), [])
+        first = next(i for i, vector in enumerate(found) if vector.verdict == (FITS, 0))
+        found[first] = found[first]._replace(verdict=(AGREES, 0))
+        self.assertIn("is not what rounding gives", " ".join(mark_vectors.missing(found)))
+        self.assertIn("0 figures are unreadable", list(mark_vectors.missing([])))
+
+    def test_rounding(self):
+        """A mass half way rounds both ways."""
+        self.assertEqual(mark_vectors.rounded(2_834_500_000, (2834, 3, 3)), {2834, 2835})
+        self.assertEqual(mark_vectors.rounded(2_834_499_999, (2834, 3, 3)), {2834})
+        self.assertEqual(mark_vectors.rounded(5, (50, 1, 0)), {50})
+
+    def test_findings(self):
+        """A finding with another value, within its limits, or with a limit that does not mend the sheet."""
+        data = sample("example", ".evp")
+        data = data[:5] + bytes([13]) + data[6:]
+        found = explain(data)
+        self.assertEqual(list(finding_vectors.faults_of(data, found)), [])
+        for change in ({"value": 14}, {"most": 13}, {"least": 14}):
+            self.assertNotEqual(list(finding_vectors.faults_of(data, found._replace(**change))), [])
+        vectors = [finding_vectors.Vector(Case("thirteen seasons", data, (4, 6)), found)]
+        said = list(finding_vectors.missing(vectors))
+        self.assertIn("thirteen seasons: number or place is not the check's", said)
+        self.assertIn("number 26 reason 1: 0 sheets", said)
 
 
 class FindingTest(unittest.TestCase):

@@ -173,7 +173,7 @@ def _lists_of(data: bytes, semicolon: bool) -> dict[str, str]:
 WORDS = {
     "days": "all seasons together at most 366",
     "class": "1 to 9",
-    "technology": "0 conventional; 1 to 5 Euro 1 to 5",
+    "technology": "0 conventional; 1 to 5 Euro 1 to 5; classes 5 to 8 up to 3; class 9 up to 2",
     "canister": "none small medium large (0 to 3); empty: by class",
     "carburettor": "% of vehicles with carburettor or fuel return",
     "hot": "% of trips that end hot",

@@ -107,16 +107,21 @@ def other_part(before: bytes, data: bytes) -> tuple[int, int]:
     return ((other & -other).bit_length() - 1) // 8 if other else 0, (other.bit_length() + 7) // 8
 
 
-def encoded(cases: list[Case]) -> bytes:
-    parts = [packed(4, [len(cases)])]
-    left = bytes(LONGEST)  # what the sheets so far have left at each place
+def other_parts(cases: list[Case]) -> Iterator[tuple[int, bytes]]:
+    """For each sheet a place, and the bytes from there in which it differs from what the sheets before it left."""
+    left = bytes(LONGEST)  # at each place
     for case in cases:
-        number, place = case.answer
         here = case.data + left[len(case.data):]
         start, end = other_part(left, here)
-        parts += [packed(2, [end - start, start]), packed(1, [number]), packed(2, [place, len(case.data)]),
-                  here[start:end]]
+        yield start, here[start:end]
         left = here
+
+
+def encoded(cases: list[Case]) -> bytes:
+    parts = [packed(4, [len(cases)])]
+    for case, (start, part) in zip(cases, other_parts(cases)):
+        number, place = case.answer
+        parts += [packed(2, [len(part), start]), packed(1, [number]), packed(2, [place, len(case.data)]), part]
     return b"".join(parts)
 
 
