@@ -3,7 +3,7 @@
 import argparse
 import sys
 
-from tools.check import bounds, edits, figures, header, pressures, promises, samples
+from tools.check import bindings, bounds, edits, figures, header, pressures, promises, samples
 from tools.command import add_command, described, report, run
 
 
@@ -43,6 +43,11 @@ def run_header(_: argparse.Namespace) -> int:
         header.HEADER, len(theirs.functions), len(theirs.structs)))
 
 
+def run_bindings(_: argparse.Namespace) -> int:
+    return finish("bindings", bindings.faults(), "%s declares the %d functions of %s" % (
+        bindings.RUST, bindings.count(), header.HEADER))
+
+
 def run_promises(_: argparse.Namespace) -> int:
     return finish("promises", promises.faults(), "%d sentences of %s point to what is there" % (
         len(list(promises.rows())), promises.PAGE))
@@ -61,7 +66,7 @@ def parser() -> argparse.ArgumentParser:
     for name, module, run_it in (
         ("samples", samples, run_samples), ("pressures", pressures, run_pressures), ("edits", edits, run_edits),
         ("figures", figures, run_figures), ("header", header, run_header), ("promises", promises, run_promises),
-        ("bounds", bounds, run_bounds),
+        ("bounds", bounds, run_bounds), ("bindings", bindings, run_bindings),
     ):
         about, _, more = module.__doc__.partition("\n\n")
         found[name] = add_command(commands, name, about, "python3 -m tools.check " + name, "\n\n" + more)
