@@ -1,9 +1,16 @@
-// The calls for a program in another language. A slice is passed as a pointer and a length.
-use inventory::FactorAnswer;
-use sheet::Check;
+// The calls for a program in another language. A slice is passed as a pointer and a length. Their answers are declared in the crate
+// boundary, and made of those in Rattle by boundary_calls.
+use boundary::EvpCheck;
+use boundary::EvpFactor;
+use boundary::EvpText;
+use boundary_calls::check_numbers;
+use boundary_calls::factor_numbers;
+use boundary_calls::text_numbers;
+use inventory::check::report_check;
 ghost use mathlib.Core.Path.{_≡_};
-ghost use Rattle.report_text.specs.Text.{TextAnswer};
-ghost use Rattle.evaporation.specs.Export.{checkNumbers, factorNumbers, ReportNumbers, FactorNumbers};
+ghost use Rattle.boundary.specs.Export.{ReportNumbers, FactorNumbers};
+ghost use Rattle.boundary.specs.TextExport.{TextNumbers};
+ghost use Rattle.boundary.specs.Version.{libraryVersion};
 
 pub mod filed;
 pub mod map;
@@ -11,53 +18,18 @@ mod pool;
 mod reasons;
 mod registrations;
 mod shared;
+mod sheets;
 pub mod species;
 
-// A refusal's number and place; number 0 where the sheet is accepted.
-#[repr(C)]
-pub struct EvpCheck {
-    pub number: u64,
-    pub place: u64,
-}
+// Version 1.0.0: a million for each major, a thousand for each minor.
+const VERSION: u64 = 1000000;
 
-// The same, with the low and the high in micrograms where the sheet is accepted.
-#[repr(C)]
-pub struct EvpFactor {
-    pub number: u64,
-    pub place: u64,
-    pub low: u64,
-    pub high: u64,
-}
-
-fn factor_numbers(a: FactorAnswer) -> EvpFactor
-    ensures { λ r. ⌜ r ≡ factorNumbers a ⌝ }
+// The version of the library, which its header names too.
+#[no_mangle]
+pub extern "C" fn evp_library_version() -> u64
+    ensures { λ r. ⌜ r ≡ libraryVersion ⌝ }
 {
-    match a {
-        FactorAnswer::Refused(number, place) => EvpFactor {
-            number,
-            place,
-            low: 0,
-            high: 0,
-        },
-        FactorAnswer::Band(low, high) => EvpFactor {
-            number: 0,
-            place: 0,
-            low,
-            high,
-        },
-    }
-}
-
-fn check_numbers(c: Check) -> EvpCheck
-    ensures { λ r. ⌜ r ≡ checkNumbers c ⌝ }
-{
-    match c {
-        Check::Pass => EvpCheck {
-            number: 0,
-            place: 0,
-        },
-        Check::Refused(number, place) => EvpCheck { number, place },
-    }
+    VERSION
 }
 
 // The factor call.
@@ -76,10 +48,11 @@ pub extern "C" fn evp_report(sheet: &[u8], words: &mut [u64]) -> EvpCheck
     check_numbers(inventory::report(sheet, words))
 }
 
-// The report as a text. It answers the length of the text, which is written only where it fits.
+// The report as a text. It answers whether the text is a report, and its length; it is written only where it fits.
 #[no_mangle]
-pub extern "C" fn evp_text(sheet: &[u8], words: &mut [u64], text: &mut [u8]) -> usize
-    ensures { λ r. ⌜ TextAnswer (now (sheet .entry)) (now (words .entry)) (now (words .exit)) (now (text .entry)) (now (text .exit)) r ⌝ }
+pub extern "C" fn evp_text(sheet: &[u8], words: &mut [u64], text: &mut [u8]) -> EvpText
+    ensures { λ r. ⌜ TextNumbers (now (sheet .entry)) (now (words .entry)) (now (words .exit)) (now (text .entry)) (now (text .exit)) r ⌝ }
 {
-    report_text::report_text(sheet, words, text)
+    let check = report_check(sheet, words.len());
+    text_numbers(check, report_text::report_text(sheet, words, text))
 }

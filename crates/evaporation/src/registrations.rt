@@ -1,8 +1,8 @@
 // The ledger's calls for a program in another language. Opening a ledger is the report call.
-use crate::EvpCheck;
-use crate::check_numbers;
+use boundary::EvpCheck;
+use boundary_calls::check_numbers;
 ghost use Rattle.ledger.specs.declared.Call.the-variants.{Arrival, Departure};
-ghost use Rattle.evaporation.specs.Change.{ChangeNumbers};
+ghost use Rattle.boundary.specs.Change.{ChangeNumbers};
 
 // Vehicles arrive at a row, counted from 0.
 #[no_mangle]

@@ -1,55 +1,12 @@
 // The calls on a shared ledger for a program in another language.
-use crate::EvpCheck;
-use crate::check_numbers;
-use shared_ledger::RowAnswer;
-use shared_ledger::TotalsAnswer;
-ghost use mathlib.Core.Path.{_≡_};
+use boundary::EvpCheck;
+use boundary::EvpRow;
+use boundary::EvpTotals;
+use boundary_calls::check_numbers;
+use boundary_calls::shared::row_numbers;
+use boundary_calls::shared::totals_numbers;
 ghost use Rattle.ledger.specs.declared.Call.the-variants.{Arrival, Departure};
-ghost use Rattle.evaporation.specs.Shared.{rowNumbers, totalsNumbers, OpenNumbers, SharedNumbers, RowNumbers, TotalsNumbers};
-
-// A refusal's number and place; number 0, and the row's count and six words, where it is read.
-#[repr(C)]
-pub struct EvpRow {
-    pub number: u64,
-    pub place: u64,
-    pub count: u64,
-    pub words: [u64; 6],
-}
-
-// The same, with the 26 words after the rows.
-#[repr(C)]
-pub struct EvpTotals {
-    pub number: u64,
-    pub place: u64,
-    pub words: [u64; 26],
-}
-
-fn row_numbers(a: RowAnswer) -> EvpRow
-    ensures { λ r. ⌜ r ≡ rowNumbers a ⌝ }
-{
-    let check = a.check;
-    let words = a.words;
-    let told = check_numbers(check);
-    EvpRow {
-        number: told.number,
-        place: told.place,
-        count: a.count,
-        words: words,
-    }
-}
-
-fn totals_numbers(a: TotalsAnswer) -> EvpTotals
-    ensures { λ r. ⌜ r ≡ totalsNumbers a ⌝ }
-{
-    let check = a.check;
-    let words = a.words;
-    let told = check_numbers(check);
-    EvpTotals {
-        number: told.number,
-        place: told.place,
-        words: words,
-    }
-}
+ghost use Rattle.boundary.specs.Shared.{OpenNumbers, SharedNumbers, RowNumbers, TotalsNumbers};
 
 // The ledger is opened with its owners, one byte a row.
 #[no_mangle]

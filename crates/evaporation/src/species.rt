@@ -1,26 +1,11 @@
-// The species of a total, for a program in another language.
-use crate::EvpCheck;
-use speciation::split;
-ghost use mathlib.Core.Path.{_≡_};
-ghost use Prim.Native.Nat.{_≤_};
-ghost use lib.ListN.{length};
-ghost use Rattle.sheet.specs.declared.Check.the-variants.{Pass};
-ghost use Rattle.inventory.specs.ReportCall.{written};
-ghost use Rattle.speciation.specs.Split.{speciesMasses};
-ghost use Rattle.evaporation.specs.SpeciesCall.{SpeciesNumbers};
-
-// The masses at the front of a buffer that has room for them.
-fn write_masses(total: u64, milligrams: &mut [u64])
-    requires { ⌜ 29 ≤ length (now milligrams) ⌝ }
-    ensures { λ r. ⌜ now (milligrams .exit) ≡ written Pass (speciesMasses total) (now (milligrams .entry)) ⌝ }
-{
-    let masses = split(total);
-    let mut i: usize = 0;
-    while i < 29 {
-        milligrams[i] = masses[i];
-        i += 1;
-    }
-}
+// The species of a total and those of a sheet, for a program in another language.
+use boundary::EvpCheck;
+use boundary::EvpComposition;
+use boundary_calls::species::composition_numbers;
+use boundary_calls::species::write_masses;
+use species_report::composition::species_of;
+ghost use Rattle.boundary.specs.SpeciesCall.{SpeciesNumbers};
+ghost use Rattle.boundary.specs.CompositionExport.{CompositionNumbers};
 
 // The species of a total, in milligrams.
 #[no_mangle]
@@ -38,4 +23,12 @@ pub extern "C" fn evp_species(total: u64, milligrams: &mut [u64]) -> EvpCheck
         number: 0,
         place: 0,
     }
+}
+
+// The species of a sheet's high total, with the refusals of its report, for which the words are lent.
+#[no_mangle]
+pub extern "C" fn evp_species_of(sheet: &[u8], words: &mut [u64]) -> EvpComposition
+    ensures { λ r. ⌜ CompositionNumbers (now (sheet .entry)) (now (words .entry)) (now (words .exit)) r ⌝ }
+{
+    composition_numbers(species_of(sheet, words))
 }

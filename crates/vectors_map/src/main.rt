@@ -1,15 +1,15 @@
 // Holds the two calls for cells against the answers that tools/vectors/cells.py put into standard input, bit by bit: how many rows and sums of
 // each number are tried, and how many of them get that number, its place and those cells.
-use evaporation::map::EvpCell;
-use evaporation::map::EvpCellSum;
-use evaporation::map::EvpRowCells;
+use boundary::EvpCell;
+use boundary::EvpCellSum;
+use boundary::EvpRowCells;
+use boundary::EvpTravel;
 use evaporation::map::evp_add_cells;
 use evaporation::map::evp_cells_of_row;
 use libc::STDIN_FILENO;
 use map_shares::Mileages;
 use map_shares::Span;
 use map_shares::Speeds;
-use map_shares::Travel;
 use map_shares::Words;
 use vectors::input::u32_at;
 use vectors::input::u64_at;
@@ -83,7 +83,7 @@ fn words_at(s: &[u8], at: usize) -> Words
     }
 }
 
-fn travel_at(s: &[u8], at: usize) -> Travel
+fn travel_at(s: &[u8], at: usize) -> EvpTravel
     requires { ⌜ at + 48 ≤ length (now s) ⌝ }
 {
     let mileage = Mileages {
@@ -95,8 +95,8 @@ fn travel_at(s: &[u8], at: usize) -> Travel
         rural: u64_at(s, at + 32),
         highway: u64_at(s, at + 40),
     };
-    Travel {
-        town: u64_at(s, at) == 1,
+    EvpTravel {
+        town: u64_at(s, at),
         mileage,
         speed,
     }

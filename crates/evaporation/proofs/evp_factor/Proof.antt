@@ -1,8 +1,8 @@
 -- `evaporation::evp_factor` meets its contract: what holds of the answer holds of its numbers.
 use mathlib.Core.Path.{_∙_, ap}
 use borrow.Author.Needs.{needs}
-use Rattle.evaporation.specs.Export.{factorNumbers}
-use Rattle.evaporation.proofs.Numbers.{factor-is}
+use Rattle.boundary.specs.Export.{factorNumbers}
+use Rattle.boundary.proofs.Numbers.{factor-is}
 use Rattle.evaporation.proofs.evp_factor.Statement.{statement}
 use Rattle.evaporation.proofs.evp_factor.Tie as tie
 

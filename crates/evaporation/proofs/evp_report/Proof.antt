@@ -1,8 +1,8 @@
 -- `evaporation::evp_report` meets its contract: what holds of the answer holds of its numbers.
 use mathlib.Core.Path.{_∙_, ap}
 use borrow.Author.Needs.{needs}
-use Rattle.evaporation.specs.Export.{checkNumbers}
-use Rattle.evaporation.proofs.Numbers.{check-is}
+use Rattle.boundary.specs.Export.{checkNumbers}
+use Rattle.boundary.proofs.Numbers.{check-is}
 use Rattle.evaporation.proofs.evp_report.Statement.{statement}
 use Rattle.evaporation.proofs.evp_report.Tie as tie
 

@@ -1,8 +1,8 @@
 -- `evaporation::filed::evp_mark` meets its contract: the numbers are those of the verdict.
 use borrow.Author.Needs.{needs}
 use mathlib.Core.Path.{ap, _∙_}
-use Rattle.evaporation.specs.MarkExport.{verdictNumbers}
-use Rattle.evaporation.proofs.MarkNumbers.{mark-numbers}
+use Rattle.boundary.specs.MarkExport.{verdictNumbers}
+use Rattle.boundary.proofs.MarkNumbers.{mark-numbers}
 use Rattle.evaporation.proofs.filed.evp_mark.Statement.{statement}
 use Rattle.evaporation.proofs.filed.evp_mark.Tie as tie
 

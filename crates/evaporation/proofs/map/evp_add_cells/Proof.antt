@@ -1,8 +1,8 @@
 -- `evaporation::map::evp_add_cells` meets its contract.
 use borrow.Author.Needs.{needs}
 use mathlib.Core.Path.{ap, _∙_}
-use Rattle.evaporation.specs.Cells.{sumNumbers}
-use Rattle.evaporation.proofs.CellNumbers.{sum-numbers-kept}
+use Rattle.boundary.specs.Cells.{sumNumbers}
+use Rattle.boundary.proofs.CellNumbers.{sum-numbers-kept}
 use Rattle.evaporation.proofs.map.evp_add_cells.Statement.{statement}
 use Rattle.evaporation.proofs.map.evp_add_cells.Tie as tie
 

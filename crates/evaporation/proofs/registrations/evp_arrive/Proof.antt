@@ -1,6 +1,6 @@
 -- `evaporation::registrations::evp_arrive` meets its contract: what holds of the answer holds of its numbers.
 use borrow.Author.Needs.{needs}
-use Rattle.evaporation.proofs.ChangeNumbers.{change-numbers}
+use Rattle.boundary.proofs.ChangeNumbers.{change-numbers}
 use Rattle.evaporation.proofs.registrations.evp_arrive.Statement.{statement}
 use Rattle.evaporation.proofs.registrations.evp_arrive.Tie as tie
 

@@ -1,6 +1,6 @@
 -- `evaporation::registrations::evp_depart` meets its contract: what holds of the answer holds of its numbers.
 use borrow.Author.Needs.{needs}
-use Rattle.evaporation.proofs.ChangeNumbers.{change-numbers}
+use Rattle.boundary.proofs.ChangeNumbers.{change-numbers}
 use Rattle.evaporation.proofs.registrations.evp_depart.Statement.{statement}
 use Rattle.evaporation.proofs.registrations.evp_depart.Tie as tie
 

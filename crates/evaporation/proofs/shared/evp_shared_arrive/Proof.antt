@@ -1,7 +1,7 @@
 -- `evaporation::shared::evp_shared_arrive` meets its contract: what holds of the answer holds of its numbers.
 -- Assumes nothing.
 use borrow.Author.Needs.{needs}
-use Rattle.evaporation.proofs.SharedNumbers.{shared-numbers}
+use Rattle.boundary.proofs.SharedNumbers.{shared-numbers}
 use Rattle.evaporation.proofs.shared.evp_shared_arrive.Statement.{statement}
 use Rattle.evaporation.proofs.shared.evp_shared_arrive.Tie as tie
 

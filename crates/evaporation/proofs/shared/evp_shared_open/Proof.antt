@@ -1,7 +1,7 @@
 -- `evaporation::shared::evp_shared_open` meets its contract: what holds of the answer holds of its numbers.
 -- Assumes nothing.
 use borrow.Author.Needs.{needs}
-use Rattle.evaporation.proofs.SharedNumbers.{open-numbers}
+use Rattle.boundary.proofs.SharedNumbers.{open-numbers}
 use Rattle.evaporation.proofs.shared.evp_shared_open.Statement.{statement}
 use Rattle.evaporation.proofs.shared.evp_shared_open.Tie as tie
 

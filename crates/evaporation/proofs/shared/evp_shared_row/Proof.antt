@@ -1,7 +1,7 @@
 -- `evaporation::shared::evp_shared_row` meets its contract: what holds of the answer holds of its numbers.
 -- Assumes nothing.
 use borrow.Author.Needs.{needs}
-use Rattle.evaporation.proofs.SharedNumbers.{row-told}
+use Rattle.boundary.proofs.SharedNumbers.{row-told}
 use Rattle.evaporation.proofs.shared.evp_shared_row.Statement.{statement}
 use Rattle.evaporation.proofs.shared.evp_shared_row.Tie as tie
 

@@ -1,7 +1,7 @@
 -- `evaporation::shared::evp_shared_totals` meets its contract: what holds of the answer holds of its numbers.
 -- Assumes nothing.
 use borrow.Author.Needs.{needs}
-use Rattle.evaporation.proofs.SharedNumbers.{totals-told}
+use Rattle.boundary.proofs.SharedNumbers.{totals-told}
 use Rattle.evaporation.proofs.shared.evp_shared_totals.Statement.{statement}
 use Rattle.evaporation.proofs.shared.evp_shared_totals.Tie as tie
 

@@ -2,7 +2,7 @@
 -- Assumes nothing.
 use native.Mathlib.Omega.{arith}
 use borrow.Author.Needs.{needs}
-use Rattle.evaporation.proofs.MassesWritten.{short, written-out}
+use Rattle.boundary.proofs.MassesWritten.{short, written-out}
 use Rattle.evaporation.proofs.species.evp_species.Statement.{statement}
 use Rattle.evaporation.proofs.species.evp_species.Tie as tie
 

@@ -1,0 +1,10 @@
+pub mod Numbers
+pub mod WordsCounted
+pub mod TextNumbers
+pub mod MassesWritten
+pub mod CompositionNumbers
+pub mod CellNumbers
+pub mod ChangeNumbers
+pub mod PoolNumbers
+pub mod SharedNumbers
+pub mod MarkNumbers

@@ -1,0 +1,11 @@
+pub mod Export
+pub mod SheetExport
+pub mod TextExport
+pub mod SpeciesCall
+pub mod CompositionExport
+pub mod Cells
+pub mod Change
+pub mod PoolExport
+pub mod Shared
+pub mod MarkExport
+pub mod Version
