@@ -1,8 +1,9 @@
-"""The documents of a release as pages: python3 release/pages.py FOLDER makes NAME.html beside every NAME.md of a folder.
+"""The documents of a release as pages: python3 release/pages.py FOLDER REPOSITORY makes NAME.html beside every NAME.md.
 
 cmark-gfm makes the body of a page. What it leaves to its user is done here: headings get the names by which GitHub
 links to them, links to NAME.md go to the page, the names of documents in a text become links, and a page has a title, a
-style and a line that leads back to the start. A link to what is not there is an error.
+style and a line that leads back to the start. A link to what the repository alone has becomes plain text; one to what
+is nowhere is an error.
 """
 
 import html
@@ -94,8 +95,18 @@ def page(path: Path, folder: Path) -> str:
     body = with_documents(with_pages(with_names(made.stdout.decode())), path, folder)
     body = body.replace("<table>", '<div class="wide"><table>').replace("</table>", "</table></div>")
     heading = re.search(r"<h1[^>]*>(.*?)</h1>", body, re.S)
-    start = "../" * (len(path.relative_to(folder).parts) - 1) + "README.html"
+    start = "../" * (len(path.relative_to(folder).parts) - 1) + "START-HERE.html"
     return PAGE.format(title=html.escape(plain(heading[1]) if heading else path.stem), style=STYLE, start=start, body=body)
+
+
+def without_strangers(text: str, path: Path, folder: Path, repository: Path) -> str:
+    """A page whose links to what the repository alone has are plain text."""
+    def kept(found: re.Match) -> str:
+        to = (path.parent / found[1].partition("#")[0]).resolve()
+        inside = to.is_relative_to(folder) and not to.exists() and not to.with_suffix(".md").exists()
+        return found[2] if inside and (repository / to.relative_to(folder)).exists() else found[0]
+
+    return re.sub(r'<a href="(?!\w+:|#)([^"]*)">(.*?)</a>', kept, text, flags=re.S)
 
 
 def dead_links(pages: dict[Path, str]):
@@ -111,11 +122,12 @@ def dead_links(pages: dict[Path, str]):
 
 
 def main(words: list[str]) -> int:
-    if len(words) != 1:
-        print("usage: python3 release/pages.py FOLDER", file=sys.stderr)
+    if len(words) != 2:
+        print("usage: python3 release/pages.py FOLDER REPOSITORY", file=sys.stderr)
         return 2
-    folder = Path(words[0]).resolve()
-    pages = {path.with_suffix(".html"): page(path, folder) for path in sorted(folder.rglob("*.md"))}
+    folder, repository = Path(words[0]).resolve(), Path(words[1]).resolve()
+    made = {path.with_suffix(".html"): page(path, folder) for path in sorted(folder.rglob("*.md"))}
+    pages = {path: without_strangers(text, path, folder, repository) for path, text in made.items()}
     for path, text in pages.items():
         path.write_text(text, encoding="utf-8")
     faults = list(dead_links(pages))

@@ -41,8 +41,8 @@ impl Cell {
     }
 }
 
-/// Whether the owners of a row live in town, and where its vehicles drive. Mileages are in any unit, alike for all three,
-/// and so are the two speeds: only their proportions count. Each of the five is from 1 to 1,000,000.
+/// Whether the owners of a row live in town, and where its vehicles drive. Mileages are in any unit, alike for all
+/// three, and so are the two speeds: only their proportions count. Each of the five is from 1 to 1,000,000.
 #[derive(Clone, Copy, Debug, PartialEq, Eq)]
 #[allow(missing_docs)]
 pub struct Travel {

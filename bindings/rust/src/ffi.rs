@@ -15,10 +15,26 @@ pub struct FactorBand {
 }
 
 #[repr(C)]
+pub struct TextCheck {
+    pub number: u64,
+    pub place: u64,
+    pub bytes: u64,
+}
+
+#[repr(C)]
+pub struct Composition {
+    pub number: u64,
+    pub place: u64,
+    pub total: u64,
+    pub milligrams: [u64; 29],
+}
+
+#[repr(C)]
 pub struct PoolCheck {
     pub number: u64,
     pub place: u64,
     pub sheet: u64,
+    pub bytes: u64,
 }
 
 #[repr(C)]
@@ -107,6 +123,9 @@ pub struct Verdict {
 }
 
 extern "C" {
+    pub fn evp_library_version() -> u64;
+    pub fn evp_check_sheet(sheet: *const u8, sheet_bytes: usize) -> Check;
+    pub fn evp_report_words(sheet: *const u8, sheet_bytes: usize) -> usize;
     pub fn evp_report(sheet: *const u8, sheet_bytes: usize, words: *mut u64, words_count: usize) -> Check;
     pub fn evp_text(
         sheet: *const u8,
@@ -115,9 +134,10 @@ extern "C" {
         words_count: usize,
         text: *mut u8,
         text_bytes: usize,
-    ) -> usize;
+    ) -> TextCheck;
     pub fn evp_factor(sheet: *const u8, sheet_bytes: usize, season: u64, row: u64, factor: u64) -> FactorBand;
     pub fn evp_species(total: u64, milligrams: *mut u64, count: usize) -> Check;
+    pub fn evp_species_of(sheet: *const u8, sheet_bytes: usize, words: *mut u64, words_count: usize) -> Composition;
     pub fn evp_cells_of_row(words: RowWords, travel: Travel) -> RowCells;
     pub fn evp_add_cells(a: Cell, b: Cell) -> CellSum;
     pub fn evp_arrive(

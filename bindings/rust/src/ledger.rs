@@ -1,8 +1,7 @@
 //! Ledgers: a sheet in which vehicles arrive and depart, its report kept in step; and one that participants share.
 use crate::ffi;
 use crate::refusal::Refusal;
-use crate::report::{report_into, rows_in, words_of, Masses, Report, Totals};
-use crate::REPORT_WORDS;
+use crate::report::{report, report_words, Masses, Report, Totals};
 
 /// A sheet whose vehicles arrive and depart, with the words of its report. Rows count from 0.
 #[derive(Clone, Debug, PartialEq, Eq)]
@@ -14,9 +13,7 @@ pub struct Ledger {
 impl Ledger {
     /// Opens a ledger on a sheet.
     pub fn open(sheet: &[u8]) -> Result<Ledger, Refusal> {
-        let mut words = vec![0; REPORT_WORDS];
-        let count = report_into(sheet, &mut words)?;
-        words.truncate(count);
+        let words = report(sheet)?.words().to_vec();
         Ok(Ledger { sheet: sheet.to_vec(), words })
     }
 
@@ -89,7 +86,7 @@ pub struct SharedLedger {
 impl SharedLedger {
     /// Opens a shared ledger; `owners` has a byte for each row, 1 to 8.
     pub fn open(sheet: &[u8], owners: &[u8]) -> Result<SharedLedger, Refusal> {
-        let mut words = vec![0; REPORT_WORDS];
+        let mut words = vec![0; report_words(sheet)];
         // SAFETY: the slices are handed over with their lengths, cannot overlap, and the call keeps none.
         let answer = unsafe {
             ffi::evp_shared_open(
@@ -102,7 +99,6 @@ impl SharedLedger {
             )
         };
         answer.accepted()?;
-        words.truncate(words_of(rows_in(sheet)));
         Ok(SharedLedger { sheet: sheet.to_vec(), owners: owners.to_vec(), words })
     }
 

@@ -1,7 +1,6 @@
 //! Two sheets pooled into one.
 use crate::ffi;
 use crate::refusal::Refusal;
-use crate::report::rows_in;
 use crate::SHEET_BYTES;
 use std::error::Error;
 use std::fmt;
@@ -59,6 +58,6 @@ pub fn pool(first: &[u8], second: &[u8]) -> Result<Vec<u8>, PoolRefusal> {
         };
         return Err(PoolRefusal { sheet, refusal });
     }
-    pooled.truncate(first.len() + 24 * rows_in(second));
+    pooled.truncate(answer.bytes as usize);
     Ok(pooled)
 }

@@ -3,9 +3,39 @@ use crate::ffi;
 use std::error::Error;
 use std::fmt;
 
-/// The numbers of a refusal, by the header's names, each with its sentence.
+/// What the place of a refusal is of.
+#[derive(Clone, Copy, Debug, PartialEq, Eq, Hash)]
+pub enum Part {
+    /// The input as a whole; the place is 0.
+    Sheet,
+    /// The head of the sheet.
+    Head,
+    /// Its parking: two lists or a grid.
+    Parking,
+    /// A season; the place is the first byte of its record.
+    Season,
+    /// A row; the place is the first byte of its record.
+    Row,
+    /// The call, not the sheet; the place is 0, but for a row without an owner at the opening of a shared ledger.
+    Call,
+}
+
+impl fmt::Display for Part {
+    fn fmt(&self, f: &mut fmt::Formatter<'_>) -> fmt::Result {
+        f.write_str(match self {
+            Part::Sheet => "sheet",
+            Part::Head => "head",
+            Part::Parking => "parking",
+            Part::Season => "season",
+            Part::Row => "row",
+            Part::Call => "call",
+        })
+    }
+}
+
+/// The numbers of a refusal, by the header's names: what the place is of, and what is wrong.
 macro_rules! numbers {
-    ($($(#[$about:meta])* $name:ident = $number:literal, $text:literal;)*) => {
+    ($($name:ident = $number:literal, $part:ident, $text:literal;)*) => {
         /// Why a call refuses: the condition that applies first.
         #[derive(Clone, Copy, Debug, PartialEq, Eq, Hash, PartialOrd, Ord)]
         #[non_exhaustive]
@@ -31,10 +61,17 @@ macro_rules! numbers {
                 }
             }
 
-            /// One sentence: what is wrong.
+            /// What is wrong, in a few words.
             pub const fn text(self) -> &'static str {
                 match self {
                     $(Number::$name => $text,)*
+                }
+            }
+
+            /// What its place is of.
+            pub const fn part(self) -> Part {
+                match self {
+                    $(Number::$name => Part::$part,)*
                 }
             }
         }
@@ -42,38 +79,39 @@ macro_rules! numbers {
 }
 
 numbers! {
-    HeadShort = 1, "the input has fewer than 8 bytes";
-    Mark = 2, "it does not start with the letters EVP";
-    Version = 3, "the version is not 1 to 4";
-    Seasons = 4, "the number of seasons is not 1 to 12";
-    Rows = 5, "the number of rows is not 1 to 32, in version 4 not 1 to 1,000";
-    HeadZero = 6, "the last byte of the head is not zero";
-    Length = 7, "the length is not that of the seasons and rows in the head";
-    Durations = 8, "the 24 counts of durations do not sum to 1 to 1,000";
-    Hours = 9, "the 24 counts of end hours do not sum to 1 to 1,000";
-    Grid = 24, "the 576 counts of the grid do not sum to 1 to 1,000,000";
-    Days = 10, "the days of a season, or of all seasons up to it, are not 1 to 366";
-    Temperatures = 11, "a temperature is not -30.0 to 50.0 degrees C, or the lowest is above the highest";
-    VapourPressure = 12, "the vapour pressure is not 30.0 to 110.0 kPa";
-    Class = 13, "the table has no such pair of class and technology";
-    Canister = 14, "the canister code is none of 0, 1, 2, 3 and 255";
-    Percent = 15, "a share or the fill level is above 100 percent";
-    Vehicles = 16, "there are more than 10,000,000 vehicles";
-    Fleet = 26, "with those of the rows before there are more than 100,000,000 vehicles";
-    Tank = 17, "the tank is above 150.0 litres";
-    Trips = 18, "more than 12.00 trips a day, or more than 1,440 minutes a trip";
-    Load = 19, "the load is above the saturating load, or one is given without a canister";
-    Exponent = 20, "the saturating load is too large for the canister";
-    RowZeros = 21, "the last four bytes of a row are not zero";
-    Mileage = 25, "the mileage is above 1,000,000 km, or does not go with the canister and its loads";
-    Room = 22, "the buffer is too short";
-    Absent = 23, "the sheet has no such season or row, or the factor is not 1 to 7";
-    Travel = 28, "a mileage or a speed is not 1 to 1,000,000";
-    Cell = 27, "a low above its high, a mass above the limit, or a cell that is none";
-    Count = 29, "no such row, or a count that the row or the sheet cannot have";
-    Differ = 32, "the seasons or the parking of the two sheets differ";
-    Right = 30, "the caller has no right to this call";
-    Share = 31, "a row without an owner, or an owner with more than 100 rows or 10,000,000 vehicles";
+    HeadShort = 1, Sheet, "a sheet has at least 8 bytes for its head";
+    Mark = 2, Head, "a sheet starts with the letters EVP";
+    Version = 3, Head, "the version is not 1 to 4, or of two sheets to pool not 4";
+    Seasons = 4, Head, "the number of seasons is not 1 to 12";
+    Rows = 5, Head, "the number of rows is not 1 to 32, in version 4 not 1 to 1,000";
+    HeadZero = 6, Head, "byte 7 is not 0";
+    Length = 7, Sheet, "the length does not fit the seasons and rows that the head tells of";
+    Durations = 8, Parking, "the 24 counts of durations do not sum to 1 to 1,000";
+    Hours = 9, Parking, "the 24 counts of end hours do not sum to 1 to 1,000";
+    Grid = 24, Parking, "the 576 counts of the grid do not sum to 1 to 1,000,000";
+    Days = 10, Season, "the days, alone or with those of the seasons before, are not 1 to 366";
+    Temperatures = 11, Season, "a temperature is not -30.0 to 50.0 degrees C, or the lowest is above the highest";
+    VapourPressure = 12, Season, "the vapour pressure is not 30.0 to 110.0 kPa";
+    Class = 13, Row, "class and technology are not in the table";
+    Canister = 14, Row, "the canister is none of 0, 1, 2, 3 and 255";
+    Percent = 15, Row, "a share or the fill level is above 100 percent";
+    Vehicles = 16, Row, "there are more than 10,000,000 vehicles";
+    Fleet = 26, Row, "with the rows before there are more than 100,000,000 vehicles";
+    Tank = 17, Row, "the tank is above 150.0 l";
+    Trips = 18, Row, "there are more than 12.00 trips a day, or more than 1,440 minutes a trip";
+    Load = 19, Row, "the load is above m_sat, or one of them is given without a canister";
+    Exponent = 20, Row, "m_sat is too large for the canister";
+    RowZeros = 21, Row, "the last four bytes of the row are not 0";
+    Mileage = 25, Row,
+        "the mileage is above 1,000,000 km, or stands without a canister, beside a load or beside a large m_sat";
+    Absent = 23, Call, "there is no such season, row or factor";
+    Travel = 28, Call, "a mileage or a speed is not 1 to 1,000,000, or town is neither 0 nor 1";
+    Cell = 27, Call, "a low is above its high, a mass is above 2^53 mg, or a cell is none";
+    Differ = 32, Call, "the seasons or the parking of the two sheets differ";
+    Room = 22, Call, "the room that was lent is too small";
+    Right = 30, Call, "the one who calls has no right to this";
+    Count = 29, Call, "there is no such row, it has fewer vehicles, or it would have too many";
+    Share = 31, Call, "a row has no owner, or a participant would have more than 100 rows or 10,000,000 vehicles";
 }
 
 /// A refused call: the condition that applies first, and where.
@@ -95,9 +133,22 @@ impl Refusal {
         }
     }
 
-    /// The sentence of its number.
+    /// What is wrong, in a few words.
     pub const fn text(&self) -> &'static str {
         self.number.text()
+    }
+
+    /// Which season or row of the refused sheet it is of, counted from 1 as a report's text counts its rows; none
+    /// where it is of neither.
+    pub fn record(&self, sheet: &[u8]) -> Option<u64> {
+        let (before, size) = match self.number.part() {
+            Part::Season => (0, 8),
+            Part::Row => (8 * u64::from(*sheet.get(5)?), 24),
+            Part::Call if self.number == Number::Share && self.place > 0 => (8 * u64::from(*sheet.get(5)?), 24),
+            _ => return None,
+        };
+        let parking = if sheet.get(3..5)? == [1, 0] { 104 } else { 1160 };
+        Some(self.place.checked_sub(parking + before)? / size + 1)
     }
 }
 
@@ -108,7 +159,7 @@ impl ffi::Check {
     }
 }
 
-/// `refused 17 at 136: the tank is above 150.0 litres`.
+/// `refused 17 at 136: the tank is above 150.0 l`.
 impl fmt::Display for Refusal {
     fn fmt(&self, f: &mut fmt::Formatter<'_>) -> fmt::Result {
         write!(f, "refused {} at {}: {}", self.number.code(), self.place, self.text())

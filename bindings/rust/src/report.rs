@@ -110,10 +110,10 @@ pub const fn words_of(rows: usize) -> usize {
     ROW_WORDS * rows + LAST_WORDS
 }
 
-/// How many rows an accepted sheet has, by its head.
-pub(crate) fn rows_in(sheet: &[u8]) -> usize {
-    let upper = if sheet[3] == 4 { sheet[7] } else { 0 };
-    usize::from(u16::from_le_bytes([sheet[6], upper]))
+/// How many words the report of a sheet has; 0 where it is refused.
+pub fn report_words(sheet: &[u8]) -> usize {
+    // SAFETY: the sheet is handed over with its length, and the call does not keep it.
+    unsafe { ffi::evp_report_words(sheet.as_ptr(), sheet.len()) }
 }
 
 /// Writes the words of a sheet's report to the start of `words`, and answers how many they are. Refused: `words` keeps
@@ -122,36 +122,48 @@ pub fn report_into(sheet: &[u8], words: &mut [u64]) -> Result<usize, Refusal> {
     // SAFETY: both slices are handed over with their lengths, and the call keeps neither.
     let answer = unsafe { ffi::evp_report(sheet.as_ptr(), sheet.len(), words.as_mut_ptr(), words.len()) };
     answer.accepted()?;
-    Ok(words_of(rows_in(sheet)))
+    Ok(report_words(sheet))
 }
 
 /// The report of a sheet.
 pub fn report(sheet: &[u8]) -> Result<Report, Refusal> {
-    let mut words = vec![0; REPORT_WORDS];
-    let count = report_into(sheet, &mut words)?;
-    Ok(Report::of(&words[..count]))
+    check(sheet)?;
+    let mut words = vec![0; report_words(sheet)];
+    report_into(sheet, &mut words)?;
+    Ok(Report { words })
 }
 
-/// Where a sheet is refused; nothing where it is accepted.
+/// Where a sheet is refused; nothing where it is accepted. Makes no report.
 pub fn check(sheet: &[u8]) -> Result<(), Refusal> {
-    report(sheet).map(|_| ())
+    // SAFETY: the sheet is handed over with its length, and the call does not keep it.
+    unsafe { ffi::evp_check_sheet(sheet.as_ptr(), sheet.len()) }.accepted()
 }
 
-/// The lines that the program `report` prints: the report, or the one line `refused N at P`.
+/// A text: its length in bytes, and whether it is a report or the line of a refusal.
+#[derive(Clone, Copy, Debug, PartialEq, Eq)]
+pub struct TextWritten {
+    /// The bytes of the text; where the buffer has fewer nothing is written.
+    pub bytes: usize,
+    /// Nothing for a report; else the refusal that the one line tells.
+    pub refused: Option<Refusal>,
+}
+
+/// The lines that the program `report` prints, a refusal's `refused N at P` too.
 pub fn text(sheet: &[u8]) -> String {
     let (mut words, mut text) = (vec![0; REPORT_WORDS], vec![0; TEXT_BYTES]);
-    let length = text_into(sheet, &mut words, &mut text);
-    text.truncate(length);
+    let written = text_into(sheet, &mut words, &mut text);
+    text.truncate(written.bytes);
     String::from_utf8(text).expect("the text is ASCII")
 }
 
-/// Writes the text to the start of `text` where it fits, and answers its length; where it does not fit `text` keeps what
-/// it had. The words are lent for the report: with too few the text is `refused 22 at 0`. Takes no memory.
-pub fn text_into(sheet: &[u8], words: &mut [u64], text: &mut [u8]) -> usize {
+/// Writes the text to the start of `text` where it fits; where it does not, `text` keeps what it had. The words are
+/// lent for the report: with too few the text is `refused 22 at 0`. Takes no memory.
+pub fn text_into(sheet: &[u8], words: &mut [u64], text: &mut [u8]) -> TextWritten {
     // SAFETY: the slices are handed over with their lengths, cannot overlap, and the call keeps none.
-    unsafe {
+    let answer = unsafe {
         ffi::evp_text(sheet.as_ptr(), sheet.len(), words.as_mut_ptr(), words.len(), text.as_mut_ptr(), text.len())
-    }
+    };
+    TextWritten { bytes: answer.bytes as usize, refused: Refusal::of(answer.number, answer.place).err() }
 }
 
 /// The seven emission factors.
@@ -228,11 +240,30 @@ pub const SPECIES: [&str; 29] = [
     "1,3,5-trimethylbenzene",
 ];
 
-/// The masses of [`SPECIES`] of a mass in milligrams, as of the high of a report's grand total; they add up to it exactly.
+/// The masses of [`SPECIES`] of a mass in milligrams, as of the high of a report's grand total; they add up to it
+/// exactly.
 pub fn species(total: u64) -> [u64; 29] {
     let mut milligrams = [0; 29];
     // SAFETY: the array is handed over with its length.
     let answer = unsafe { ffi::evp_species(total, milligrams.as_mut_ptr(), milligrams.len()) };
     answer.accepted().expect("29 words are enough");
     milligrams
+}
+
+/// The species of a sheet's high total.
+#[derive(Clone, Copy, Debug, PartialEq, Eq)]
+pub struct Composition {
+    /// The high of the report's grand total, in milligrams.
+    pub total: u64,
+    /// The masses of [`SPECIES`], which add up to it.
+    pub milligrams: [u64; 29],
+}
+
+/// The species of a sheet's high total.
+pub fn species_of(sheet: &[u8]) -> Result<Composition, Refusal> {
+    let mut words = vec![0; report_words(sheet)];
+    // SAFETY: both slices are handed over with their lengths, and the call keeps neither.
+    let answer = unsafe { ffi::evp_species_of(sheet.as_ptr(), sheet.len(), words.as_mut_ptr(), words.len()) };
+    Refusal::of(answer.number, answer.place)?;
+    Ok(Composition { total: answer.total, milligrams: answer.milligrams })
 }

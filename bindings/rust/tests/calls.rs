@@ -48,6 +48,48 @@ fn numbers_are_those_of_the_header() {
     }
 }
 
+/// What a function of the header returns for the names of its cases.
+fn header_cases(header: &str, function: &str) -> Vec<(String, String)> {
+    let body = header.split_once(&format!("{function}(uint64_t number) {{")).expect("the function").1;
+    let body = body.split_once("\n}").unwrap().0;
+    let mut found = Vec::new();
+    for part in body.split(';').filter(|part| part.contains("return")) {
+        let (cases, text) = part.split_once("return").unwrap();
+        let text: String = text.split('"').skip(1).step_by(2).collect();
+        for case in cases.split("case ").skip(1) {
+            found.push((case.split_once(':').unwrap().0.to_string(), text.clone()));
+        }
+    }
+    found
+}
+
+#[test]
+fn texts_are_those_of_the_header() {
+    let header = header();
+    let (texts, places) = (header_cases(&header, "evp_number_text"), header_cases(&header, "evp_place_text"));
+    for &number in Number::ALL {
+        let name = header_name(number);
+        let of = |cases: &[(String, String)]| cases.iter().find(|case| case.0 == name).map(|case| case.1.clone());
+        assert_eq!(of(&texts).as_deref(), Some(number.text()), "{name}");
+        assert_eq!(of(&places).unwrap_or("call".into()), number.part().to_string(), "{name}");
+    }
+}
+
+#[test]
+fn the_record_of_a_refusal_is_counted_from_one() {
+    let mut sheet = sample("odometer");
+    let (season, row) = (1160 + 8, 1160 + 2 * 8 + 3 * 24);
+    sheet[row] = 77;
+    assert_eq!(check(&sheet).unwrap_err().record(&sheet), Some(4));
+    sheet[season] = 255;
+    sheet[season + 1] = 255;
+    assert_eq!(check(&sheet).unwrap_err().record(&sheet), Some(2));
+    sheet[0] = 0;
+    assert_eq!(check(&sheet).unwrap_err().record(&sheet), None);
+    let sheet = sample("table-3-5-day");
+    assert_eq!(SharedLedger::open(&sheet, &[1, 9, 1]).unwrap_err().record(&sheet), Some(2));
+}
+
 #[test]
 fn limits_and_names_are_those_of_the_header() {
     let header = header();
@@ -55,6 +97,7 @@ fn limits_and_names_are_those_of_the_header() {
         ("EVP_SHEET_BYTES", SHEET_BYTES as u64),
         ("EVP_REPORT_WORDS", REPORT_WORDS as u64),
         ("EVP_TEXT_BYTES", TEXT_BYTES as u64),
+        ("EVP_STACK_BYTES", STACK_BYTES as u64),
         ("EVP_SPECIES", SPECIES.len() as u64),
     ] {
         assert!(header.contains(&format!("#define {name} {value}\n")), "{name}");
@@ -72,7 +115,8 @@ fn a_refusal_is_told_in_words() {
     sheet[row + 7] = 255;
     let refusal = report(&sheet).unwrap_err();
     assert_eq!((refusal.number, refusal.place), (Number::Tank, row as u64));
-    assert_eq!(refusal.to_string(), "refused 17 at 112: the tank is above 150.0 litres");
+    assert_eq!((refusal.number.part(), refusal.record(&sheet)), (Part::Row, Some(1)));
+    assert_eq!(refusal.to_string(), "refused 17 at 112: the tank is above 150.0 l");
     let finding = explain(&sheet).unwrap();
     assert_eq!((finding.at, finding.bytes, finding.most), (row as u64 + 6, 2, 1500));
     assert_eq!(check(b""), Err(Refusal { number: Number::HeadShort, place: 0 }));
@@ -88,10 +132,36 @@ fn too_short_a_buffer_keeps_what_it_had() {
     assert_eq!(report_into(&sheet, &mut words), Ok(44));
     assert_eq!(words[44], 7);
     let mut text = [b'U'; 20];
-    let length = text_into(&sheet, &mut words, &mut text);
-    assert!(length > 20 && text == [b'U'; 20]);
-    assert_eq!(text_into(&sheet, &mut [], &mut text), 16);
+    let written = text_into(&sheet, &mut words, &mut text);
+    assert!(written.bytes > 20 && written.refused.is_none() && text == [b'U'; 20]);
+    let refused = Some(Refusal { number: Number::Room, place: 0 });
+    assert_eq!(text_into(&sheet, &mut [], &mut text), TextWritten { bytes: 16, refused });
     assert_eq!(&text[..17], b"refused 22 at 0\nU");
+}
+
+#[test]
+fn a_sheet_is_checked_without_a_report() {
+    let mut sheet = sample("odometer");
+    assert_eq!((check(&sheet), report_words(&sheet)), (Ok(()), words_of(10)));
+    sheet[1160] = 255;
+    sheet[1161] = 255;
+    let refusal = Refusal { number: Number::Days, place: 1160 };
+    assert_eq!((check(&sheet), report_words(&sheet)), (Err(refusal), 0));
+    assert_eq!(species_of(&sheet), Err(refusal));
+}
+
+#[test]
+fn the_species_of_a_sheet_are_those_of_its_total() {
+    let sheet = sample("region");
+    let total = report(&sheet).unwrap().total().high;
+    assert_eq!(species_of(&sheet), Ok(Composition { total, milligrams: species(total) }));
+    assert_eq!(species(total).iter().sum::<u64>(), total);
+}
+
+#[test]
+fn the_library_is_of_this_version() {
+    let (major, minor, patch) = library_version();
+    assert_eq!(format!("{major}.{minor}.{patch}"), env!("CARGO_PKG_VERSION"));
 }
 
 #[test]
@@ -161,7 +231,10 @@ fn two_sheets_pool() {
     let mut other = south.clone();
     other[3] = 3;
     let refused = pool(&north, &other).unwrap_err();
-    assert_eq!(refused.to_string(), "second sheet: refused 3 at 3: the version is not 1 to 4");
+    assert_eq!(
+        refused.to_string(),
+        "second sheet: refused 3 at 3: the version is not 1 to 4, or of two sheets to pool not 4"
+    );
     assert_eq!(pool(&other, &north).unwrap_err().sheet, PoolSheet::First);
     other[3] = 4;
     other[1160] ^= 1;

@@ -1,6 +1,6 @@
 //! The crate against the programs `report` and `species`, on all samples and on damaged ones.
 mod support;
-use evaporation::{check, explain, report, species, text, words_of, Refusal, SPECIES};
+use evaporation::{check, explain, report, species_of, text, words_of, Composition, Refusal, SPECIES};
 use std::fs;
 use support::{damaged, printed, samples, top, Sample};
 
@@ -22,12 +22,12 @@ fn lines(sheet: &[u8]) -> String {
 }
 
 fn species_lines(sheet: &[u8]) -> String {
-    let high = match report(sheet) {
-        Ok(report) => report.total().high,
+    let Composition { total, milligrams } = match species_of(sheet) {
+        Ok(composition) => composition,
         Err(Refusal { number, place }) => return format!("refused {} at {place}\n", number.code()),
     };
-    let mut made = format!("EVP {} total {high}\n", sheet[3]);
-    for (name, mass) in SPECIES.iter().zip(species(high)) {
+    let mut made = format!("EVP {} total {total}\n", sheet[3]);
+    for (name, mass) in SPECIES.iter().zip(milligrams) {
         made += &format!("{name} {mass}\n");
     }
     made
