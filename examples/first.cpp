@@ -10,7 +10,8 @@ int main() {
     std::vector<std::uint64_t> words(evp_report_words(sheet, input.size())); // 0 where the sheet is refused
     const evp_check answer = evp_report(sheet, input.size(), words.data(), words.size());
     if (answer.number != EVP_ACCEPTED) {
-        std::cout << "refused " << answer.number << " at " << answer.place << ": " << evp_number_text(answer.number) << '\n';
+        std::cout << "refused " << answer.number << " at " << answer.place << ": ";
+        std::cout << evp_number_text(answer.number) << '\n';
         return 1;
     }
     std::cout << "total " << words.end()[-2] << " to " << words.end()[-1] << " mg\n";

@@ -72,7 +72,8 @@ def with_names(body: str) -> str:
 
 def with_pages(body: str) -> str:
     """Links to a document lead to its page."""
-    return re.sub(r'href="(?!\w+:)([^"#]*)\.md(#[^"]*)?"', lambda found: 'href="%s.html%s"' % (found[1], found[2] or ""), body)
+    return re.sub(r'href="(?!\w+:)([^"#]*)\.md(#[^"]*)?"',
+                  lambda found: 'href="%s.html%s"' % (found[1], found[2] or ""), body)
 
 
 def with_documents(body: str, here: Path, folder: Path) -> str:
@@ -96,7 +97,8 @@ def page(path: Path, folder: Path) -> str:
     body = body.replace("<table>", '<div class="wide"><table>').replace("</table>", "</table></div>")
     heading = re.search(r"<h1[^>]*>(.*?)</h1>", body, re.S)
     start = "../" * (len(path.relative_to(folder).parts) - 1) + "START-HERE.html"
-    return PAGE.format(title=html.escape(plain(heading[1]) if heading else path.stem), style=STYLE, start=start, body=body)
+    title = html.escape(plain(heading[1]) if heading else path.stem)
+    return PAGE.format(title=title, style=STYLE, start=start, body=body)
 
 
 def without_strangers(text: str, path: Path, folder: Path, repository: Path) -> str:

@@ -22,7 +22,8 @@ LANGUAGES = {"c", "cpp", "rust", "python"}
 def written(text: str) -> str:
     """The document with the files in their blocks."""
     def block(found: re.Match) -> str:
-        return "<!-- %s -->\n```%s\n%s```" % (found["path"], found["kind"], (TOP / found["path"]).read_text(encoding="utf-8"))
+        shown = (TOP / found["path"]).read_text(encoding="utf-8")
+        return "<!-- %s -->\n```%s\n%s```" % (found["path"], found["kind"], shown)
 
     return BLOCK.sub(block, text)
 
