@@ -44,7 +44,7 @@ static void expect_sums(const char *mode) {
     sum = evp_add_cells(most, one);
     expect(mode, "the largest sum", bits_of(sum.cell.high), bits_of(9007199254740992.0));
     const struct evp_row_words words = {0, 5, 0, 0, 0, 0};
-    const struct evp_travel travel = {true, 1, 1, 1, 1, 1};
+    const struct evp_travel travel = {1, 1, 1, 1, 1, 1};
     struct evp_row_cells row = evp_cells_of_row(words, travel);
     expect(mode, "the low of a row", bits_of(row.urban.low), bits_of(0.0));
     expect(mode, "the high of a row", bits_of(row.urban.high), bits_of(5.0));
