@@ -10,7 +10,8 @@ int main(void) {
     size_t bytes = fread(sheet, 1, sizeof sheet, stdin);
     struct evp_check answer = evp_report(sheet, bytes, words, EVP_REPORT_WORDS);
     if (answer.number != EVP_ACCEPTED) {
-        printf("refused %" PRIu64 " at %" PRIu64 ": %s\n", answer.number, answer.place, evp_number_text(answer.number));
+        printf("refused %" PRIu64 " at %" PRIu64 ": ", answer.number, answer.place);
+        printf("%s\n", evp_number_text(answer.number));
         return 1;
     }
     size_t count = evp_report_words(sheet, bytes);
