@@ -22,7 +22,7 @@ CALLS = {
     22: "the room that was lent is too small",
     23: "there is no such season, row or factor",
     27: "a low is above its high, a mass is above 2^53 mg, or a cell is none",
-    28: "a mileage or a speed is not 1 to 1,000,000",
+    28: "a mileage or a speed is not 1 to 1,000,000, or town is neither 0 nor 1",
     29: "there is no such row, it has fewer vehicles, or it would have too many",
     30: "the one who calls has no right to this",
     31: "a row has no owner, or a participant would have more than 100 rows or 10,000,000 vehicles",

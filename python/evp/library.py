@@ -184,6 +184,12 @@ class Finding(NamedTuple):
     most: int
 
 
+class Composition(NamedTuple):
+    """The masses of SPECIES of a sheet's high total, in milligrams."""
+    total: int
+    milligrams: list[int]
+
+
 class RowRead(NamedTuple):
     """A row of a shared ledger."""
     count: int
@@ -200,9 +206,11 @@ def _struct(name: str, *members: str | tuple) -> type[ctypes.Structure]:
 
 _Check = _struct("evp_check", "number", "place")
 _FactorBand = _struct("evp_factor_band", "number", "place", "low", "high")
-_PoolCheck = _struct("evp_pool_check", "number", "place", "sheet")
+_TextCheck = _struct("evp_text_check", "number", "place", "bytes")
+_PoolCheck = _struct("evp_pool_check", "number", "place", "sheet", "bytes")
+_Composition = _struct("evp_composition", "number", "place", "total", ("milligrams", c_uint64 * len(SPECIES)))
 _RowWords = _struct("evp_row_words", *("%s_%s" % (name, end) for name in MECHANISMS for end in Band._fields))
-_Travel = _struct("evp_travel", *Travel._fields)  # `town` as a number 0 or 1 has the bytes of a bool too
+_Travel = _struct("evp_travel", *Travel._fields)
 _Cell = _struct("evp_cell", "kind", ("low", c_double), ("high", c_double))
 _RowCells = _struct("evp_row_cells", "number", "place", ("urban", _Cell), ("rural", _Cell), ("highway", _Cell))
 _CellSum = _struct("evp_cell_sum", "number", "place", ("cell", _Cell))
@@ -219,10 +227,14 @@ _SHARED = (*_CHANGED, *_SHEET, *_WORDS)  # a sheet, its owners, its words
 
 # Every call: what it answers and what it takes.
 CALLS: dict[str, tuple] = {
+    "evp_library_version": (c_uint64,),
+    "evp_check_sheet": (_Check, *_SHEET),
+    "evp_report_words": (c_size_t, *_SHEET),
     "evp_report": (_Check, *_SHEET, *_WORDS),
-    "evp_text": (c_size_t, *_SHEET, *_WORDS, *_CHANGED),
+    "evp_text": (_TextCheck, *_SHEET, *_WORDS, *_CHANGED),
     "evp_factor": (_FactorBand, *_SHEET, c_uint64, c_uint64, c_uint64),
     "evp_species": (_Check, c_uint64, *_WORDS),
+    "evp_species_of": (_Composition, *_SHEET, *_WORDS),
     "evp_cells_of_row": (_RowCells, _RowWords, _Travel),
     "evp_add_cells": (_CellSum, _Cell, _Cell),
     "evp_arrive": (_Check, *_CHANGED, *_WORDS, c_uint64, c_uint64),
@@ -305,25 +317,34 @@ class Library:
                 handed.append(len(value))
         return self.calls["evp_" + name](*handed)
 
+    def version(self) -> tuple[int, int, int]:
+        """Major, minor and patch."""
+        number = self._call("library_version")
+        return number // 10 ** 6, number // 1000 % 1000, number % 1000
+
+    def check(self, sheet: bytes) -> Refusal | None:
+        """Where a sheet stops, or None where it is accepted."""
+        check = self._call("check_sheet", sheet)
+        return Refusal(check.number, check.place) if check.number else None
+
+    def _room(self, sheet: bytes) -> ctypes.Array:
+        """As many words as the report of a sheet has; none where it is refused."""
+        return (c_uint64 * self._call("report_words", sheet))()
+
     def words(self, sheet: bytes) -> list[int]:
         """The words of a sheet's report."""
-        words = (c_uint64 * REPORT_WORDS)()
+        words = self._room(sheet)
         _accepted(self._call("report", sheet, words))
-        return words[:6 * row_count(sheet) + LAST_WORDS]
+        return list(words)
 
     def report(self, sheet: bytes) -> Report:
         return report_of(self.words(sheet))
 
-    def check(self, sheet: bytes) -> Refusal | None:
-        """Where a sheet stops, or None where it is accepted."""
-        check = self._call("report", sheet, (c_uint64 * 0)())
-        return None if check.number == Number.ROOM else Refusal(check.number, check.place)
-
     def text(self, sheet: bytes) -> str:
         """The lines that the program `report` prints, a refusal's too."""
         text = (c_uint8 * TEXT_BYTES)()
-        size = self._call("text", sheet, (c_uint64 * REPORT_WORDS)(), text)
-        return bytes(text[:size]).decode("ascii")
+        answer = self._call("text", sheet, self._room(sheet), text)
+        return bytes(text[:answer.bytes]).decode("ascii")
 
     def factor(self, sheet: bytes, season: int, row: int, factor: int) -> Band:
         """A factor, 1 to 7, of a season and a row counted from 0, in micrograms."""
@@ -336,6 +357,11 @@ class Library:
         _accepted(self._call("species", total, milligrams))
         return list(milligrams)
 
+    def species_of(self, sheet: bytes) -> Composition:
+        """Those of a sheet's high total."""
+        answer = _accepted(self._call("species_of", sheet, self._room(sheet)))
+        return Composition(answer.total, answer.milligrams[:])
+
     def cells_of_row(self, masses: Masses, travel: Travel) -> RowCells:
         words = _RowWords(*(word for band in masses for word in band))
         answer = _accepted(self._call("cells_of_row", words, _Travel(*map(_word, travel))))
@@ -347,9 +373,8 @@ class Library:
     def pool(self, first: bytes, second: bytes) -> bytes:
         """The pooled sheet of two."""
         pooled = (c_uint8 * SHEET_BYTES)()
-        _accepted(self._call("pool", first, second, pooled))
-        rows = row_count(first) + row_count(second)
-        return bytes(pooled)[:len(first) + 24 * (rows - row_count(first))]
+        answer = _accepted(self._call("pool", first, second, pooled))
+        return bytes(pooled)[:answer.bytes]
 
     def mark(self, filed: Filed, band: Band) -> Verdict:
         answer = self._call("mark", _Filed(*map(_word, filed)), band.low, band.high)

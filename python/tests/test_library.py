@@ -8,7 +8,7 @@ from ctypes import sizeof
 
 from support import GRID_TEXT, LIBRARY, TEXT, TOP, DeskTestCase, sample, samples
 
-from evp import layout, library, sheet
+from evp import explain, layout, library, sheet
 from evp.library import Band, Cell, Filed, Kind, Masses, MissingCall, Number, Outcome, Refusal, Travel, Unit
 from tools import reckoning
 from tools.reckoning import cells as second_cells
@@ -19,6 +19,7 @@ from tools.reckoning import species as second_species
 HEADER = (TOP / "include" / "evaporation.h").read_text(encoding="utf-8")
 STRUCTS = {
     "evp_check": library._Check, "evp_factor_band": library._FactorBand, "evp_pool_check": library._PoolCheck,
+    "evp_text_check": library._TextCheck, "evp_composition": library._Composition,
     "evp_row_words": library._RowWords, "evp_travel": library._Travel, "evp_cell": library._Cell,
     "evp_row_cells": library._RowCells, "evp_cell_sum": library._CellSum, "evp_row": library._Row,
     "evp_totals": library._Totals, "evp_filed": library._Filed, "evp_verdict": library._Verdict,
@@ -35,8 +36,16 @@ class HeaderTest(unittest.TestCase):
         self.assertEqual(found, {number.name: number.value for number in Number})
 
     def test_calls(self):
-        found = set(re.findall(r"\b(evp_\w+)\(", re.sub(r"/\*.*?\*/", "", HEADER, flags=re.S)))
-        self.assertLessEqual(found, set(library.CALLS))
+        """Those that the header has itself are no calls."""
+        text = re.sub(r"/\*.*?\*/|^static inline .*?^\}$", "", HEADER, flags=re.S | re.M)
+        self.assertEqual(set(re.findall(r"\b(evp_\w+)\(", text)), set(library.CALLS))
+
+    def test_texts(self):
+        """The header and the desk say the same of what a call refuses besides a sheet."""
+        found = dict(re.findall(r'case EVP_(\w+):\s+return "(.*?)";', HEADER))
+        for number, text in explain.CALLS.items():
+            if number not in (5, 26):  # which the desk says of a pool
+                self.assertEqual(found[Number(number).name], text)
 
     def test_sizes(self):
         for name, value in (("SHEET_BYTES", library.SHEET_BYTES), ("REPORT_WORDS", library.REPORT_WORDS),
@@ -73,6 +82,15 @@ class ReportTest(unittest.TestCase):
                      for band in masses for word in band]
             expected = [int(word) for line in lines[1:-1] for word in line[-6:]]
             self.assertEqual((found, report.total), (expected, Band(*map(int, lines[-1][1:]))))
+
+    def test_words(self):
+        for path in samples():
+            data = path.read_bytes()
+            self.assertEqual(len(LIBRARY.words(data)), 6 * layout.row_count(data) + library.LAST_WORDS)
+
+    def test_version(self):
+        found = re.findall(r"#define EVP_LIBRARY_(?:MAJOR|MINOR|PATCH) (\d+)\n", HEADER)
+        self.assertEqual(LIBRARY.version(), tuple(map(int, found)))
 
     def test_exact_masses(self):
         data = sample("table-3-5")
@@ -119,6 +137,15 @@ class OtherCallsTest(unittest.TestCase):
             with self.assertRaises(OverflowError):
                 LIBRARY.species(total)
 
+    def test_species_of_a_sheet(self):
+        for path in samples():
+            data = path.read_bytes()
+            found, high = LIBRARY.species_of(data), LIBRARY.report(data).total.high
+            self.assertEqual(found, (high, second_species.split(high)))
+        with self.assertRaises(Refusal) as caught:
+            LIBRARY.species_of(data[:-1])
+        self.assertEqual((caught.exception.number, caught.exception.place), (Number.LENGTH, 0))
+
     def test_cells(self):
         travel = Travel(True, 40, 35, 25, 60, 100)
         for masses in LIBRARY.report(sample("survey")).rows:
@@ -128,9 +155,10 @@ class OtherCallsTest(unittest.TestCase):
             found = LIBRARY.cells_of_row(masses, travel)
             self.assertEqual([(cell.kind, bits(int(cell.low)), bits(int(cell.high))) for cell in found],
                              [tuple(cell) for cell in expected])
-        with self.assertRaises(Refusal) as caught:
-            LIBRARY.cells_of_row(masses, travel._replace(rural_speed=0))
-        self.assertEqual(caught.exception.number, Number.TRAVEL)
+        for wrong in (travel._replace(rural_speed=0), travel._replace(town=2), travel._replace(town=2 ** 64 - 1)):
+            with self.assertRaises(Refusal) as caught:
+                LIBRARY.cells_of_row(masses, wrong)
+            self.assertEqual(caught.exception.number, Number.TRAVEL)
         with self.assertRaises(Refusal) as caught:
             LIBRARY.cells_of_row(Masses(Band(2, 1), Band(0, 0), Band(0, 0)), travel)
         self.assertEqual(caught.exception.number, Number.CELL)

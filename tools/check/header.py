@@ -1,4 +1,5 @@
-"""include/evaporation.h against the exported functions and the #[repr(C)] structs of crates/evaporation.
+"""include/evaporation.h against the exported functions of crates/evaporation
+and the #[repr(C)] structs that they take and answer.
 
 Both sides are brought to one form. A function is its name, its parameters in
 their order and what it answers; a slice is two parameters, a pointer and a
@@ -22,6 +23,7 @@ ALL_CRATES = "crates/*/src/**/*.rt"
 SCALARS = {"u8": "uint8_t", "u32": "uint32_t", "u64": "uint64_t", "usize": "size_t", "f64": "double", "bool": "bool"}
 SIZES = {"uint8_t": 1, "bool": 1, "uint32_t": 4, "uint64_t": 8, "size_t": 8, "double": 8}
 LENGTHS = ("bytes", "count")
+INLINE = re.compile(r"^static inline .*?^\}$", re.M | re.S)  # a function that the header itself has
 
 
 class Member(NamedTuple):
@@ -101,12 +103,18 @@ def header_member(written: str) -> list[Member]:
     return found
 
 
+def header_parameters(written: str) -> list[Member]:
+    if written == "void":
+        return []
+    return [member for one in written.split(",") for member in header_member(one)]
+
+
 def header_source(text: str) -> Source:
     text = re.sub(r"/\*.*?\*/", "", text, flags=re.S)
     text = re.sub(r"^#(?:.*\\\n)*.*$", "", text, flags=re.M)
+    text = INLINE.sub("", text)
     functions = {
-        name: Function(name, [member for one in parameters.split(",") for member in header_member(one)],
-                       answer.removeprefix("struct "))
+        name: Function(name, header_parameters(parameters), answer.removeprefix("struct "))
         for answer, name, parameters in re.findall(r"((?:struct )?\w+) (evp_\w+)\(([^)]*)\);", text)
     }
     structs = {

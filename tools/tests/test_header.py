@@ -76,6 +76,18 @@ class HeaderTest(unittest.TestCase):
             found = list(header.faults(header.crate_source(crate, crate), header.header_source(text)))
             self.assertEqual(len(found), faults, found)
 
+    def test_no_parameters(self):
+        crate = 'pub extern "C" fn evp_c() -> u64'
+        for text, faults in (("uint64_t evp_c(void);", 0), ("uint64_t evp_c(uint64_t row);", 1)):
+            found = list(header.faults(header.crate_source(crate, crate), header.header_source(text)))
+            self.assertEqual(len(found), faults, found)
+
+    def test_inline(self):
+        """A function that the header itself has is none of the crate, and neither is what it calls."""
+        inline = "static inline const char *evp_d(uint64_t x) {\n    return evp_e(x);\n}\n"
+        self.assertEqual(self.faults(HEADER + inline), [])
+        self.assertEqual(len(self.faults(HEADER + "uint64_t evp_d(uint64_t x);\n")), 1)
+
     def test_exchanged_slices(self):
         self.assertTrue(self.changed("const uint8_t *sheet, size_t sheet_bytes, uint64_t *words, size_t words_count",
                                      "uint64_t *words, size_t words_count, const uint8_t *sheet, size_t sheet_bytes"))
