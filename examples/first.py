@@ -1,12 +1,12 @@
 """The total of the sheet on standard input, or why it is refused."""
 import sys
 
-from evp.library import Refusal, load
+from evp.explain import explain
+from evp.library import load
 
 library = load()
-try:
-    report = library.report(sys.stdin.buffer.read())
-except Refusal as refusal:
-    print(refusal)
+sheet = sys.stdin.buffer.read()
+if library.check(sheet):
+    print(explain(library, sheet).line)
     sys.exit(1)
-print("total %d to %d mg" % report.total)
+print("total %d to %d mg" % library.report(sheet).total)

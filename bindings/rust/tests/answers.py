@@ -60,6 +60,12 @@ def ledger_lines(library, sheet: bytes):
 
 def lines(library, sheet: bytes):
     yield from library.text(sheet).splitlines()
+    refusal = library.check(sheet)
+    yield "refused %d at %d" % (refusal.number, refusal.place) if refusal else "accepted"
+    composition = answer(library.species_of, sheet)
+    if not isinstance(composition, str):
+        composition = " ".join(map(str, (composition.total, *composition.milligrams)))
+    yield composition
     yield " ".join(map(str, library.explain(sheet)))
     yield from factor_lines(library, sheet)
     for part in (report_lines, ledger_lines):
@@ -73,6 +79,7 @@ def lines(library, sheet: bytes):
 
 def main():
     library = load()
+    print("%d %d %d" % library.version())
     for path in sorted(Path(sys.argv[1]).glob("*.evp"), key=lambda path: path.stem):
         print("# " + path.name)
         for line in lines(library, path.read_bytes()):

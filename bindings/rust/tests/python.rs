@@ -86,6 +86,11 @@ fn pooled(sheet: &[u8], other: &[u8]) -> String {
 fn lines(Sample { name, sheet }: &Sample) -> Vec<String> {
     let mut lines = vec![format!("# {name}.evp")];
     lines.extend(text(sheet).lines().map(String::from));
+    lines.push(done(check(sheet), "accepted"));
+    lines.push(species_of(sheet).map_or_else(refused, |found| {
+        let numbers = [found.total].into_iter().chain(found.milligrams);
+        numbers.map(|number| number.to_string()).collect::<Vec<_>>().join(" ")
+    }));
     lines.push(finding(sheet));
     lines.extend(Factor::ALL.map(|one| factor(sheet, 0, 1, one).map_or_else(refused, band)));
     for part in [report_lines(sheet), ledger_lines(sheet)] {
@@ -113,7 +118,9 @@ fn answers_as_the_python_binding_has_them() {
     fs::remove_dir_all(&folder).unwrap();
     assert!(run.status.success(), "{}", String::from_utf8_lossy(&run.stderr));
     let python = String::from_utf8(run.stdout).unwrap();
-    let ours: Vec<String> = sheets.iter().flat_map(lines).collect();
+    let (major, minor, patch) = library_version();
+    let mut ours = vec![format!("{major} {minor} {patch}")];
+    ours.extend(sheets.iter().flat_map(lines));
     for (i, (ours, theirs)) in ours.iter().zip(python.lines()).enumerate() {
         assert_eq!(ours, theirs, "line {}", i + 1);
     }
