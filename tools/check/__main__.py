@@ -4,7 +4,9 @@ import argparse
 import sys
 from pathlib import Path
 
-from tools.check import bounds, edits, figures, header, lines, names, pressures, promises, samples
+from tools.check import (
+    bindings, bounds, edits, figures, header, lines, names, pressures, promises, samples, snippets,
+)
 from tools.command import add_command, described, report, run
 
 
@@ -47,6 +49,16 @@ def run_header(_: argparse.Namespace) -> int:
         header.HEADER, len(theirs.functions), len(theirs.structs)))
 
 
+def run_bindings(_: argparse.Namespace) -> int:
+    return finish("bindings", bindings.faults(), "%s declares the %d functions of %s" % (
+        bindings.RUST, bindings.count(), header.HEADER))
+
+
+def run_snippets(given: argparse.Namespace) -> int:
+    return finish("snippets", snippets.faults(given.write), "%s shows %d files as they are, and names every call" % (
+        snippets.PAGE, snippets.count()))
+
+
 def run_promises(_: argparse.Namespace) -> int:
     return finish("promises", promises.faults(), "%d sentences of %s point to what is there" % (
         len(list(promises.rows())), promises.PAGE))
@@ -80,11 +92,13 @@ def parser() -> argparse.ArgumentParser:
         ("samples", samples, run_samples), ("pressures", pressures, run_pressures), ("edits", edits, run_edits),
         ("figures", figures, run_figures), ("header", header, run_header), ("promises", promises, run_promises),
         ("bounds", bounds, run_bounds), ("names", names, run_names), ("lines", lines, run_lines),
+        ("bindings", bindings, run_bindings), ("snippets", snippets, run_snippets),
     ):
         about, _, more = module.__doc__.partition("\n\n")
         found[name] = add_command(commands, name, about, "python3 -m tools.check " + name, "\n\n" + more)
         found[name].set_defaults(run=run_it)
     found["samples"].add_argument("--write", action="store_true", help="store what `report` prints")
+    found["snippets"].add_argument("--write", action="store_true", help="put the files into the document")
     found["edits"].add_argument("--logs", action="store_true", help="look at the logs under target/must-fail too")
     found["edits"].add_argument("--try", dest="one", metavar="FILE.edit", help="try this edit alone, by rt dev")
     found["edits"].add_argument("crates", nargs="*", metavar="CRATE", help="the edits of these crates alone")

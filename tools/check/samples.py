@@ -4,7 +4,8 @@ What `report` prints is held against the stored report, samples/NAME.report;
 `species` must print the species of that report's last word as the reckoning has
 them. Of a sheet that lacks its last byte both must print the same refusal. The
 examples of docs/SHEET.md must be stored reports, word for word, and the start of
-such species.
+such species. A sheet that is named must be answered as one on standard input; a
+wrong call, a file that is not there and a folder must be said on standard error.
 
 The programs are target/bin/report and target/bin/species, as `rt check report
 species` or `rt ci` made them.
@@ -12,6 +13,7 @@ species` or `rt ci` made them.
 
 import re
 import subprocess
+import tempfile
 from collections.abc import Iterator, Sequence
 from pathlib import Path
 
@@ -30,6 +32,30 @@ def printed(program: Path, data: bytes) -> bytes:
     if run.returncode or run.stderr:
         raise ValueError("%s: status %d, %r on standard error" % (program.name, run.returncode, run.stderr))
     return run.stdout
+
+
+def named(program: Path, *words: str | Path) -> tuple[bytes, str]:
+    """What a program prints for its arguments, and what it says on standard error."""
+    run = subprocess.run([program, *words], stdin=subprocess.DEVNULL, capture_output=True, timeout=60)
+    return run.stdout, run.stderr.decode()
+
+
+def argument_faults(program: Path, sheets: Sequence[Path]) -> Iterator[str]:
+    """What a program does otherwise than it should with its arguments."""
+    for sheet in sheets:
+        if named(program, sheet) != (printed(program, sheet.read_bytes()), ""):
+            yield "%s samples/%s: another answer than on standard input" % (program.name, sheet.name)
+    usage = "usage: %s [FILE]   without FILE the sheet is read from standard input\n" % program.name
+    with tempfile.TemporaryDirectory() as folder:
+        missing = Path(folder, "a sheet that is not there.evp")
+        for words, said in (
+            ((sheets[0], sheets[0]), usage),
+            (("--help",), usage),
+            ((missing,), "%s: cannot open %s: No such file or directory\n" % (program.name, missing)),
+            ((folder,), "%s: cannot read %s: Is a directory\n" % (program.name, folder)),
+        ):
+            if named(program, *words) != (b"", said):
+                yield "%s %s: it does not say %r and nothing else" % (program.name, " ".join(map(str, words)), said)
 
 
 def blocks(text: str) -> list[str]:
@@ -104,6 +130,8 @@ def check(write: bool) -> Iterator[str]:
         except (ValueError, subprocess.TimeoutExpired) as error:
             yield "%s: %s" % (sheet.name, error)
             return
+    for program in (REPORT, SPECIES):
+        yield from argument_faults(program, sheets)
     if write:
         for sheet, report in reports.items():
             sheet.with_suffix(".report").write_bytes(report)

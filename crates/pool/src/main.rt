@@ -50,33 +50,6 @@ fn answer(a: &[u8], b: &[u8]) {
     }
 }
 
-// Opens the file that an argument names, or says why it cannot and answers a number below 0.
-fn open(i: usize) -> i32 {
-    let mut path = io::buffer();
-    let n = os::arg(i, &mut path);
-    if os::errno() != 0 {
-        os::fail(b"pool");
-        return -1;
-    }
-    let fd = os::open_read(&path[..n]);
-    if fd < 0 {
-        os::fail(&path[..n]);
-    }
-    fd
-}
-
-// Whether a file of which n bytes were read ends there, or has more than any sheet. Where a read failed before, this one fails too, or gives
-// bytes. Says so where not, and closes the file.
-fn is_whole(fd: i32, n: usize) -> bool {
-    let mut more = [0u8; 1];
-    let whole = (ROOM <= n) | (libc::read(fd, &mut more) == 0);
-    if !whole {
-        io::write_all(STDERR_FILENO, b"pool: cannot read a sheet\n");
-    }
-    libc::close(fd);
-    whole
-}
-
 fn main() {
     if os::arg_count() != 3 {
         io::write_all(STDERR_FILENO, b"usage: pool FIRST SECOND\n");
@@ -84,21 +57,15 @@ fn main() {
     }
     let mut first = [0u8; ROOM];
     let mut second = [0u8; ROOM];
-    let fd = open(1);
-    if fd < 0 {
+    let a = program::read_argument(b"pool", 1, &mut first);
+    if !a.read {
         return;
     }
-    let n = io::read_full(fd, &mut first);
-    if !is_whole(fd, n) {
+    let b = program::read_argument(b"pool", 2, &mut second);
+    if !b.read {
         return;
     }
-    let next = open(2);
-    if next < 0 {
-        return;
-    }
-    let m = io::read_full(next, &mut second);
-    if !is_whole(next, m) {
-        return;
-    }
+    let n = a.count;
+    let m = b.count;
     answer(&first[..n], &second[..m]);
 }
