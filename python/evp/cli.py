@@ -10,6 +10,7 @@ from evp import commands
 from evp.files import InputError
 from evp.library import MissingCall
 from evp.masses import UNITS
+from evp.pages import command as page_command
 
 STATUS = "Exit status 0 fine, 1 refused or a figure wrong, 2 not readable or not understood."
 
@@ -43,6 +44,7 @@ def parser() -> Parser:
     _add_sheet_commands(add)
     _add_table_commands(add)
     _add_report_commands(add)
+    page_command.add_parser(_add, add)
     return top
 
 
