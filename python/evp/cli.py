@@ -43,6 +43,7 @@ def parser() -> Parser:
     _add_sheet_commands(add)
     _add_table_commands(add)
     _add_report_commands(add)
+    _add_desk(add)
     return top
 
 
@@ -117,6 +118,24 @@ def _add_report_commands(add):
     pool.add_argument("first", metavar="FIRST")
     pool.add_argument("second", metavar="SECOND")
     pool.add_argument("-o", dest="output", metavar="SHEET", required=True)
+
+
+def _add_desk(add):
+    desk = _add(add, "desk", commands.desk,
+                "serves the desk's pages to browsers of this machine, and the ledger of a course where one is named",
+                "evp desk\nevp desk course.db --new north.evp --owners owners.csv\nevp desk course.db\n"
+                "evp desk course.db --export north-now.evp", "force")
+    desk.add_argument("ledger", nargs="?", metavar="LEDGER", help="the file of a course's ledger")
+    desk.add_argument("--new", metavar="SHEET", help="make LEDGER from this sheet, and say its nine links once")
+    desk.add_argument("--owners", metavar="FILE",
+                      help="csv: row,participant; without it the rows are dealt out in turn")
+    desk.add_argument("--renew", metavar="WHO", help="a new link for one of the nine; the old one is none any more")
+    desk.add_argument("--export", metavar="SHEET", help="write the sheet as it stands, and serve nothing")
+    desk.add_argument("--port", type=int, default=8765, metavar="N", help="8765 where none is given")
+    desk.add_argument("--host", default="127.0.0.1", metavar="ADDRESS",
+                      help="an address of this machine, for a network; without it this machine alone is served")
+    desk.add_argument("--patience", type=int, default=30, metavar="SECONDS",
+                      help="how long a request may take to come in; 30 where none is given")
 
 
 def _complain(text: str):

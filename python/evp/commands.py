@@ -303,3 +303,11 @@ def _pool_refusal(library: Library, refusal: Refusal, names: tuple[str, str], sh
     if explanation.number != refusal.number:
         line = "%s: only sheets of version 4 are pooled; evp convert --to 4 makes one" % refusal
     return "%s: %s" % (name_shown(name), line)
+
+
+# ------------------------------------------------------------------ the desk
+
+
+def desk(given: Namespace) -> int:
+    from evp.desk.command import run
+    return run(get_library(), given)

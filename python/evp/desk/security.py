@@ -1,0 +1,39 @@
+"""What is turned away before a page is asked, and what every answer carries."""
+
+from flask import Flask, Response, abort, request
+
+MOST_BODY = 4_000_000  # bytes of any request: thirty sheets with their tables fit in
+POLICY = "default-src 'none'; style-src 'unsafe-inline'; img-src data:; form-action 'self'; base-uri 'none'"
+
+HEADERS = {
+    "Cache-Control": "no-store",  # a page has a secret in its address
+    "Content-Security-Policy": POLICY + "; frame-ancestors 'none'",
+    "Cross-Origin-Opener-Policy": "same-origin",
+    "Cross-Origin-Resource-Policy": "same-origin",
+    "Referrer-Policy": "no-referrer",
+    "X-Content-Type-Options": "nosniff",
+    "X-Frame-Options": "DENY",
+}
+
+
+def hosts_of(address: str, port: int) -> frozenset[str]:
+    """The Host headers of a desk that listens at an address: a page from elsewhere whose name was led to this machine
+    has another."""
+    names = {"[%s]" % address if ":" in address else address}
+    if address in ("127.0.0.1", "::1", "localhost"):
+        names |= {"127.0.0.1", "localhost", "[::1]"}
+    return frozenset("%s:%d" % (name, port) for name in names) | (names if port == 80 else frozenset())
+
+
+def protect(app: Flask, hosts: frozenset[str]):
+    """Checks each request for its host, and gives each answer its headers."""
+    @app.before_request
+    def check_host():
+        if request.environ.get("HTTP_HOST", "").lower() not in hosts:
+            abort(421)
+
+    @app.after_request
+    def add_headers(answer: Response) -> Response:
+        for name, value in HEADERS.items():
+            answer.headers.setdefault(name, value)
+        return answer
