@@ -10,16 +10,7 @@ from werkzeug.exceptions import HTTPException
 
 from evp.desk import security, views
 from evp.desk.ledger import CourseLedger
-from evp.desk.render import message
 
-WORDS = {  # of what is turned away: a heading and a sentence
-    400: ("Not understood", "The desk did not understand this request."),
-    404: ("No such page", "A link must be taken whole: its last part is a key. Was it copied to its end?"),
-    405: ("Not done", "This page is read and not written to."),
-    413: ("Too long", "This is longer than anything that is wanted here. Nothing has changed."),
-    421: ("Another name", "This desk does not go by that name. Use the address that its terminal shows."),
-    500: ("A fault of the desk", "This page could not be made. What was answered before is kept."),
-}
 
 
 def create_app(hosts: frozenset[str], ledger: CourseLedger | None = None) -> Flask:
@@ -45,8 +36,8 @@ def _failure(error: Exception) -> Response:
     if isinstance(error, HTTPException):
         if error.code is None or error.code < 400:
             return error.get_response()
-        return message(error.code, *WORDS.get(error.code, WORDS[400]))
+        return security.turned_away(error.code)
     print("evp: desk: a page failed: %s" % type(error).__name__, file=sys.stderr)
     if os.environ.get("EVP_TRACEBACK"):
         traceback.print_exception(error)
-    return message(500, *WORDS[500])
+    return security.turned_away(500)

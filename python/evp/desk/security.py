@@ -1,6 +1,8 @@
 """What is turned away before a page is asked, and what every answer carries."""
 
-from flask import Flask, Response, abort, request
+from flask import Flask, Response, request
+
+from evp.desk.render import message
 
 MOST_BODY = 4_000_000  # bytes of any request: thirty sheets with their tables fit in
 POLICY = "default-src 'none'; style-src 'unsafe-inline'; img-src data:; form-action 'self'; base-uri 'none'"
@@ -14,6 +16,19 @@ HEADERS = {
     "X-Content-Type-Options": "nosniff",
     "X-Frame-Options": "DENY",
 }
+
+WORDS = {  # of what is turned away: a heading and a sentence
+    400: ("Not understood", "The desk did not understand this request."),
+    404: ("No such page", "A link must be taken whole: its last part is a key. Was it copied to its end?"),
+    405: ("Not done", "This page is read and not written to."),
+    413: ("Too long", "This is longer than anything that is wanted here. Nothing has changed."),
+    421: ("Another name", "This desk does not go by that name. Use the address that its terminal shows."),
+    500: ("A fault of the desk", "This page could not be made. What was answered before is kept."),
+}
+
+
+def turned_away(status: int) -> Response:
+    return message(status, *WORDS.get(status, WORDS[400]))
 
 
 def hosts_of(address: str, port: int) -> frozenset[str]:
@@ -30,7 +45,8 @@ def protect(app: Flask, hosts: frozenset[str]):
     @app.before_request
     def check_host():
         if request.environ.get("HTTP_HOST", "").lower() not in hosts:
-            abort(421)
+            return turned_away(421)
+        return None
 
     @app.after_request
     def add_headers(answer: Response) -> Response:
