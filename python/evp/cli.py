@@ -7,9 +7,11 @@ import signal
 import sys
 
 from evp import commands
+from evp.desk import command as desk_command
 from evp.files import InputError
 from evp.library import MissingCall
 from evp.masses import UNITS
+from evp.pages import command as page_command
 
 STATUS = "Exit status 0 fine, 1 refused or a figure wrong, 2 not readable or not understood."
 
@@ -43,7 +45,8 @@ def parser() -> Parser:
     _add_sheet_commands(add)
     _add_table_commands(add)
     _add_report_commands(add)
-    _add_desk(add)
+    page_command.add_parser(_add, add)
+    desk_command.add_parser(_add, add)
     return top
 
 
@@ -118,24 +121,6 @@ def _add_report_commands(add):
     pool.add_argument("first", metavar="FIRST")
     pool.add_argument("second", metavar="SECOND")
     pool.add_argument("-o", dest="output", metavar="SHEET", required=True)
-
-
-def _add_desk(add):
-    desk = _add(add, "desk", commands.desk,
-                "serves the desk's pages to browsers of this machine, and the ledger of a course where one is named",
-                "evp desk\nevp desk course.db --new north.evp --owners owners.csv\nevp desk course.db\n"
-                "evp desk course.db --export north-now.evp", "force")
-    desk.add_argument("ledger", nargs="?", metavar="LEDGER", help="the file of a course's ledger")
-    desk.add_argument("--new", metavar="SHEET", help="make LEDGER from this sheet, and say its nine links once")
-    desk.add_argument("--owners", metavar="FILE",
-                      help="csv: row,participant; without it the rows are dealt out in turn")
-    desk.add_argument("--renew", metavar="WHO", help="a new link for one of the nine; the old one is none any more")
-    desk.add_argument("--export", metavar="SHEET", help="write the sheet as it stands, and serve nothing")
-    desk.add_argument("--port", type=int, default=8765, metavar="N", help="8765 where none is given")
-    desk.add_argument("--host", default="127.0.0.1", metavar="ADDRESS",
-                      help="an address of this machine, for a network; without it this machine alone is served")
-    desk.add_argument("--patience", type=int, default=30, metavar="SECONDS",
-                      help="how long a request may take to come in; 30 where none is given")
 
 
 def _complain(text: str):

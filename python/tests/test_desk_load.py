@@ -56,7 +56,7 @@ class Machine:
 
 
 def random_call(chance: random.Random, machine: Machine) -> tuple[str, int, int]:
-    """A call as an afternoon has them: most on rows of one's own, some too large, some on a row of another or on none."""
+    """A call as an afternoon has them: most on one's own rows, some too large, some on a row of another or on none."""
     row = chance.choice(list(machine.counts)) if chance.random() < 0.93 else chance.randrange(1, ROWS + 20)
     vehicles = chance.choice((1, 5, 20, 120, 900)) if chance.random() < 0.93 else chance.randrange(10 ** 8)
     return chance.choice(("arrive", "arrive", "depart")), row, vehicles
@@ -162,7 +162,7 @@ class LoadTest(DeskTestCase):
         took = time.monotonic() - began
         people = [desk.client(link) for link in links]
         self.check_ledger(people[MARKER], people[1:], machines)
-        print("killed %d times in %.0f s: all of %d answered calls are kept; %d were kept whose answer the kill cut off" % (
+        print("killed %d times in %.0f s: all of %d answered calls are kept, and %d whose answer the kill cut off" % (
             KILLS, took, sum(done.values()) - unanswered, unanswered), file=sys.stderr)
 
     def check_kept(self, marker: Client, threads: list[Participant], answered: dict[int, list]) -> int:

@@ -12,7 +12,6 @@ from evp.desk import security, views
 from evp.desk.ledger import CourseLedger
 
 
-
 def create_app(hosts: frozenset[str], ledger: CourseLedger | None = None) -> Flask:
     """The application for requests to `hosts`."""
     app = Flask("evp.desk", static_folder=None)
@@ -28,7 +27,7 @@ def create_app(hosts: frozenset[str], ledger: CourseLedger | None = None) -> Fla
 
 
 def has_pages() -> bool:
-    return find_spec("evp.pages") is not None and find_spec("evp.pages.routes") is not None
+    return find_spec("evp.pages.routes") is not None
 
 
 def _failure(error: Exception) -> Response:

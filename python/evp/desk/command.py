@@ -8,17 +8,18 @@ from importlib.util import find_spec
 from typing import NamedTuple
 
 from evp import layout
+from evp.commands import SheetRefused, get_library
 from evp.desk.ledger import MARKER, PARTICIPANTS, CourseLedger, new_person, open_first
 from evp.desk.store import Opening, Store, create
 from evp.explain import call_text, explain
 from evp.files import InputError, read_sheet, read_text, write_file
 from evp.layout import FIELDS
 from evp.library import Library, Number, Refusal
+from evp.pages.needs import INSTALL, PACKAGES
 from evp.tables import read_table
 from evp.wording import apart, counted, name_shown, quoted
 
-MODULES = ("flask", "jinja2", "waitress")
-INSTALL = "apt install " + " ".join("python3-" + name for name in MODULES)
+DEBIAN = "/usr/bin/python3"  # the Python that Debian's packages are for
 SECRET_BYTES = 16  # 128 bits
 MOST_NAME = 40  # signs
 MOST_ROWS = 100  # of a participant, as the library has it
@@ -98,7 +99,7 @@ def make(library: Library, given: Namespace) -> dict[int, str]:
     """Makes the file of a ledger; gives the secrets, which are nowhere else."""
     sheet = read_sheet(given.new)
     if library.check(sheet) is not None:
-        raise InputError("%s: %s" % (name_shown(given.new), explain(library, sheet).line))
+        raise SheetRefused("%s: %s" % (name_shown(given.new), explain(library, sheet).line))
     rows = layout.row_count(sheet)
     dealt = read_owners(given.owners, rows) if given.owners else dealt_in_turn(rows)
     opening = Opening(sheet, dealt.owners, name_shown(given.new))
@@ -106,7 +107,7 @@ def make(library: Library, given: Namespace) -> dict[int, str]:
         digests = open_first(library, opening)
     except Refusal as refusal:
         why = _too_much(sheet, dealt, refusal.place) if refusal.number == Number.SHARE else call_text(refusal)
-        raise InputError("%s: %s" % (name_shown(given.new), why)) from None
+        raise SheetRefused("%s: %s" % (name_shown(given.new), why)) from None
     made = {who: secrets.token_urlsafe(SECRET_BYTES) for who in (MARKER, *PARTICIPANTS)}
     names = {MARKER: "marker", **dict(zip(PARTICIPANTS, dealt.names))}
     create(given.ledger, opening, [new_person(who, names[who], made[who]) for who in made], digests)
@@ -128,10 +129,11 @@ def renew(store: Store, name: str) -> dict[int, str]:
 
 
 def require_modules():
-    missing = [name for name in MODULES if find_spec(name) is None]
+    missing = [name for name in PACKAGES if find_spec(name) is None]
     if missing:
-        raise InputError("evp desk needs %s, which this Python (%s) does not have: %s, and start it with "
-                         "/usr/bin/python3" % (" and ".join(missing), sys.executable, INSTALL))
+        other = "" if sys.executable == DEBIAN else ", and start it with %s" % DEBIAN
+        raise InputError("evp desk needs %s, which this Python (%s) does not have: %s%s" % (
+            " and ".join(missing), sys.executable, INSTALL, other))
 
 
 def address_of(given: Namespace) -> str:
@@ -163,6 +165,24 @@ def say_ledger(ledger: CourseLedger, shown: str):
 # ------------------------------------------------------------------ the command
 
 
+def add_parser(add, subparsers):
+    desk = add(subparsers, "desk", run,
+               "serves the desk's pages to browsers of this machine, and the ledger of a course where one is named",
+               "evp desk\nevp desk course.db --new north.evp --owners owners.csv\nevp desk course.db\n"
+               "evp desk course.db --export north-now.evp", "force")
+    desk.add_argument("ledger", nargs="?", metavar="LEDGER", help="the file of a course's ledger")
+    desk.add_argument("--new", metavar="SHEET", help="make LEDGER from this sheet, and say its nine links once")
+    desk.add_argument("--owners", metavar="FILE",
+                      help="csv: row,participant; without it the rows are dealt out in turn")
+    desk.add_argument("--renew", metavar="WHO", help="a new link for one of the nine; the old one is none any more")
+    desk.add_argument("--export", metavar="SHEET", help="write the sheet as it stands, and serve nothing")
+    desk.add_argument("--port", type=int, default=8765, metavar="N", help="8765 where none is given")
+    desk.add_argument("--host", default="127.0.0.1", metavar="ADDRESS",
+                      help="an address of this machine, for a network; without it this machine alone is served")
+    desk.add_argument("--patience", type=int, default=30, metavar="SECONDS",
+                      help="how long a request may take to come in; 30 where none is given")
+
+
 def check_given(given: Namespace):
     for option, value in (("--new", given.new), ("--renew", given.renew), ("--export", given.export)):
         if value is not None and given.ledger is None:
@@ -184,8 +204,9 @@ def open_ledger(library: Library, given: Namespace) -> tuple[CourseLedger, dict[
         raise
 
 
-def run(library: Library, given: Namespace) -> int:
+def run(given: Namespace) -> int:
     check_given(given)
+    library = get_library()
     if given.export is not None:
         return export(library, given)
     require_modules()

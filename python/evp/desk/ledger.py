@@ -1,11 +1,11 @@
 """A ledger that eight participants and a marker share for an afternoon.
 
 Who may do what, and what comes of it, the library's calls for a shared ledger decide and nothing else: here they are
-handed who calls, and their answers are kept. A call is played on a copy, put on the disk, and only then is the copy the
-ledger: so a reader never sees what is not kept, and a call that could not be kept has not happened.
+handed who calls, and their answers are kept. A call is played on a copy, put on the disk, and only then is the copy
+the ledger: so a reader never sees what is not kept, and a call that could not be kept has not happened.
 
-A ledger starts from the sheet it was opened with and plays every call again that its file has. The answers must be those
-that were given, and the digests of sheet and words those that were kept.
+A ledger starts from the sheet it was opened with and plays every call again that its file has. The answers must be
+those that were given, and the digests of sheet and words those that were kept.
 """
 
 import hashlib
@@ -30,7 +30,7 @@ MOST_DIGITS = 18  # of a number in a call: what SQLite holds
 
 class Call(NamedTuple):
     """A call and its answer. `own` counts the caller's own calls from 1; before and after are the vehicles of the row,
-    None where the row is not theirs; `together` are those of all their rows, where these are the reason of a refusal."""
+    None where the row is not theirs; `together` are those of all their rows, where a refusal is for these."""
     own: int
     kind: str
     row: int
@@ -108,7 +108,7 @@ class _Played:
 
 
 class Reading:
-    """A ledger as it stood at one moment, to one of the people. A call makes a copy, so that this one stays as it is."""
+    """A ledger as it stood at one moment, to one of the people: a call makes a copy, and this one stays as it is."""
 
     def __init__(self, shared: SharedLedger, who: int):
         self._shared, self._who = shared, who
@@ -153,8 +153,8 @@ class CourseLedger:
         for serial, stored in enumerate(store.calls(), 1):
             call = played.play(stored.who, Wanted(stored.kind, stored.row, stored.vehicles))
             if call.number != stored.number:
-                raise InputError("%s: call %d was answered with number %d, and played again with %d; nothing is served" % (
-                    name_shown(store.path), serial, stored.number, call.number))
+                raise InputError("%s: call %d was answered with number %d, and played again with %d; "
+                                 "nothing is served" % (name_shown(store.path), serial, stored.number, call.number))
             played.note(stored.who, call)
         _compare(store, digests_of(played.shared))
 
@@ -207,8 +207,8 @@ class CourseLedger:
     # ------------------------------------------------------------------ what is called
 
     def call(self, who: int, wanted: Wanted, own: int | None = None) -> Call:
-        """The answer to a call, once it is kept. With `own`, the number that it is to have among the caller's own, a call
-        that is sent twice is made once.
+        """The answer to a call, once it is kept. With `own`, the number that it is to have among the caller's own, a
+        call that is sent twice is made once.
 
         Whoever comes first keeps the calls of all who wait meanwhile, with one commit."""
         waiting = _Waiting(who, own, wanted)
@@ -294,8 +294,8 @@ def _compare(store: Store, found: Digests):
         raise InputError("%s: the calls played again lead to another sheet than was kept; the file was changed or is "
                          "damaged, and nothing is served" % shown)
     if found.words != kept.words:
-        raise InputError("%s: the calls played again lead to the same counts and other masses; this library reckons other "
-                         "bands than the one that the ledger was kept with, and nothing is served" % shown)
+        raise InputError("%s: the calls played again lead to the same counts and other masses; this library reckons "
+                         "other bands than the one that the ledger was kept with, and nothing is served" % shown)
 
 
 def open_first(library: Library, opening: Opening) -> Digests:

@@ -3,13 +3,13 @@
 from flask import Flask, Response, request
 
 from evp.desk.render import message
+from evp.pages.render import policy
 
-MOST_BODY = 4_000_000  # bytes of any request: thirty sheets with their tables fit in
-POLICY = "default-src 'none'; style-src 'unsafe-inline'; img-src data:; form-action 'self'; base-uri 'none'"
+MOST_BODY = 4_100_000  # bytes of any request: the sheets of a class fit in
 
 HEADERS = {
     "Cache-Control": "no-store",  # a page has a secret in its address
-    "Content-Security-Policy": POLICY + "; frame-ancestors 'none'",
+    "Content-Security-Policy": policy() + "; frame-ancestors 'none'",
     "Cross-Origin-Opener-Policy": "same-origin",
     "Cross-Origin-Resource-Policy": "same-origin",
     "Referrer-Policy": "no-referrer",

@@ -58,8 +58,8 @@ def listening(address: str, port: int) -> socket.socket:
 
 
 def server_of(app: Flask, listener: socket.socket, patience: int):
-    """A server that is ready to run. `patience` is how many seconds a request may take to come, and a connection may stay
-    without one."""
+    """A server that is ready to run. `patience` is how many seconds a request may take to come, and a connection may
+    stay without one."""
     logging.getLogger("waitress.queue").setLevel(logging.ERROR)  # a queue is no matter for the terminal
     logging.getLogger("waitress").setLevel(logging.ERROR)
     server = create_server(

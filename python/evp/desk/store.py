@@ -1,9 +1,9 @@
-"""The file of a course's ledger, in SQLite: the sheet, the owners and the people it was opened with, every call that was
-answered, and digests of what these calls led to.
+"""The file of a course's ledger, in SQLite: the sheet, the owners and the people it was opened with, every call that
+was answered, and digests of what these calls led to.
 
-A call is in the file before it is answered, and stays there if the power fails: synchronous is FULL. The journal is
-rolled back and cut to nothing at each commit (TRUNCATE), not written ahead (WAL): so the one file has every call, and a
-teacher who copies it while the desk runs does not leave the last calls behind in a second file.
+A call is in the file before it is answered, and stays there if the power fails: synchronous is FULL. The journal has
+what a commit changes, and is cut to nothing by it (TRUNCATE); it is not written ahead (WAL). So the one file has every
+call, and a teacher who copies it while the desk runs does not leave the last calls behind in a second file.
 
 While a desk has the file no other process has it (locking_mode EXCLUSIVE): two desks would each keep a ledger of their
 own. The lock ends with the process, however that ends.
@@ -163,7 +163,8 @@ def create(path: str | os.PathLike, opening: Opening, people: Iterable[Person], 
     try:
         os.close(os.open(path, os.O_CREAT | os.O_EXCL | os.O_WRONLY, 0o600))
     except FileExistsError:
-        raise InputError("%s: there is such a file already; a ledger is never written over" % name_shown(path)) from None
+        raise InputError("%s: there is such a file already; a ledger is never written over" % (
+            name_shown(path))) from None
     except OSError as error:
         raise failed(path, error) from None
     try:

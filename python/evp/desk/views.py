@@ -64,7 +64,7 @@ def _participant(ledger: CourseLedger, who: int, link: str, problem: str) -> str
     reading = ledger.read(who)
     return render(
         "participant.html", me=ledger.name(who), link=link, problem=problem, calls=ledger.last_calls(who),
-        made=ledger.made(who), rows=[_row(ledger, reading, row) for row in ledger.rows_of(who)])
+        so_far=ledger.made(who), rows=[_row(ledger, reading, row) for row in ledger.rows_of(who)])
 
 
 def _row(ledger: CourseLedger, reading: Reading, row: int) -> dict:
@@ -82,7 +82,7 @@ def _marker(ledger: CourseLedger, who: int, link: str, problem: str) -> str:
     return render(
         "marker.html", link=link, problem=problem, every=EVERY if _reloads(who) else 0, total=totals.total,
         groups=[(GROUP_NAMES[name], masses) for name, masses in groups(totals)],
-        made=sum(map(ledger.made, PARTICIPANTS)), owners=[(name, theirs) for name, theirs in owners if theirs],
+        so_far=sum(map(ledger.made, PARTICIPANTS)), owners=[(name, theirs) for name, theirs in owners if theirs],
         vehicles=sum(row["count"] for row in rows.values()),
         opened=sum(row["opened"]["vehicles"] for row in rows.values()),
         most=max(1, *(abs(row["change"]) for row in rows.values())))
