@@ -1,5 +1,6 @@
 """The page of a class: sheets by figures with their verdicts, what is wrong first."""
 
+from base64 import b64encode
 from collections import Counter
 from collections.abc import Iterable
 from typing import NamedTuple
@@ -98,6 +99,7 @@ class Sheet(NamedTuple):
     judged: list[Judged]
     refusal: str
     there: bool
+    wanted: tuple[Figure, ...] = ()  # that others filed
 
     @property
     def across(self) -> dict[Figure, Judged]:
@@ -126,7 +128,12 @@ class Sheet(NamedTuple):
         parts = [self._wrong_words(), self._settled_words()]
         parts += ["%s: %s" % (judged.name, judged.mark.note) for judged in self.judged
                   if judged.verdict in ("absent", "unreadable")][:2]
-        return "; ".join(filter(None, parts)) or "all %d agree" % len(self.judged)
+        return "; ".join(filter(None, [*parts, self._missing_words()])) or "all %d agree" % len(self.judged)
+
+    def _missing_words(self) -> str:
+        left_out = [figure.name for figure in self.wanted if figure not in self.across]
+        return "" if not left_out else "%s not filed" % (
+            listed(left_out) if len(left_out) <= 2 else "%d subtotals" % len(left_out))
 
     def _wrong_words(self) -> str:
         wrong = [judged for judged in self.judged if judged.wrong]
@@ -168,19 +175,21 @@ class Sheet(NamedTuple):
         return len(self.judged) - len(self.details)
 
 
-def _sheets(sheets: dict[str, Marked], filings: Iterable[Filing], marks: Iterable[Mark]) -> list[Sheet]:
+def _sheets(sheets: dict[str, Marked], filings: Iterable[Filing], marks: Iterable[Mark],
+            across: tuple[Figure, ...]) -> list[Sheet]:
     judged: dict[str, list[Judged]] = {name: [] for name in sheets}
     for filing, mark in zip(filings, marks):
         judged.setdefault(filing.sheet, []).append(Judged(filing.figure, filing.filed, mark))
     found = [Sheet("s%d" % i, file, name_shown(file).removesuffix(".evp"), of_sheet,
-                   sheets[file].refusal if file in sheets else "", file in sheets)
+                   sheets[file].refusal if file in sheets else "", file in sheets, across)
              for i, (file, of_sheet) in enumerate(judged.items(), 1)]
     return sorted(found, key=lambda sheet: (ORDER.index(sheet.state), -sheet.count(*WRONG), sheet.name))
 
 
 def _lead(sheets: list[Sheet]) -> str:
     """How many sheets to look at, and why, in a sentence."""
-    states = Counter(sheet.state for sheet in sheets)
+    states = Counter(sheet.state for sheet in sheets if sheet.there)
+    nowhere = sum(not sheet.there for sheet in sheets)
     words = {
         "wrong": ("has a wrong figure", "have a wrong figure"), "refused": ("is refused", "are refused"),
         "unclear": ("has a figure that cannot be compared", "have a figure that cannot be compared"),
@@ -189,7 +198,8 @@ def _lead(sheets: list[Sheet]) -> str:
     look = listed("%d %s" % (states[state], words[state][states[state] > 1]) for state in LOOK if states[state])
     fine = sum(states[state] for state in ORDER if state not in LOOK)
     end = "; in %d of them the band cannot settle a figure" % states["fits"] if states["fits"] else ""
-    return "%s%s fine%s." % (look + ". " if look else "", "%d %s" % (fine, "is" if fine == 1 else "are"), end)
+    beyond = " Figures were filed for %s without a sheet." % counted(nowhere, "name") if nowhere else ""
+    return "%s%d %s fine%s.%s" % (look + ". " if look else "", fine, "is" if fine == 1 else "are", end, beyond)
 
 
 EXAMPLE = Filed(283, 2, Unit.T)
@@ -206,15 +216,16 @@ def _legend(counts: Counter) -> list[dict]:
 
 
 def page_class(sheets: dict[str, Marked], filings: list[Filing], marks: list[Mark], served: bool = False,
-               pages: dict[str, str] | None = None, packed: dict[str, dict] | None = None, hints: bool = False) -> str:
+               pages: dict[str, str] | None = None, packed: dict[str, dict] | None = None, hints: bool = False, marks_csv: str = "") -> str:
     """The marks of a class. `pages` has the page of a sheet by its file, `packed` what a served page sends for it."""
-    found = _sheets(sheets, filings, marks)
     counts = Counter(mark.verdict for mark in marks)
     filed = {filing.figure for filing in filings}
-    across = [figure for figure in ACROSS if figure in filed]
+    across = tuple(figure for figure in ACROSS if figure in filed)
+    found = _sheets(sheets, filings, marks, across)
     heads = [(GROUP_NAMES[group], [figure for figure in across if figure.row == group]) for group in GROUPS]
     return render(
-        "class.html", served, sheets=found, look=[sheet for sheet in found if sheet.state in LOOK], lead=_lead(found),
+        "class.html", served, sheets=found, there=[sheet for sheet in found if sheet.there], look=[sheet for sheet in found if sheet.state in LOOK], lead=_lead(found),
         counts=counts, legend=_legend(counts), across=across, heads=[head for head in heads if head[1]],
         with_total=Figure(TOTAL, "") in filed, with_rows=any(figure.row.isdigit() for figure in filed),
-        fine=FINE, pages=pages or {}, packed=packed or {}, hints=hints)
+        fine=FINE, pages=pages or {}, packed=packed or {}, hints=hints,
+        marks=b64encode(marks_csv.encode("utf-8", "replace")).decode())

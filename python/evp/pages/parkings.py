@@ -11,19 +11,18 @@ from evp.pages.words import canister_words, grams, hours, row_name, season_words
 from evp.wording import apart, name_shown
 
 LEVELS = 6  # of a colour, above none
-STEPS = (1, 2, 5)
+STEPS = (1, 1.5, 2, 2.5, 3, 4, 5, 8, 10)
 
 
 def edges_for(most: float) -> list[float]:
-    """Where the levels begin, about evenly, at round numbers."""
-    rough = most / LEVELS
+    """Where the levels begin: next to nothing, then evenly at round numbers."""
     power = 1.0
-    while power > rough:
+    while power > most / LEVELS > 0:
         power /= 10
-    while power * 10 <= rough:
+    while power * 10 <= most / LEVELS:
         power *= 10
-    step = max(factor * power for factor in STEPS if factor * power <= rough)
-    return [step * (2 * i + 1) / 2 if i else step / 10 for i in range(LEVELS)]
+    step = power * min(STEPS, key=lambda factor: abs(factor * power - most / LEVELS))
+    return [step / 20, *(round(step * i, 9) for i in range(1, LEVELS))]
 
 
 def count_edges(most: int) -> list[int]:

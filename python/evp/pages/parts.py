@@ -8,6 +8,7 @@ from evp import layout
 from evp.layout import GRID_END, HEAD_BYTES, ROW_BYTES, SEASON_BYTES
 
 DAY = 48  # marks
+VEHICLES = 8  # where they stand in a row
 
 
 def only_rows(data: bytes, rows: Sequence[int]) -> bytes:
@@ -16,6 +17,13 @@ def only_rows(data: bytes, rows: Sequence[int]) -> bytes:
     size = 2 if layout.version_of(data) == 4 else 1
     kept = b"".join(data[start + ROW_BYTES * i:start + ROW_BYTES * (i + 1)] for i in rows)
     return data[:6] + len(rows).to_bytes(size, "little") + data[6 + size:start] + kept
+
+
+def one_vehicle(data: bytes, row: int) -> bytes:
+    """The sheet with this row alone, of one vehicle."""
+    alone = only_rows(data, [row])
+    place = layout.row_place(alone, 0) + VEHICLES
+    return alone[:place] + (1).to_bytes(4, "little") + alone[place + 4:]
 
 
 def only_season(data: bytes, season: int) -> bytes:

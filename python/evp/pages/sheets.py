@@ -1,19 +1,17 @@
 """The page of a sheet: where the mass of an accepted one comes from, and why a refused one is refused."""
 
 from collections.abc import Iterable
-from fractions import Fraction
 from typing import NamedTuple
 
 from evp import layout
 from evp.explain import explain
-from evp.figures import GROUP_NAMES, groups
+from evp.figures import GROUP_NAMES, bands, groups
 from evp.layout import CANISTER_NAMES, canister_of
 from evp.library import Band, Library, Masses, Report
-from evp.marking import Filing, marks_of, Marked
-from evp.figures import bands
+from evp.marking import Filing, Marked, marks_of
 from evp.masses import best_unit
 from evp.pages.classes import Judged
-from evp.pages.parts import only_rows, only_season
+from evp.pages.parts import one_vehicle, only_rows, only_season
 from evp.pages.refusals import page_refused
 from evp.pages.render import render
 from evp.pages.words import CLASS_NAMES, canister_words, row_more, row_name, season_words
@@ -30,11 +28,7 @@ class Part(NamedTuple):
     masses: Masses
     total: Band
     rows: list[int]
-
-    @property
-    def ratio(self) -> Fraction:
-        """Milligrams a vehicle."""
-        return Fraction(self.total.high, self.vehicles) if self.vehicles else Fraction(0)
+    single: Band | None = None  # the mass of one vehicle
 
 
 def part_of(library: Library, data: bytes, name: str, about: str, rows: list[int]) -> Part:
@@ -65,7 +59,8 @@ def _fleet(library: Library, data: bytes) -> list[Part]:
     found = []
     for i in range(min(layout.row_count(data), MOST_ROWS)):
         row = layout.row(data, i)
-        found.append(part_of(library, data, row_name(row), "%s; %s" % (canister_words(row), row_more(row)), [i]))
+        part = part_of(library, data, row_name(row), "%s; %s" % (canister_words(row), row_more(row)), [i])
+        found.append(part._replace(single=library.report(one_vehicle(data, i)).total))
     return sorted(found, key=lambda part: part.total, reverse=True)
 
 

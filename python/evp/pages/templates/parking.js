@@ -1,5 +1,5 @@
 (function () {
-  var data = JSON.parse(document.getElementById("data").textContent), timer = 0, left = 50, size = 23, bottom = 74 + 24 * 23;
+  var data = JSON.parse(document.getElementById("data").textContent), timer = 0, left = 50, size = 23, high = 17, bottom = 74 + 24 * 17;
   var maps = document.querySelectorAll(".hm"), play = document.getElementById("play");
   function get(id) { return document.getElementById(id); }
   function apart(number) { return String(number).replace(/\B(?=(\d{3})+$)/g, ","); }
@@ -19,7 +19,7 @@
       map.classList.add("live");
       map.querySelectorAll("g").forEach(function (g) { g.classList.toggle("later", +g.dataset.t > end); });
       map.querySelectorAll(".col, .cell, .cell2").forEach(function (mark) { mark.setAttribute("x", left + (end - 1) * size); });
-      map.querySelectorAll(".cell, .cell2").forEach(function (mark) { mark.setAttribute("y", bottom - lasts * size); });
+      map.querySelectorAll(".cell, .cell2").forEach(function (mark) { mark.setAttribute("y", bottom - lasts * high); });
     });
     get("end-told").textContent = end;
     get("lasts-told").textContent = lasts / 2 + " h";
@@ -43,7 +43,7 @@
     map.addEventListener("click", function (event) {
       var box = map.getBoundingClientRect(), scale = map.viewBox.baseVal.width / box.width;
       var end = Math.ceil(((event.clientX - box.left) * scale - left) / size);
-      var lasts = Math.ceil((bottom - (event.clientY - box.top) * scale) / size);
+      var lasts = Math.ceil((bottom - (event.clientY - box.top) * scale) / high);
       if (end > 0 && end < 25 && lasts > 0 && lasts < 25) { stop(); get("end").value = end; get("lasts").value = lasts; draw(); }
     });
   });
