@@ -76,6 +76,10 @@ class Desk:
         """kill -9."""
         self.process.kill()
         self.process.wait()
+
+    def close(self):
+        """At the end of a test."""
+        self.kill()
         for client in self.clients:
             client.close()
 

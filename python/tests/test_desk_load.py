@@ -96,7 +96,7 @@ class Participant(threading.Thread):
 class LoadTest(DeskTestCase):
     def start(self, *words: object, port: int | None = None) -> Desk:
         desk = Desk(self.folder / "course.db", *words, port=port)
-        self.addCleanup(desk.kill)
+        self.addCleanup(desk.close)
         return desk
 
     def check_ledger(self, marker: Client, people: list[Client], machines: dict[int, Machine]):

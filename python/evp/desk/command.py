@@ -147,9 +147,12 @@ def base_of(address: str, port: int) -> str:
 
 
 def say_links(ledger: CourseLedger, made: dict[int, str], base: str):
-    """The links, this once."""
-    print("\n%s, shown this once. Each is a key: give it to its owner alone." % (
-        "Nine links" if len(made) > 1 else "A new link"))
+    """The links, this once; or where the old ones lead."""
+    if not made:
+        print("The links that were given out hold: %s/ledger/KEY." % base)
+        return
+    print("\n%s alone." % ("Nine links, shown this once. Each is a key: give it to its owner" if len(made) > 1 else (
+        "A new link, shown this once; the old one is none any more. It is a key: give it to its owner")))
     width = max(len(ledger.name(who)) for who in made)
     for who, secret in made.items():
         print("  %s  %s/ledger/%s" % (ledger.name(who).ljust(width), base, secret))
@@ -187,6 +190,8 @@ def check_given(given: Namespace):
     for option, value in (("--new", given.new), ("--renew", given.renew), ("--export", given.export)):
         if value is not None and given.ledger is None:
             raise InputError("%s wants a ledger: evp desk LEDGER %s .." % (option, option))
+    if given.patience < 1:
+        raise InputError("--patience wants at least 1 second")
     if given.owners is not None and given.new is None:
         raise InputError("--owners goes with --new SHEET: rows are dealt out when a ledger is made")
 
@@ -240,9 +245,9 @@ def serve(library: Library, given: Namespace) -> int:
         if given.ledger is not None:
             ledger, made = open_ledger(library, given)
             say_ledger(ledger, name_shown(given.ledger))
-            if made:
-                say_links(ledger, made, base)
-        server = server_of(create_app(hosts_of(address, port), ledger), listener, given.patience)
+            say_links(ledger, made, base)
+        hosts = hosts_of(address, port) | hosts_of(listener.getsockname()[0], port)
+        server = server_of(create_app(hosts, ledger), listener, given.patience)
         if address not in LOOPBACK:
             print(PLAIN.format(address=address, port=port))
         print("Serving at %s until Ctrl-C." % base, flush=True)

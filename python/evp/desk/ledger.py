@@ -26,6 +26,7 @@ KINDS = ("arrive", "depart")
 MOST_CALLS = 20_000  # of each of the people, so that nobody fills the disk
 SHOWN_CALLS = 20  # the last of one's own, on a page
 MOST_DIGITS = 18  # of a number in a call: what SQLite holds
+LOST = "the desk failed (%s) and must be started anew"
 
 
 class Call(NamedTuple):
@@ -218,10 +219,21 @@ class CourseLedger:
             if waiting.answer is None:
                 with self._queue_lock:
                     batch, self._queue = self._queue, []
-                self._serve(batch)
+                self._serve_all(batch)
         if isinstance(waiting.answer, NotTaken):
             raise waiting.answer
         return waiting.answer
+
+    def _serve_all(self, batch: list[_Waiting]):
+        """Answers all of a batch, whatever happens: after a fault of this program no call is taken any more."""
+        try:
+            self._serve(batch)
+        except Exception:
+            self._lost = "a fault of evp itself"
+            raise
+        finally:
+            for waiting in batch:
+                waiting.answer = waiting.answer or NoRoom(LOST % self._lost)
 
     def _serve(self, batch: list[_Waiting]):
         """Answers all of a batch: plays them on a copy, keeps them, and takes the copy."""
@@ -234,19 +246,19 @@ class CourseLedger:
                 call = trial.play(waiting.who, waiting.wanted)
                 trial.made[waiting.who] = call.own
                 new.append((waiting, call))
-        failure = self._keep(new, trial.shared) if new else None
+        failure = self._keep(new, trial.shared) if new else ""
         for waiting, call in new:
-            waiting.answer = failure or call
-            if failure is None:
+            waiting.answer = NoRoom(failure) if failure else call
+            if not failure:
                 self._played.note(waiting.who, call)
-        if failure is None:
+        if not failure:
             self._played.shared = trial.shared
 
     def _known(self, waiting: _Waiting, trial: _Played) -> Call | NotTaken | None:
         """What can be said of a call without the library; None where it is to be played."""
         made = trial.made[waiting.who]
         if self._lost:
-            return NoRoom("the desk's file failed: %s; the desk must be started anew" % self._lost)
+            return NoRoom(LOST % self._lost)
         if waiting.own is not None and waiting.own != made + 1:
             found = next((call for call in self._played.last[waiting.who] if call.own == waiting.own), None)
             if found is not None and found[1:4] == waiting.wanted:
@@ -257,17 +269,17 @@ class CourseLedger:
                 counted(made, "call")))
         return None
 
-    def _keep(self, new: list[tuple[_Waiting, Call]], shared: SharedLedger) -> NoRoom | None:
-        """Puts calls into the file; says why not where that fails."""
+    def _keep(self, new: list[tuple[_Waiting, Call]], shared: SharedLedger) -> str:
+        """Puts calls into the file; says why not where that fails, and nothing where it does not."""
         stored = [StoredCall(waiting.who, *waiting.wanted, call.number) for waiting, call in new]
         try:
             self.store.append(stored, digests_of(shared))
         except StoreError as error:
-            return NoRoom("%s where the desk runs" % error)
+            return "%s where the desk runs" % error
         except StoreLost as error:
             self._lost = str(error)
-            return NoRoom("the desk's file failed: %s; the desk must be started anew" % error)
-        return None
+            return LOST % error
+        return ""
 
     def close(self):
         with self._lock:

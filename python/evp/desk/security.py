@@ -19,7 +19,7 @@ HEADERS = {
 
 WORDS = {  # of what is turned away: a heading and a sentence
     400: ("Not understood", "The desk did not understand this request."),
-    404: ("No such page", "A link must be taken whole: its last part is a key. Was it copied to its end?"),
+    404: ("No such page", "There is nothing at this address. A link to a ledger must be taken whole: its end is a key."),
     405: ("Not done", "This page is read and not written to."),
     413: ("Too long", "This is longer than anything that is wanted here. Nothing has changed."),
     421: ("Another name", "This desk does not go by that name. Use the address that its terminal shows."),

@@ -1,6 +1,7 @@
 """waitress, with limits: a body is measured before it is read, a request must come in time, and connections that only
 stay open hold nobody up."""
 
+import errno
 import logging
 import socket
 
@@ -52,6 +53,8 @@ def listening(address: str, port: int) -> socket.socket:
         raise InputError("%s is no address; --host names one of this machine's, as 192.168.1.5" % address) from None
     except (OSError, OverflowError) as error:
         made.close()
+        if getattr(error, "errno", None) == errno.EADDRINUSE:
+            raise InputError("port %d is taken, maybe by another desk; --port N names another" % port) from None
         raise InputError("nothing can be served at %s, port %d: %s" % (
             address, port, getattr(error, "strerror", None) or error)) from None
     return made
