@@ -55,7 +55,7 @@ class Desk:
         self.out = ledger.with_suffix(".out")
         with open(self.out, "wb") as out:
             self.process = subprocess.Popen(
-                [*map(str, before), sys.executable, str(TOP / "evp"), "desk", str(ledger), "--port", str(self.port),
+                [*map(str, before), sys.executable, str(TOP / "evp"), "desk", ledger.name, "--port", str(self.port),
                  *map(str, words)], stdin=subprocess.DEVNULL, stdout=out, stderr=subprocess.STDOUT, cwd=ledger.parent)
         self._await()
         self.links = [link for _, link in LINK.findall(self.said)]

@@ -6,6 +6,7 @@ import html
 import os
 import re
 import secrets
+import shlex
 import socket
 import sqlite3
 import subprocess
@@ -419,7 +420,7 @@ class NamesTest(LedgerTestCase):
                 ("row,participant\n25,a\n", "line 2: row: '25' is none; the sheet has 24 rows"),
                 ("row,participant\n1,=1+2\n", "does not start with ="),
                 ("row,participant\n1," + "x" * 41 + "\n", "1 to 40 signs"),
-                ("row,participant\n" + "".join("%d,p%d\n" % (row, row) for row in range(1, 25)), "'p9' would be the nin"),
+                ("row,participant\n" + "".join("%d,p%d\n" % (row, row) for row in range(1, 25)), "'p9' would be the"),
                 ("row;who\n1;a\n", "participant")):
             file = self.put("owners.csv", text)
             self.assertIn(said, self.refused_start("course.db", "--new", SHEET, "--owners", file))
@@ -615,6 +616,54 @@ class CommandTest(LedgerTestCase):
         self.assertEqual(listened(again.port), {"0200007F"})
         self.assertIn("by plain HTTP: whoever can listen to that network", again.said)
         self.assertIn("The links that were given out hold: http://127.0.0.2:%d/ledger/KEY." % again.port, again.said)
+
+
+@unittest.skipUnless(HAS_MODULES, NO_MODULES)
+class CoursePageTest(LedgerTestCase):
+    """docs/COURSE.md, "The afternoon": its commands print what it says, and its answers are given."""
+
+    BLOCK = re.compile(r"^```text\n\$ \./evp desk (.*)\n((?:.*\n)*?)```$", re.M)
+    CALLS = (("arrive", 3, 250), ("depart", 11, 90_000), ("arrive", 3, 10_000_000), ("arrive", 4, 1),
+             ("arrive", 3, 9_935_000))
+
+    def setUp(self):
+        super().setUp()
+        self.page = (TOP / "docs" / "COURSE.md").read_text(encoding="utf-8").partition("\n## The afternoon\n")[2]
+        (self.folder / "samples").symlink_to(SAMPLES)
+
+    def shown(self, text: str, port: int) -> list[str]:
+        """Without what a run has of its own: the port and the keys."""
+        text = text.replace(":%d" % port, ":8765")
+        return re.sub("/ledger/[A-Za-z0-9_-]{22}$", "/ledger/..", text, flags=re.M).splitlines()
+
+    def test_commands(self):
+        blocks = self.BLOCK.findall(self.page)
+        self.assertEqual(len(blocks), 4)
+        links = []
+        for words, printed in blocks:
+            first, *rest = shlex.split(words)
+            if "--export" in rest:
+                found = subprocess.run([sys.executable, TOP / "evp", "desk", first, *rest], cwd=self.folder, text=True,
+                                       capture_output=True)
+                self.assertEqual(found.stdout, printed)
+                continue
+            desk = self.serve(*rest)
+            self.assertEqual(self.shown(desk.said, desk.port), self.shown(printed, 8765))
+            links = links or desk.links
+            if "--renew" in rest:  # the afternoon comes after this
+                for call in self.CALLS[:2]:
+                    desk.client(links[3]).call(*call)
+            desk.kill()
+
+    def test_answers(self):
+        told = re.findall(r"^\| (Done: .*|Refused .*) \| (.*) \|$", self.page, re.M)
+        self.assertEqual(len(told), len(self.CALLS))
+        three = self.serve("--new", SHEET).people()[3]
+        for call, (said, more) in zip(self.CALLS, told):
+            three.call(*call)
+            self.assertEqual(html.unescape(three.said()), said)
+            if said.startswith("Done"):
+                self.assertIn(more, three.get().text)
 
 
 # ------------------------------------------------------------------ requests as bytes
