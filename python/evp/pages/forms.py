@@ -272,8 +272,8 @@ def tables_of(data: bytes) -> bytes:
 # ------------------------------------------------------------------ its page
 
 LABELS = {"saturation": "m_sat", "carburettor": "carb.", "hot": "ends hot", "vp": "vapour pressure", "fill": "fill level"}
-UNITS = {"days": "days", "lowest": "°C", "highest": "°C", "vp": "kPa", "carburettor": "% of vehicles", "hot": "% of trips",
-         "fill": "% of tank", "tank": "l; empty: class", "vehicles": "number", "trips": "a day", "minutes": "a trip",
+UNITS = {"days": "1 to 366", "lowest": "°C", "highest": "°C", "vp": "kPa", "carburettor": "% of vehicles", "hot": "% of trips",
+         "fill": "% of tank", "tank": "l", "vehicles": "number", "trips": "a day", "minutes": "a trip",
          "load": "g", "saturation": "g", "mileage": "km; grid only", "class": "", "technology": "", "canister": ""}
 
 

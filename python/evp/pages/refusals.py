@@ -9,7 +9,6 @@ from evp.library import Library
 from evp.pages.render import render
 from evp.pages.words import minus
 from evp.sheet import TextError, read
-from evp.sheet.folders import WORDS
 from evp.wording import apart, name_shown
 
 MOST_DUMPED = 3_000  # bytes that are shown; of more, those around the fault
@@ -182,7 +181,13 @@ def page_refused(library: Library, name: str, data: bytes, found: Explanation, s
         context=[minus_in(BYTES.sub("", line)) for line in words.context], record=record,
         where=byte_range(found.at, found.bytes) if found.bytes else "", tried=mended(library, data, found),
         pieces=_pieces(data, found), dump=_dump(data, found), dumped=len(data), line=_text_line(data, found),
-        unit=WORDS, packed=packed)
+        packed=packed if _is_whole(data) else None)
+
+
+def _is_whole(data: bytes) -> bool:
+    """Whether the form can hold it."""
+    return len(data) >= 8 and data[:3] == b"EVP" and layout.version_of(data) in (1, 2, 3, 4) and (
+        len(data) == layout.length_of(data))
 
 
 def minus_in(text: str) -> str:

@@ -46,9 +46,9 @@ def _limit():
     """Turns a long request away before it is read."""
     if request.method == "POST":
         most = MOST_CLASS if request.path.rstrip("/").endswith("/class") else MOST_BODY
-        if request.content_length is None:
+        if request.content_length is None and "Transfer-Encoding" in request.headers:
             abort(411)
-        if request.content_length > most:
+        if (request.content_length or 0) > most:
             abort(413)
 
 
