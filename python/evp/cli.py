@@ -7,6 +7,7 @@ import signal
 import sys
 
 from evp import commands
+from evp.desk import command as desk_command
 from evp.files import InputError
 from evp.library import MissingCall
 from evp.masses import UNITS
@@ -45,6 +46,7 @@ def parser() -> Parser:
     _add_table_commands(add)
     _add_report_commands(add)
     page_command.add_parser(_add, add)
+    desk_command.add_parser(_add, add)
     return top
 
 
