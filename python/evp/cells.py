@@ -22,9 +22,13 @@ class RowOfCells(NamedTuple):
 
 
 def read_travel(name: str, rows: int) -> list[Travel]:
+    """Where the vehicles of each row drive, by a file."""
+    return travel_of(read_text(name), name_shown(name), rows)
+
+
+def travel_of(text: str, label: str, rows: int) -> list[Travel]:
     """Where the vehicles of each row drive: a line for each row, or one with `all` for those that have none."""
-    label = name_shown(name)
-    table = read_table(read_text(name), label, COLUMNS, COLUMNS)
+    table = read_table(text, label, COLUMNS, COLUMNS)
     found: dict[str, Travel] = {}
     for line in table.lines:
         where = "%s: line %d" % (label, line.number)

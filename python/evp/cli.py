@@ -9,9 +9,11 @@ import sys
 import textwrap
 
 from evp import commands
+from evp.desk import command as desk_command
 from evp.files import InputError
 from evp.library import MissingCall
 from evp.masses import UNITS
+from evp.pages import command as page_command
 from evp.wording import quoted
 
 STATUS = "Exit status 0 fine, 1 refused or a figure wrong,\n2 not readable or not understood."
@@ -53,6 +55,8 @@ def parser() -> Parser:
     _add_sheet_commands(add)
     _add_table_commands(add)
     _add_report_commands(add)
+    page_command.add_parser(_add, add)
+    desk_command.add_parser(_add, add)
     top.commands = add.choices
     return top
 

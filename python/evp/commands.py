@@ -292,14 +292,14 @@ def pool(given: Namespace) -> int:
     try:
         pooled = library.pool(first, second)
     except Refusal as refusal:
-        raise SheetRefused(_pool_refusal(library, refusal, names, (first, second))) from None
+        raise SheetRefused(pool_refusal(library, refusal, names, (first, second))) from None
     write_file(given.output, pooled, given.force)
     if given.output != "-":
         print("%s: %d bytes, %s" % (name_shown(given.output), len(pooled), explain(library, pooled).line))
     return FINE
 
 
-def _pool_refusal(library: Library, refusal: Refusal, names: tuple[str, str], sheets: tuple[bytes, bytes]) -> str:
+def pool_refusal(library: Library, refusal: Refusal, names: tuple[str, str], sheets: tuple[bytes, bytes]) -> str:
     if refusal.sheet == 3:
         return "%s and %s: %s" % (*map(name_shown, names), call_text(refusal))
     name, data = names[refusal.sheet - 1], sheets[refusal.sheet - 1]

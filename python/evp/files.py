@@ -48,7 +48,11 @@ def read_sheet(name: str | os.PathLike) -> bytes:
 
 def read_text(name: str | os.PathLike) -> str:
     """The text of a file in UTF-8, with or without a byte order mark."""
-    data, shown = read_some(name, TEXT_BYTES), name_shown(name)
+    return text_of(read_some(name, TEXT_BYTES), name_shown(name))
+
+
+def text_of(data: bytes, shown: str) -> str:
+    """The text of the bytes of a file, which messages call `shown`."""
     if data.startswith((b"\xff\xfe", b"\xfe\xff")):
         raise InputError("%s: this is UTF-16; %s" % (shown, SAVE))
     if data.startswith(b"PK\3\4"):

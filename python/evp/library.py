@@ -8,6 +8,7 @@ is. Sheets are bytes; the masses of a report are bands in milligrams, with the e
     print(report.total.low, report.total.high)
 """
 
+import copy
 import ctypes
 import os
 from collections.abc import Iterator, Sequence
@@ -404,8 +405,18 @@ class _Buffers:
         return bytes(self._sheet)
 
     @property
+    def words(self) -> list[int]:
+        return self._words[:6 * row_count(self.sheet) + LAST_WORDS]
+
+    @property
     def report(self) -> Report:
-        return report_of(self._words[:6 * row_count(self.sheet) + LAST_WORDS])
+        return report_of(self.words)
+
+    def copy(self):
+        """The same with buffers of its own: a call on it leaves this one as it is."""
+        twin = copy.copy(self)
+        twin._sheet, twin._words = (type(old).from_buffer_copy(old) for old in (self._sheet, self._words))
+        return twin
 
 
 class Ledger(_Buffers):

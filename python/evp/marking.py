@@ -64,9 +64,13 @@ class FiledTable(NamedTuple):
 
 
 def read_filed(name: str) -> FiledTable:
+    """The filed masses of a file."""
+    return filed_of(read_text(name), name_shown(name))
+
+
+def filed_of(text: str, label: str) -> FiledTable:
     """The filed masses; InputError with a message for each line that cannot be read."""
-    label = name_shown(name)
-    table = read_table(read_text(name), label, COLUMNS, COLUMNS)
+    table = read_table(text, label, COLUMNS, COLUMNS)
     filings, messages, lines = [], [], {}
     for line in table.lines:
         try:
@@ -132,8 +136,7 @@ class Marked(NamedTuple):
     refusal: str = ""
 
 
-def _marked(library: Library, path: Path) -> Marked:
-    data = read_sheet(path)
+def marked(library: Library, data: bytes) -> Marked:
     digest = hashlib.sha256(data).hexdigest()
     try:
         return Marked(data, digest, bands(library.report(data)))
@@ -157,7 +160,7 @@ def read_sheets(library: Library, folder: str | Path, progress: Callable[[int, i
     paths, found = sheets_of(folder), {}
     for i, path in enumerate(paths):
         progress(i, len(paths))
-        found[path.name] = _marked(library, path)
+        found[path.name] = marked(library, read_sheet(path))
     progress(len(paths), len(paths))
     return found
 

@@ -1,0 +1,42 @@
+"""The application: the pages where they are there, and a ledger where one is open."""
+
+import os
+import sys
+import traceback
+from importlib.util import find_spec
+
+from flask import Flask, Response
+from werkzeug.exceptions import HTTPException
+
+from evp.desk import security, views
+from evp.desk.ledger import CourseLedger
+
+
+def create_app(hosts: frozenset[str], ledger: CourseLedger | None = None) -> Flask:
+    """The application for requests to `hosts`."""
+    app = Flask("evp.desk", static_folder=None)
+    app.config["MAX_CONTENT_LENGTH"] = security.MOST_BODY
+    security.protect(app, hosts)
+    app.register_error_handler(Exception, _failure)
+    if has_pages():
+        from evp.pages.routes import blueprint
+        app.register_blueprint(blueprint)
+    if ledger is not None:
+        app.register_blueprint(views.blueprint(ledger))
+    return app
+
+
+def has_pages() -> bool:
+    return find_spec("evp.pages.routes") is not None
+
+
+def _failure(error: Exception) -> Response:
+    """An error in words. No address is printed: it may have a secret in it."""
+    if isinstance(error, HTTPException):
+        if error.code is None or error.code < 400:
+            return error.get_response()
+        return security.turned_away(error.code)
+    print("evp: desk: a page failed: %s" % type(error).__name__, file=sys.stderr)
+    if os.environ.get("EVP_TRACEBACK"):
+        traceback.print_exception(error)
+    return security.turned_away(500)

@@ -1,0 +1,165 @@
+"""The command `evp page`: each page as one file."""
+
+import os
+from argparse import Namespace
+from collections.abc import Callable
+from pathlib import Path
+
+from evp import commands, marking
+from evp.cells import read_travel
+from evp.files import InputError, make_folder, read_sheet, write_file
+from evp.hints import with_hints
+from evp.library import Library, Refusal
+from evp.pages.needs import require
+from evp.wording import name_shown
+
+EXAMPLE = ("evp page class sheets --filed filed.csv --each pages -o class.html\n"
+           "evp page sheet north.evp --filed filed.csv -o north.html\n"
+           "evp page parking north.evp --row 2 -o parking.html\n"
+           "evp page fuels summer.evp derogation.evp -o fuels.html")
+
+
+def add_parser(add_command: Callable, add):
+    """`evp page` among the commands; `add_command` is that of cli."""
+    page = add_command(add, "page", None, "makes a page of a class or of a sheet, as one file for a browser", EXAMPLE)
+    what = page.add_subparsers(required=True, metavar="WHAT", parser_class=type(page))
+
+    def add_page(name: str, run: Callable, about: str, example: str, *operands: str):
+        made = add_command(what, name, _needing_jinja(run), about, example, "force")
+        for operand in operands:
+            made.add_argument(operand.lower(), metavar=operand)
+        made.add_argument("-o", dest="output", metavar="FILE", required=True, help="the page, a file of HTML")
+        return made
+
+    of_class = add_page("class", page_class, "shows the marks of a class, what is wrong first",
+                        "evp page class sheets --filed filed.csv -o class.html", "FOLDER")
+    of_class.add_argument("--filed", required=True, metavar="FILE", help="csv: sheet,row,mechanism,mass,unit")
+    of_class.add_argument("--hints", action="store_true", help="guess at the reason of a wrong figure")
+    of_class.add_argument("--each", metavar="FOLDER", help="make the page of each sheet too, and link to it")
+    sheet = add_page("sheet", page_sheet, "shows where the mass of a sheet comes from, or why it is refused",
+                     "evp page sheet north.evp -o north.html", "SHEET")
+    sheet.add_argument("--filed", metavar="FILE", help="csv: the figures of this sheet are shown with its bands")
+    day = add_page("day", page_day, "shows the temperatures of a day, and a parking on them",
+                   "evp page day north.evp --row 1 4 -o day.html", "SHEET")
+    day.add_argument("--row", type=int, nargs="+", metavar="N", help="one or two rows; else one without canister and one with")
+    parking = add_page("parking", page_parking, "shows the parkings by end hour and duration, and what each lets go of",
+                       "evp page parking survey.evp --season 2 --row 1 -o parking.html", "SHEET")
+    parking.add_argument("--season", type=int, metavar="N", help="the warmest where none is given")
+    parking.add_argument("--row", type=int, default=1, metavar="N")
+    add_page("fuels", page_fuels, "shows two sheets side by side, and what differs for certain",
+             "evp page fuels summer.evp derogation.evp -o fuels.html", "A", "B")
+    add_page("species", page_species, "shows the species of the total of a sheet",
+             "evp page species north.evp -o species.html", "SHEET")
+    cells = add_page("cells", page_cells, "shows the urban, rural and highway cells of a sheet",
+                     "evp page cells north.evp --travel travel.csv -o cells.html", "SHEET")
+    cells.add_argument("--travel", required=True, metavar="FILE", help="csv, as evp cells has it")
+    add_page("pool", page_pool, "shows two sheets of version 4 and the pooled one",
+             "evp page pool north.evp south.evp -o pool.html", "FIRST", "SECOND")
+
+
+def _needing_jinja(run: Callable[[Namespace], tuple[str, bool]]) -> Callable[[Namespace], int]:
+    """Writes the page that `run` makes; exit status 1 where it tells of something that is wrong."""
+    def command(given: Namespace) -> int:
+        require("jinja2")
+        if given.output != "-" and os.path.exists(given.output) and not given.force:  # before the work
+            raise InputError("%s: there is such a file already; --force writes over it" % name_shown(given.output))
+        html, fine = run(given)
+        write_file(given.output, html.encode(), given.force)
+        if given.output != "-":
+            print("%s: %d bytes" % (name_shown(given.output), len(html.encode())))
+        return commands.FINE if fine else commands.REFUSED
+    return command
+
+
+def _chosen(number: int, many: int, what: str) -> int:
+    """A season or row counted from 1, as it counts from 0."""
+    if not 1 <= number <= many:
+        raise InputError("%s %d: the sheet has 1 to %d" % (what, number, many))
+    return number - 1
+
+
+# ------------------------------------------------------------------ the pages
+
+
+def page_class(given: Namespace) -> tuple[str, bool]:
+    from evp.pages import classes
+    library, filed = commands.get_library(), marking.read_filed(given.filed)
+    if not os.path.isdir(given.folder):
+        raise InputError("%s: a folder with sheets is wanted" % name_shown(given.folder))
+    sheets = marking.read_sheets(library, given.folder, commands.Progress())
+    marks = marking.marks_of(library, sheets, filed.filings)
+    if given.hints:
+        marks, _ = with_hints(library, sheets, filed.filings, marks, commands.Progress())
+    pages = _each(library, given, sheets, filed.filings) if given.each else {}
+    html = classes.page_class(sheets, filed.filings, marks, pages=pages, hints=given.hints)
+    return html, all(mark.verdict in marking.FINE for mark in marks)
+
+
+def _each(library: Library, given: Namespace, sheets: dict[str, marking.Marked],
+          filings: list[marking.Filing]) -> dict[str, str]:
+    """Writes the page of each sheet; where they stand, as seen from the page of the class."""
+    from evp.pages.sheets import page_sheet as page
+    folder, links = make_folder(given.each), {}
+    start = os.path.dirname(os.path.abspath(given.output))
+    for i, (name, sheet) in enumerate(sheets.items(), 1):
+        target = folder / ("sheet-%d.html" % i)
+        html = page(library, name, sheet.data, [filing for filing in filings if filing.sheet == name])
+        write_file(target, html.encode(), given.force)
+        links[name] = Path(os.path.relpath(target.resolve(), start)).as_posix()
+    return links
+
+
+def page_sheet(given: Namespace) -> tuple[str, bool]:
+    from evp.pages.sheets import page_sheet as page
+    library, data, name = commands.get_library(), read_sheet(given.sheet), os.path.basename(given.sheet)
+    filings = marking.read_filed(given.filed).filings if given.filed else []
+    html = page(library, name, data, [filing for filing in filings if filing.sheet == name])
+    return html, library.check(data) is None
+
+
+def page_day(given: Namespace) -> tuple[str, bool]:
+    from evp.pages.days import page_day as page
+    library = commands.get_library()
+    data, report = commands.read_report(library, given.sheet)
+    rows = [_chosen(row, len(report.rows), "--row") for row in given.row or ()]
+    return page(library, os.path.basename(given.sheet), data, rows), True
+
+
+def page_parking(given: Namespace) -> tuple[str, bool]:
+    from evp.pages.parkings import page_parking as page
+    library = commands.get_library()
+    data, report = commands.read_report(library, given.sheet)
+    season = None if given.season is None else _chosen(given.season, data[5], "--season")
+    row = _chosen(given.row, len(report.rows), "--row")
+    return page(library, os.path.basename(given.sheet), data, season, row), True
+
+
+def page_fuels(given: Namespace) -> tuple[str, bool]:
+    from evp.pages.fuels import page_fuels as page
+    library = commands.get_library()
+    sheets = tuple(commands.read_report(library, name)[0] for name in (given.a, given.b))
+    return page(library, (os.path.basename(given.a), os.path.basename(given.b)), sheets), True
+
+
+def page_species(given: Namespace) -> tuple[str, bool]:
+    from evp.pages.splits import page_species as page
+    library = commands.get_library()
+    return page(library, os.path.basename(given.sheet), commands.read_report(library, given.sheet)[0]), True
+
+
+def page_cells(given: Namespace) -> tuple[str, bool]:
+    from evp.pages.splits import page_cells as page
+    library = commands.get_library()
+    data, report = commands.read_report(library, given.sheet)
+    return page(library, os.path.basename(given.sheet), data, read_travel(given.travel, len(report.rows))), True
+
+
+def page_pool(given: Namespace) -> tuple[str, bool]:
+    from evp.pages.splits import page_pool as page
+    library, names = commands.get_library(), (given.first, given.second)
+    sheets = tuple(map(read_sheet, names))
+    try:
+        pooled = library.pool(*sheets)
+    except Refusal as refusal:
+        raise commands.SheetRefused(commands.pool_refusal(library, refusal, names, sheets)) from None
+    return page(library, tuple(map(os.path.basename, names)), sheets, pooled), True

@@ -1,0 +1,116 @@
+"""The page of two fuels, or two years: two sheets side by side, and what differs for certain."""
+
+from collections import Counter
+from typing import NamedTuple
+
+from evp import layout
+from evp.figures import GROUP_NAMES
+from evp.layout import canister_of
+from evp.library import GROUPS, MECHANISMS, Library
+from evp.pages.render import render
+from evp.pages.words import CLASS_NAMES, canister_words, minus, row_name, tenths
+from evp.show import Difference, differences
+from evp.wording import name_shown
+
+MOST_ROWS = 200
+WORDS = {"higher": "higher", "lower": "lower", "alike": "the same band", "open": "open"}
+
+
+class Fuel(NamedTuple):
+    """How two sheets differ where only vapour pressures do: the seasons with a higher and with a lower one in B."""
+    raised: list[int]
+    lowered: list[int]
+
+    @property
+    def one_way(self) -> str:
+        """Which sheet has the more volatile fuel in every season that differs; empty where there is none."""
+        return "" if bool(self.raised) == bool(self.lowered) else "B" if self.raised else "A"
+
+
+def fuel_change(a: bytes, b: bytes) -> Fuel | None:
+    """None where the sheets differ in more than vapour pressures."""
+    if len(a) != len(b):
+        return None
+    places = [layout.season_place(a, i) + 6 for i in range(layout.season_count(a))]
+    masked = [bytearray(data) for data in (a, b)]
+    for data in masked:
+        for place in places:
+            data[place:place + 2] = b"\0\0"
+    if masked[0] != masked[1]:
+        return None
+    pairs = [(layout.season(a, i)["vp"], layout.season(b, i)["vp"]) for i in range(layout.season_count(a))]
+    return Fuel([i + 1 for i, (x, y) in enumerate(pairs) if y > x], [i + 1 for i, (x, y) in enumerate(pairs) if y < x])
+
+
+class Compared(NamedTuple):
+    """A mass of the two, for a cell of a table."""
+    difference: Difference
+    law: bool  # that the exact mass does not fall is proved of any such two sheets
+
+    @property
+    def change(self) -> str:
+        a, b = sum(self.difference.a), sum(self.difference.b)
+        return minus("%+.1f %%" % (100 * (b - a) / a)) if a else ""
+
+    @property
+    def verdict(self) -> str:
+        return self.difference.verdict
+
+
+class Line(NamedTuple):
+    name: str
+    about: str
+    canister: bool
+    masses: list[Compared]
+
+
+def _lines(found: list[Difference], data: bytes, fuel: Fuel | None) -> list[Line]:
+    """The rows, mechanism by mechanism."""
+    by_row: dict[str, list[Difference]] = {}
+    for difference in found:
+        by_row.setdefault(difference.figure.row, []).append(difference)
+    lines = []
+    for name, masses in list(by_row.items()):
+        if not name.isdigit() or len(lines) == MOST_ROWS:
+            continue
+        row = layout.row(data, int(name) - 1)
+        law = bool(fuel and fuel.one_way) and canister_of(row) == 0
+        lines.append(Line("row " + name, "%s, %s" % (row_name(row), canister_words(row)), canister_of(row) != 0,
+                          [Compared(mass, law) for mass in masses]))
+    return lines
+
+
+def _groups(found: list[Difference]) -> list[Line]:
+    return [Line(GROUP_NAMES[group], "", True, [Compared(d, False) for d in found if d.figure.row == group])
+            for group in GROUPS]
+
+
+def _seasons(a: bytes, b: bytes) -> list[dict]:
+    """The seasons of both where both have as many: what stands in A and in B, and whether it differs."""
+    if layout.season_count(a) != layout.season_count(b):
+        return []
+    found = []
+    for i in range(layout.season_count(a)):
+        pair = layout.season(a, i), layout.season(b, i)
+        found.append({"name": "season %d" % (i + 1), "cells": [
+            {"a": _shown(name, pair[0]), "b": _shown(name, pair[1]), "differs": pair[0][name] != pair[1][name]}
+            for name in ("days", "lowest", "highest", "vp")]})
+    return found
+
+
+def _shown(name: str, season: dict[str, int]) -> str:
+    return str(season[name]) if name == "days" else tenths(season[name])
+
+
+def page_fuels(library: Library, names: tuple[str, str], sheets: tuple[bytes, bytes], served: bool = False) -> str:
+    """Two accepted sheets side by side."""
+    a, b = (library.report(data) for data in sheets)
+    found, fuel = differences(a, b), fuel_change(*sheets)
+    rows = _lines(found, sheets[0], fuel) if len(a.rows) == len(b.rows) else []
+    total = Compared(found[-1], False)
+    return render(
+        "fuels.html", served, names=[name_shown(name) for name in names], fuel=fuel, rows=rows, groups=_groups(found),
+        total=total, seasons=_seasons(*sheets), counts=Counter(d.verdict for d in found), many=len(found), words=WORDS,
+        left_out=len(a.rows) - len(rows) if rows else 0, row_counts=(len(a.rows), len(b.rows)), reports=(a, b),
+        most=max(1, *(band.high for report in (a, b) for group in GROUPS for band in getattr(report, group))),
+        mechanisms=MECHANISMS, class_names=CLASS_NAMES)

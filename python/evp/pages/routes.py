@@ -1,0 +1,324 @@
+"""The pages as a server gives them: a page asks for files, and answers with what they show. Nothing is kept between two
+requests: a page that leads to another page of the same sheet sends the sheet with it."""
+
+import base64
+import binascii
+import json
+import re
+from collections.abc import Callable
+from functools import wraps
+from pathlib import PurePosixPath
+
+from flask import Blueprint, Response, abort, jsonify, request
+
+from evp import marking
+from evp.cells import travel_of
+from evp.commands import get_library, pool_refusal
+from evp.files import InputError, text_of
+from evp.hints import with_hints
+from evp.layout import row_count, season_count
+from evp.library import SHEET_BYTES, Refusal
+from evp.pages import forms
+from evp.pages.asks import examples, page_ask, page_home
+from evp.pages.classes import page_class
+from evp.pages.days import page_day
+from evp.pages.fuels import page_fuels
+from evp.pages.parkings import page_parking
+from evp.pages.render import policy
+from evp.pages.sheets import page_sheet
+from evp.pages.splits import page_cells, page_pool, page_species
+from evp.tables import table_text
+from evp.wording import counted, name_shown
+
+blueprint = Blueprint("pages", __name__)
+
+MOST_BODY = 200_000  # of a request with a sheet or two and a table
+MOST_CLASS = 4_000_000  # of one with the sheets of a class
+MOST_SHEETS = 200
+NAMES = re.compile(r"[^A-Za-z0-9._-]+")
+
+
+# ------------------------------------------------------------------ what comes and goes
+
+
+@blueprint.before_request
+def _limit():
+    """Turns a long request away before it is read."""
+    if request.method == "POST":
+        most = MOST_CLASS if request.path.rstrip("/").endswith("/class") else MOST_BODY
+        if request.content_length is None and "Transfer-Encoding" in request.headers:
+            abort(411)
+        if (request.content_length or 0) > most:
+            abort(413)
+
+
+@blueprint.after_request
+def _headers(answer: Response) -> Response:
+    answer.headers["Content-Security-Policy"] = policy() + "; frame-ancestors 'none'"
+    answer.headers["Cache-Control"] = "no-store"
+    answer.headers["X-Content-Type-Options"] = "nosniff"
+    answer.headers["Referrer-Policy"] = "no-referrer"
+    return answer
+
+
+class Given(dict):
+    """The files of a request by the names of their fields, each a list of (name, bytes)."""
+
+    def one(self, field: str) -> tuple[str, bytes]:
+        if not self.get(field):
+            raise InputError("choose a file first")
+        return self[field][0]
+
+
+def _name(word: str) -> str:
+    """The last part of a file's name, for a page alone: no path is made of it."""
+    return name_shown(PurePosixPath(word.replace("\\", "/")).name or "sheet.evp")
+
+
+def _given() -> Given:
+    """What was uploaded, sent along by a page, or asked for as an example."""
+    found = Given()
+    for field, file in request.files.items(multi=True):
+        if file.filename:
+            found.setdefault(field, []).append((_name(file.filename), file.read(MOST_CLASS)))
+    if "sheet64" in request.form:
+        try:
+            data = base64.b64decode(request.form["sheet64"], validate=True)
+        except (binascii.Error, ValueError):
+            raise InputError("the sheet did not come whole") from None
+        found["files"] = [(_name(request.form.get("name", "")), data[:SHEET_BYTES + 1])]
+    example = request.form.get("example")
+    if example:
+        found.update(examples().get(example, dict)())
+    return found
+
+
+def _pack(name: str, data: bytes, filed: str = "") -> dict[str, str]:
+    """What a page sends along to another page of the same sheet."""
+    packed = {"name": name, "sheet64": base64.b64encode(data).decode()}
+    return {**packed, "filed": filed} if filed else packed
+
+
+def _sheet(given: Given, field: str = "files") -> tuple[str, bytes]:
+    """The first sheet among the files."""
+    sheets = [file for file in given.get(field, ()) if not file[0].lower().endswith(".csv")]
+    if not sheets:
+        raise InputError("choose a sheet first, a file whose name ends with .evp")
+    return sheets[0][0], sheets[0][1][:SHEET_BYTES + 1]
+
+
+def _number(name: str, many: int) -> int | None:
+    """A season or row that was asked for, counted from 0."""
+    word = request.form.get(name, "")
+    return int(word) - 1 if re.fullmatch("[1-9][0-9]{0,3}", word) and int(word) <= many else None
+
+
+def page(what: str) -> Callable:
+    """A page that asks for files where it is fetched and shows them where they are sent."""
+    def route(show: Callable[[Given], str]) -> Callable:
+        @wraps(show)
+        def answer():
+            if request.method == "GET":
+                return page_ask(what)
+            try:
+                return show(_given())
+            except InputError as error:
+                return page_ask(what, str(error)), 400
+        return blueprint.route("/" + what, methods=["GET", "POST"])(answer)
+    return route
+
+
+def accepted(show: Callable[[str, bytes], str]) -> Callable[[Given], str]:
+    """Of a refused sheet the page that says why."""
+    @wraps(show)
+    def answer(given: Given) -> str:
+        name, data = _sheet(given)
+        if get_library().check(data):
+            return page_sheet(get_library(), name, data, served=True, packed=_pack(name, data))
+        return show(name, data)
+    return answer
+
+
+# ------------------------------------------------------------------ the pages
+
+
+@blueprint.get("/")
+def home():
+    return page_home()
+
+
+@page("class")
+def show_class(given: Given) -> str:
+    files = [file for found in given.values() for file in found]
+    filed = [file for file in files if file[0].lower().endswith(".csv")]
+    sheets = [file for file in files if not file[0].lower().endswith(".csv")]
+    _check_class(sheets, filed)
+    library, name = get_library(), filed[0][0]
+    table = marking.filed_of(text_of(filed[0][1], name), name)
+    marked = {name: marking.marked(library, data[:SHEET_BYTES + 1]) for name, data in sorted(sheets)}
+    marks, hints = marking.marks_of(library, marked, table.filings), "hints" in request.form
+    if hints:
+        marks, _ = with_hints(library, marked, table.filings, marks, lambda done, many: None)
+    packed = {name: _pack(name, sheet.data, _filed_for(name, table)) for name, sheet in marked.items()}
+    return page_class(marked, table.filings, marks, True, packed=packed, hints=hints,
+                      marks_csv=marking.marks_csv(marks, table.semicolon))
+
+
+def _check_class(sheets: list[tuple[str, bytes]], filed: list[tuple[str, bytes]]):
+    names = [name for name, _ in sheets]
+    twice = [name for name in names if names.count(name) > 1]
+    if not sheets or not filed:
+        raise InputError("choose the sheets and the table of filed masses together: files whose names end with .evp, "
+                         "and one that ends with .csv")
+    if len(filed) > 1:
+        raise InputError("one table of filed masses is wanted, and there are %d: %s" % (
+            len(filed), ", ".join(name for name, _ in filed[:3])))
+    if twice:
+        raise InputError("%s is there twice" % twice[0])
+    if len(sheets) > MOST_SHEETS:
+        raise InputError("%s at once; %d is the most here, and evp mark takes any number" % (
+            counted(len(sheets), "sheet"), MOST_SHEETS))
+
+
+def _filed_for(name: str, table: marking.FiledTable) -> str:
+    """The lines of a sheet, as a table of its own."""
+    lines = [(f.sheet, *f.figure, f.mass, f.unit) for f in table.filings if f.sheet == name]
+    return table_text(marking.COLUMNS, lines, table.semicolon) if lines else ""
+
+
+@page("sheet")
+def show_sheet(given: Given) -> str:
+    name, data = _sheet(given)
+    tables = [file for file in given.get("files", ()) if file[0].lower().endswith(".csv")]
+    text = text_of(tables[0][1], tables[0][0]) if tables else request.form.get("filed", "")
+    filings = marking.filed_of(text, "the filed masses").filings if text else []
+    packed = _pack(name, data, text)
+    return page_sheet(get_library(), name, data, [f for f in filings if f.sheet == name], True, packed)
+
+
+@blueprint.post("/sheet/save")
+def save_sheet():
+    try:
+        name, data = _sheet(_given())
+    except InputError as error:
+        return page_ask("sheet", str(error)), 400
+    return _file(name, "evp", data)
+
+
+@page("day")
+@accepted
+def show_day(name: str, data: bytes) -> str:
+    return page_day(get_library(), name, data, served=True, packed=_pack(name, data))
+
+
+@page("parking")
+@accepted
+def show_parking(name: str, data: bytes) -> str:
+    season, row = _number("season", season_count(data)), _number("row", row_count(data))
+    return page_parking(get_library(), name, data, season, row or 0, True, _pack(name, data))
+
+
+@page("species")
+@accepted
+def show_species(name: str, data: bytes) -> str:
+    return page_species(get_library(), name, data, True, _pack(name, data))
+
+
+def _two(given: Given) -> tuple[tuple[str, str], tuple[bytes, bytes]]:
+    (name_a, a), (name_b, b) = (_sheet(given, field) for field in ("a", "b"))
+    return (name_a, name_b), (a, b)
+
+
+@page("fuels")
+def show_fuels(given: Given) -> str:
+    names, sheets = _two(given)
+    for name, data in zip(names, sheets):
+        if get_library().check(data):
+            return page_sheet(get_library(), name, data, served=True, packed=_pack(name, data))
+    return page_fuels(get_library(), names, sheets, True)
+
+
+@page("cells")
+def show_cells(given: Given) -> str:
+    library, (name, data), (table, travel) = get_library(), _sheet(given), given.one("travel")
+    if library.check(data):
+        return page_sheet(library, name, data, served=True, packed=_pack(name, data))
+    return page_cells(library, name, data, travel_of(text_of(travel, table), table, row_count(data)), True,
+                      _pack(name, data))
+
+
+@page("pool")
+def show_pool(given: Given) -> str:
+    library, (names, sheets) = get_library(), _two(given)
+    try:
+        pooled = library.pool(*sheets)
+    except Refusal as refusal:
+        raise InputError(pool_refusal(library, refusal, names, sheets)) from None
+    return page_pool(library, names, sheets, pooled, True, _pack("pooled.evp", pooled))
+
+
+# ------------------------------------------------------------------ the form
+
+
+@blueprint.route("/form", methods=["GET", "POST"])
+def show_form():
+    if request.method == "GET":
+        return forms.page_form()
+    try:
+        name, data = _sheet(_given())
+        return forms.page_form(forms.form_from(data, name), name.removesuffix(".evp"))
+    except InputError as error:
+        return forms.page_form(message=str(error)), 400
+
+
+def _form(word: str | None) -> forms.Form:
+    try:
+        return forms.form_of(json.loads(word or ""))
+    except (ValueError, RecursionError):
+        raise InputError("this is no form") from None
+
+
+@blueprint.post("/form/check")
+def check_form():
+    """The explanation of a form, with the number that was sent along, so that a page knows the latest."""
+    try:
+        found = forms.check_form(get_library(), _form(request.get_data(as_text=True)))
+    except InputError as error:
+        return jsonify({"state": "unread", "line": str(error), "faults": [], "doubts": []}), 400
+    serial = request.args.get("serial", "0")
+    return jsonify({**found, "serial": int(serial) if re.fullmatch("[0-9]{1,9}", serial) else 0})
+
+
+@blueprint.post("/form/read")
+def read_form():
+    """The form of a sheet that was dropped."""
+    data = request.get_data()
+    try:
+        name = _name(request.args.get("name", ""))
+        return jsonify({"form": forms.form_from(data[:SHEET_BYTES + 1] if data[:3] == b"EVP" else data, name),
+                        "name": PurePosixPath(name).stem})
+    except InputError as error:
+        return jsonify({"message": str(error)}), 400
+
+
+@blueprint.post("/form/save")
+def save_form():
+    """The sheet or its tables as a file."""
+    try:
+        made = forms.made_of(_form(request.form.get("form")))
+    except InputError as error:
+        return forms.page_form(message=str(error)), 400
+    if made.data is None:
+        return forms.page_form(message="nothing saved: %s cannot be read" % counted(len(made.faults), "field")), 400
+    name = request.form.get("name", "")
+    if request.form.get("what") == "csv":
+        return _file(name + "-csv", "zip", forms.tables_of(made.data))
+    return _file(name, "evp", made.data)
+
+
+def _file(name: str, suffix: str, data: bytes) -> Response:
+    """A file to save, under a plain name."""
+    plain = NAMES.sub("-", name.removesuffix("." + suffix)).strip("-.")[:60] or "sheet"
+    answer = Response(data, mimetype="application/octet-stream")
+    answer.headers["Content-Disposition"] = 'attachment; filename="%s.%s"' % (plain, suffix)
+    return answer

@@ -1,0 +1,96 @@
+"""The page of a sheet: where the mass of an accepted one comes from, and why a refused one is refused."""
+
+from collections.abc import Iterable
+from typing import NamedTuple
+
+from evp import layout
+from evp.explain import explain
+from evp.figures import GROUP_NAMES, bands, groups
+from evp.layout import CANISTER_NAMES, canister_of
+from evp.library import Band, Library, Masses, Report
+from evp.marking import Filing, Marked, marks_of
+from evp.masses import best_unit
+from evp.pages.classes import Judged
+from evp.pages.parts import one_vehicle, only_rows, only_season
+from evp.pages.refusals import page_refused
+from evp.pages.render import render
+from evp.pages.words import CLASS_NAMES, canister_words, row_more, row_name, season_words
+from evp.wording import name_shown
+
+MOST_ROWS = 200  # that the fleet is told in words for
+
+
+class Part(NamedTuple):
+    """A part of the fleet or of the year: its name, what the sheet says of it, and the report of it alone."""
+    name: str
+    about: str
+    vehicles: int
+    masses: Masses
+    total: Band
+    rows: list[int]
+    single: Band | None = None  # the mass of one vehicle
+
+
+def part_of(library: Library, data: bytes, name: str, about: str, rows: list[int]) -> Part:
+    """Some rows of the fleet."""
+    report = library.report(only_rows(data, rows))
+    return Part(name, about, sum(layout.row(data, i)["vehicles"] for i in rows), report.all, report.total, rows)
+
+
+def _by(library: Library, data: bytes, key, names: dict) -> list[Part]:
+    """The fleet parted by what a row has."""
+    found: dict = {}
+    for i in range(layout.row_count(data)):
+        found.setdefault(key(layout.row(data, i)), []).append(i)
+    return [part_of(library, data, name, "", found[value]) for value, name in names.items() if value in found]
+
+
+def _seasons(library: Library, data: bytes) -> list[Part]:
+    found = []
+    for i in range(layout.season_count(data)):
+        report = library.report(only_season(data, i))
+        words = season_words(layout.season(data, i))
+        found.append(Part("season %d" % (i + 1), words, 0, report.all, report.total, []))
+    return found
+
+
+def _fleet(library: Library, data: bytes) -> list[Part]:
+    """The rows, most mass first."""
+    found = []
+    for i in range(min(layout.row_count(data), MOST_ROWS)):
+        row = layout.row(data, i)
+        part = part_of(library, data, row_name(row), "%s; %s" % (canister_words(row), row_more(row)), [i])
+        found.append(part._replace(single=library.report(one_vehicle(data, i)).total))
+    return sorted(found, key=lambda part: part.total, reverse=True)
+
+
+def _judged(library: Library, data: bytes, report: Report, filings: Iterable[Filing]) -> list[Judged]:
+    """The figures that were filed for this sheet."""
+    filings = list(filings)
+    marked = {filing.sheet: Marked(data, "", bands(report)) for filing in filings}
+    return [Judged(filing.figure, filing.filed, mark)
+            for filing, mark in zip(filings, marks_of(library, marked, filings))]
+
+
+def page_sheet(library: Library, name: str, data: bytes, filings: Iterable[Filing] = (), served: bool = False,
+               packed: dict | None = None) -> str:
+    """The page of a sheet, accepted or refused; `filings` are those for this sheet."""
+    explanation = explain(library, data)
+    if explanation.number:
+        return page_refused(library, name, data, explanation, served, packed)
+    report = library.report(data)
+    unit = best_unit(report.total.high)
+    canisters = _by(library, data, canister_of, {code: CANISTER_NAMES[code] for code in (0, 1, 2, 3)})
+    classes = _by(library, data, lambda row: row["class"], CLASS_NAMES)
+    seasons, fleet = _seasons(library, data), _fleet(library, data)
+    vehicles = sum(part.vehicles for part in classes)
+    return render(
+        "sheet.html", served, name=name_shown(name), size=len(data), version=layout.version_of(data), report=report,
+        total=report.total, unit=unit, canisters=canisters, classes=classes, seasons=seasons, fleet=fleet,
+        row_count=layout.row_count(data), vehicles=vehicles, groups=[(GROUP_NAMES[n], m) for n, m in groups(report)],
+        judged=_judged(library, data, report, filings), packed=packed,
+        most_class=_most(classes), most_season=_most(seasons), most_row=_most(fleet))
+
+
+def _most(parts: list[Part]) -> Part:
+    return max(parts, key=lambda part: part.total.high)

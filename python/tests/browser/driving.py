@@ -1,0 +1,194 @@
+"""What the browser's tests share: one Chromium, one desk, and ways to look and to press keys.
+
+    /usr/bin/python3 -m unittest discover -s python/tests/browser
+
+needs Debian's chromium, chromium-driver, python3-selenium, python3-flask and python3-waitress (.ci/install). Pictures go
+to target/browser, and to docs/pictures where EVP_PICTURES is set.
+"""
+
+import atexit
+import base64
+import json
+import os
+import shutil
+import socket
+import sys
+import tempfile
+import threading
+import time
+import unittest
+from functools import cache
+from pathlib import Path
+
+TOP = Path(__file__).resolve().parents[3]
+for _folder in (TOP, TOP / "python", TOP / "python" / "tests"):
+    if str(_folder) not in sys.path:
+        sys.path.insert(0, str(_folder))
+
+import flask  # noqa: E402
+import waitress  # noqa: E402
+from selenium import webdriver  # noqa: E402
+from selenium.webdriver.common.action_chains import ActionChains  # noqa: E402
+from selenium.webdriver.common.by import By  # noqa: E402
+from selenium.webdriver.common.keys import Keys  # noqa: E402
+
+from evp.desk.app import create_app  # noqa: E402
+from evp.desk.security import hosts_of  # noqa: E402
+
+SAMPLES = TOP / "samples"
+PICTURES = TOP / "docs" / "pictures" if os.environ.get("EVP_PICTURES") else TOP / "target" / "browser"
+MOST_PICTURE = 200_000  # bytes
+WAIT = 10  # seconds at most for an answer
+PROGRAMS = ("chromium", "chromium-browser", "google-chrome")
+
+
+def free_port() -> int:
+    with socket.socket() as bound:
+        bound.bind(("127.0.0.1", 0))
+        return bound.getsockname()[1]
+
+
+def serve(app: flask.Flask, port: int) -> str:
+    """Serves an application on this machine until the tests end; its address."""
+    server = waitress.create_server(app, host="127.0.0.1", port=port, threads=4)
+    threading.Thread(target=server.run, daemon=True).start()
+    return "http://127.0.0.1:%d" % port
+
+
+@cache
+def desk() -> str:
+    """The address of the desk without a ledger."""
+    port = free_port()
+    return serve(create_app(hosts_of("127.0.0.1", port)), port)
+
+
+@cache
+def downloads() -> Path:
+    folder = tempfile.mkdtemp()
+    atexit.register(shutil.rmtree, folder, ignore_errors=True)
+    return Path(folder)
+
+
+@cache
+def chromium() -> webdriver.Chrome:
+    """The browser, started once."""
+    options = webdriver.ChromeOptions()
+    for word in ("--headless=new", "--disable-gpu", "--hide-scrollbars", "--force-device-scale-factor=1", "--lang=en"):
+        options.add_argument(word)
+    if os.geteuid() == 0:  # the sandbox wants another user
+        options.add_argument("--no-sandbox")
+    options.binary_location = next(filter(None, map(shutil.which, PROGRAMS)))
+    options.set_capability("goog:loggingPrefs", {"browser": "ALL"})
+    service = webdriver.chrome.service.Service(shutil.which("chromedriver"))
+    browser = webdriver.Chrome(service=service, options=options)
+    atexit.register(browser.quit)
+    browser.execute_cdp_cmd("Browser.setDownloadBehavior", {"behavior": "allow", "downloadPath": str(downloads())})
+    return browser
+
+
+class BrowserTestCase(unittest.TestCase):
+    """A test in the browser. No page may say anything on its console."""
+
+    def setUp(self):
+        self.browser = chromium()
+        self.look(1280, 900)
+        self.browser.get_log("browser")
+
+    def tearDown(self):
+        self.assertEqual(self.console(), [])
+
+    def console(self) -> list[str]:
+        return [line["message"] for line in self.browser.get_log("browser") if line["level"] in ("SEVERE", "WARNING")]
+
+    # ------------------------------------------------------------------ looking
+
+    def look(self, width: int, height: int, scheme: str = "light", media: str = "screen"):
+        """The size of the window, dark or light, and whether it is for paper."""
+        self.browser.execute_cdp_cmd("Emulation.setDeviceMetricsOverride", {
+            "width": width, "height": height, "deviceScaleFactor": 1, "mobile": False})
+        self.browser.execute_cdp_cmd("Emulation.setEmulatedMedia", {
+            "media": media, "features": [{"name": "prefers-color-scheme", "value": scheme}]})
+
+    def open(self, path: str):
+        self.browser.get(path if "://" in path else desk() + path)
+
+    def run_script(self, source: str, *given):
+        return self.browser.execute_script(source, *given)
+
+    def all(self, selector: str) -> list:
+        return self.browser.find_elements(By.CSS_SELECTOR, selector)
+
+    def one(self, selector: str):
+        return self.browser.find_element(By.CSS_SELECTOR, selector)
+
+    def text(self, selector: str) -> str:
+        return self.one(selector).text
+
+    def visible(self, selector: str) -> int:
+        """How many of these can be seen."""
+        return self.run_script("""
+            return Array.from(document.querySelectorAll(arguments[0]))
+              .filter(function (e) { return e.checkVisibility({visibilityProperty: true}); }).length;""", selector)
+
+    def wait(self, condition, what: str):
+        """Until something holds; a page that is left meanwhile holds nothing."""
+        end = time.monotonic() + WAIT
+        while time.monotonic() < end:
+            try:
+                if condition():
+                    return
+            except Exception:  # noqa: BLE001  the page is being left
+                pass
+            time.sleep(0.02)
+        self.fail("waited %d s: %s; the page has: %s" % (WAIT, what, self.text("body")[:500]))
+
+    def picture(self, name: str):
+        """A picture of the window, small enough for a README."""
+        PICTURES.mkdir(parents=True, exist_ok=True)
+        shot = base64.b64decode(self.browser.execute_cdp_cmd("Page.captureScreenshot", {"format": "png"})["data"])
+        self.assertLess(len(shot), MOST_PICTURE)
+        (PICTURES / (name + ".png")).write_bytes(shot)
+
+    # ------------------------------------------------------------------ doing
+
+    def press(self, *keys: str):
+        """Keys, one after another, where the focus is."""
+        for key in keys:
+            ActionChains(self.browser).send_keys(key).perform()
+
+    def focused(self) -> str:
+        """What has the focus, in short."""
+        return self.run_script("""
+            var e = document.activeElement;
+            return e === document.body ? "" : (e.id ? "#" + e.id : (e.textContent || e.value || e.type).trim().slice(0, 60));""")
+
+    def tab_to(self, wanted: str, most: int = 120):
+        """Presses the tabulator until something has the focus, and sees that it can be seen."""
+        for _ in range(most):
+            self.press(Keys.TAB)
+            if self.focused() == wanted:
+                width = self.run_script("return getComputedStyle(document.activeElement).outlineWidth")
+                self.assertNotEqual(width, "0px", "%s has the focus, and nothing shows it" % wanted)
+                return
+        self.fail("%s is not reached by the tabulator; the last was %s" % (wanted, self.focused()))
+
+    def drop(self, paths: list[Path]):
+        """Drops files on the page."""
+        files = [{"name": path.name, "data": base64.b64encode(path.read_bytes()).decode()} for path in paths]
+        self.run_script("""
+            var held = new DataTransfer();
+            JSON.parse(arguments[0]).forEach(function (file) {
+              var bytes = Uint8Array.from(atob(file.data), function (sign) { return sign.charCodeAt(0); });
+              held.items.add(new File([bytes], file.name));
+            });
+            document.body.dispatchEvent(new DragEvent("dragover", {dataTransfer: held, bubbles: true, cancelable: true}));
+            document.body.dispatchEvent(new DragEvent("drop", {dataTransfer: held, bubbles: true, cancelable: true}));""",
+            json.dumps(files))
+
+    def downloaded(self, name: str) -> bytes:
+        """A file that the browser saved."""
+        path = downloads() / name
+        self.wait(lambda: path.exists() and path.stat().st_size > 0, "%s is saved" % name)
+        data = path.read_bytes()
+        path.unlink()
+        return data
