@@ -6,6 +6,7 @@ from pathlib import Path
 from unittest import mock
 
 from tools.check import names
+from tools.command import TOP
 
 
 class NamesTest(unittest.TestCase):
@@ -64,6 +65,13 @@ class NamesTest(unittest.TestCase):
             ("a: Limits", "a: Gone", "there is no crates/a/specs/Gone.antt"),
         ):
             self.assertIn(fault, list(names.spec_faults(good.replace(old, new))))
+
+
+class ReadmeTest(unittest.TestCase):
+    """README.md stays short."""
+
+    def test_size(self):
+        self.assertLessEqual(len((TOP / "README.md").read_bytes()), 6 * 1024)
 
 
 if __name__ == "__main__":
