@@ -53,14 +53,19 @@ def report_lines(file: str, data: bytes, report: Report, unit: str | None = None
 
 
 def _table(data: bytes, report: Report, unit: str | None) -> Iterator[tuple[str, ...]]:
-    yield "row", "vehicle", "tech.", "canister", "vehicles", *MECHANISMS
+    """One unit for all stands in the header."""
+    def cells(masses: Masses) -> Iterator[str]:
+        return (shown(band, unit, DASH).removesuffix(" %s" % unit) for band in masses)
+
+    names = ("%s %s" % (name, unit) if unit else name for name in MECHANISMS)
+    yield "row", "vehicle", "tech.", "canister", "vehicles", *names
     for i, masses in enumerate(report.rows):
         row = layout.row(data, i)
         technology = technology_name(row["technology"]) if row["technology"] else "conv."
         yield (str(i + 1), SHORT_NAMES.get(row["class"], CLASSES[row["class"]][0]), technology, canister_name(row),
-               apart(row["vehicles"]), *(shown(band, unit, DASH) for band in masses))
+               apart(row["vehicles"]), *cells(masses))
     for name, masses in groups(report):
-        yield "", GROUP_NAMES[name], "", "", "", *(shown(band, unit, DASH) for band in masses)
+        yield "", GROUP_NAMES[name], "", "", "", *cells(masses)
 
 
 def report_csv(report: Report, unit: str | None = None) -> str:

@@ -242,6 +242,7 @@ class WidthTest(DeskTestCase):
             shown_lines += run(command, "--help").out.splitlines()
         for name in ("region", "survey", "odometer", "districts", "table-3-5"):
             shown_lines += run("show", TOP / "samples" / (name + ".evp")).out.splitlines()
+        shown_lines += run("show", TOP / "samples" / "course" / "north.evp", "--unit", "kg").out.splitlines()
         shown_lines += run("compare", TOP / "samples" / "region.evp", TOP / "samples" / "survey.evp").out.splitlines()
         shown_lines += run("species", TOP / "samples" / "region.evp").out.splitlines()
         own = [line for line in shown_lines if "samples/" not in line and "row,town" not in line]
