@@ -21,7 +21,7 @@ from functools import cache
 from pathlib import Path
 
 TOP = Path(__file__).resolve().parents[3]
-for _folder in (TOP, TOP / "python", TOP / "python" / "tests"):
+for _folder in (TOP, TOP / "python"):
     if str(_folder) not in sys.path:
         sys.path.insert(0, str(_folder))
 

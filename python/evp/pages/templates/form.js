@@ -39,20 +39,25 @@
     }
     field.value = word;
   }
-  function add(name, words, before) {
+  function make(name, words) {
     var line = get(name + "-line").content.cloneNode(true).querySelector("tr");
-    get(name + "-table").tBodies[0].insertBefore(line, before || null);
-    Object.keys(words || {}).forEach(function (key) {
-      var field = line.querySelector("[data-field=" + key + "]");
-      if (field) setField(field, words[key]);
+    all("[data-field]", line).forEach(function (field) {
+      if (field.dataset.field in words) setField(field, words[field.dataset.field]);
     });
+    return line;
+  }
+  function add(name, words, before) {
+    var line = make(name, words);
+    get(name + "-table").tBodies[0].insertBefore(line, before || null);
     number(name);
     return line;
   }
   function fill(words) {
-    ["season", "row"].forEach(function (name) { get(name + "-table").tBodies[0].replaceChildren(); });
-    words.seasons.forEach(function (season) { add("season", season); });
-    words.rows.forEach(function (row) { add("row", row); });
+    ["season", "row"].forEach(function (name) {
+      var lines = words[name + "s"].map(function (record) { return make(name, record); });
+      get(name + "-table").tBodies[0].replaceChildren.apply(get(name + "-table").tBodies[0], lines);
+      number(name);
+    });
     form.querySelector("[name=kind][value=" + words.parking + "]").checked = true;
     range(24).forEach(function (i) {
       get("durations-" + i).value = words.durations[i - 1];
@@ -103,14 +108,12 @@
       var place = document.createElement("tr"), cell = document.createElement("td");
       place.className = "fault-row";
       cell.colSpan = line.cells.length;
-      words.textContent = field.closest("td").dataset.l.split(",")[0] + ": " + fault.text;
       cell.append(words);
       place.append(cell);
       line.classList.add("has-fault");
       line.after(place);
     } else if (control) {
       field.closest(".counts, .scroll").after(words);
-      words.textContent = (field.getAttribute("aria-label") || field.labels[0].textContent) + ": " + fault.text;
     } else field.append(words);
   }
   function show(answer) {
@@ -124,7 +127,7 @@
       link.id = "to-fault";
       link.textContent = "Go to the field";
       link.addEventListener("click", function (event) { event.preventDefault(); get(first.id).focus(); });
-      told.append(" ", first.text, " ", link);
+      told.append(" ", first.where ? first.where[0].toUpperCase() + first.where.slice(1) + ": " : "", first.text, ". ", link);
     }
     told.dataset.state = answer.state;
     told.dataset.serial = answer.serial || serial;
