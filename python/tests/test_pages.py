@@ -431,8 +431,8 @@ class TestForm(unittest.TestCase):
         found = forms.check_form(LIBRARY, forms.form_of(form))
         self.assertEqual(found["state"], "unread")
         self.assertEqual({fault["id"]: fault["text"] for fault in found["faults"]}, {
-            "row-0-trips": "'4,80' is no number; the decimal sign is a point: 4.80",
-            "season-1-vp": "vapour pressure is missing", "durations-5": "-1 has a sign, and the field has none"})
+            "row-0-trips": "trips: '4,80' is no number; the decimal sign is a point: 4.80",
+            "season-1-vp": "vapour pressure is missing", "durations-5": "2.5 h: -1 has a sign, and the field has none"})
 
     def test_doubts_speak_of_rows(self):
         form = forms.example_form()

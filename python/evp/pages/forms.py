@@ -18,6 +18,7 @@ from evp.library import MECHANISMS, Library
 from evp.masses import shown
 from evp.pages.refusals import minus_in
 from evp.pages.render import render
+from evp.pages.words import hours
 from evp.sheet import Builder, TextError, doubts, folder_of, take_text
 from evp.sheet.folders import WORDS
 from evp.sheet.reader import record_words
@@ -43,9 +44,10 @@ row class=5 technology=1 carburettor=100 hot=30 fill=50 vehicles=1420 trips=3.00
 
 
 class Fault(NamedTuple):
-    """What is wrong at a field."""
+    """What is wrong at a field; where it stands, empty where the text says it."""
     id: str
     text: str
+    where: str = ""
 
 
 class Form(NamedTuple):
@@ -102,30 +104,31 @@ def _field_faults(kind: str, i: int, given: dict[str, str]) -> list[Fault]:
     """The words of a record that are none for their field."""
     found = []
     for field in FIELDS[kind]:
-        word, id = given.get(field.name), "%s-%d-%s" % (kind, i, field.name)
+        word, id, where = given.get(field.name), "%s-%d-%s" % (kind, i, field.name), "%s %d" % (kind, i + 1)
         if word is None and field.name in NEEDED[kind]:
-            found.append(Fault(id, "%s is missing" % label_of(field)))
+            found.append(Fault(id, "%s is missing" % label_of(field), where))
         if word is None or field.name == "canister" and word in CANISTERS or field.name == "tank" and word == "class":
             continue
-        found += _encoded(word, field, id)
+        found += _encoded(word, field, label_of(field), id, where)
     return found
 
 
-def _encoded(word: str, field: Field, id: str) -> list[Fault]:
+def _encoded(word: str, field: Field, label: str, id: str, where: str = "") -> list[Fault]:
     try:
         encode(word, field)
     except TextError as error:
-        return [Fault(id, str(error).partition(": ")[2])]
+        return [Fault(id, "%s: %s" % (label, str(error).partition(": ")[2]), where)]
     return []
 
 
 def _count_faults(form: Form) -> list[Fault]:
     if form.parking == "lists":
-        lists = [("%s-%d" % (name, i), word) for name in ("durations", "hours")
-                 for i, word in enumerate(getattr(form, name), 1)]
+        lists = [("durations-%d" % d, hours(d), word) for d, word in enumerate(form.durations, 1)]
+        lists += [("hours-%d" % t, "hour %d" % t, word) for t, word in enumerate(form.hours, 1)]
     else:
-        lists = [("grid-%d-%d" % (t, d), word) for t, line in enumerate(form.grid, 1) for d, word in enumerate(line, 1)]
-    return [fault for id, word in lists if word for fault in _encoded(word, Field("count", 2), id)]
+        lists = [("grid-%d-%d" % (t, d), "end hour %d, %s" % (t, hours(d)), word)
+                 for t, line in enumerate(form.grid, 1) for d, word in enumerate(line, 1)]
+    return [fault for id, label, word in lists if word for fault in _encoded(word, Field("count", 2), label, id)]
 
 
 def _builder(form: Form) -> Builder:
@@ -172,7 +175,7 @@ def _whole_fault(form: Form, message: str) -> Fault:
     """A message of the builder that is about several records."""
     place = re.match(r"fleet line ([0-9]+): (?:row: )?", message)
     if place and "mileage" in message:
-        return Fault("row-%d-mileage" % (int(place[1]) - 1), message[place.end():])
+        return Fault("row-%d-mileage" % (int(place[1]) - 1), message[place.end():], "row " + place[1])
     return Fault("rows" if place else "parking", _in_form(message))
 
 
@@ -193,7 +196,8 @@ def check_form(library: Library, form: Form) -> dict:
                 "faults": [fault._asdict() for fault in made.faults]}
     found = explain(library, made.data)
     if found.number:
-        fault = Fault(_id_of(form, found.record, found.index, found.field), minus_in(_told(found)))
+        id, where = _id_of(form, found.record, found.index, found.field), found.record_name if found.index else ""
+        fault = Fault(id, minus_in(_told(found)), where)
         return {"state": "refused", "line": "Refused %d at %d." % (found.number, found.place), "doubts": made.doubts,
                 "faults": [fault._asdict()], "bytes": len(made.data)}
     report = library.report(made.data)

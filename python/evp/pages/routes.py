@@ -198,7 +198,10 @@ def show_sheet(given: Given) -> str:
 
 @blueprint.post("/sheet/save")
 def save_sheet():
-    name, data = _sheet(_given())
+    try:
+        name, data = _sheet(_given())
+    except InputError as error:
+        return page_ask("sheet", str(error)), 400
     return _file(name, "evp", data)
 
 

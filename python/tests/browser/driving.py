@@ -11,6 +11,7 @@ import base64
 import json
 import os
 import shutil
+import socket
 import sys
 import tempfile
 import threading
@@ -20,7 +21,7 @@ from functools import cache
 from pathlib import Path
 
 TOP = Path(__file__).resolve().parents[3]
-for _folder in (TOP, TOP / "python", TOP / "python" / "tests"):
+for _folder in (TOP, TOP / "python"):
     if str(_folder) not in sys.path:
         sys.path.insert(0, str(_folder))
 
@@ -31,7 +32,8 @@ from selenium.webdriver.common.action_chains import ActionChains  # noqa: E402
 from selenium.webdriver.common.by import By  # noqa: E402
 from selenium.webdriver.common.keys import Keys  # noqa: E402
 
-from evp.pages.routes import blueprint  # noqa: E402
+from evp.desk.app import create_app  # noqa: E402
+from evp.desk.security import hosts_of  # noqa: E402
 
 SAMPLES = TOP / "samples"
 PICTURES = TOP / "docs" / "pictures" if os.environ.get("EVP_PICTURES") else TOP / "target" / "browser"
@@ -40,19 +42,24 @@ WAIT = 10  # seconds at most for an answer
 PROGRAMS = ("chromium", "chromium-browser", "google-chrome")
 
 
-def serve(app: flask.Flask) -> str:
-    """Serves an application on a free port of this machine until the tests end; its address."""
-    server = waitress.create_server(app, host="127.0.0.1", port=0, threads=4)
+def free_port() -> int:
+    with socket.socket() as bound:
+        bound.bind(("127.0.0.1", 0))
+        return bound.getsockname()[1]
+
+
+def serve(app: flask.Flask, port: int) -> str:
+    """Serves an application on this machine until the tests end; its address."""
+    server = waitress.create_server(app, host="127.0.0.1", port=port, threads=4)
     threading.Thread(target=server.run, daemon=True).start()
-    return "http://127.0.0.1:%s" % server.effective_port
+    return "http://127.0.0.1:%d" % port
 
 
 @cache
 def desk() -> str:
-    """The address of a desk with the pages alone."""
-    app = flask.Flask("browser", static_folder=None)
-    app.register_blueprint(blueprint)
-    return serve(app)
+    """The address of the desk without a ledger."""
+    port = free_port()
+    return serve(create_app(hosts_of("127.0.0.1", port)), port)
 
 
 @cache

@@ -103,14 +103,12 @@
       var place = document.createElement("tr"), cell = document.createElement("td");
       place.className = "fault-row";
       cell.colSpan = line.cells.length;
-      words.textContent = field.closest("td").dataset.l.split(",")[0] + ": " + fault.text;
       cell.append(words);
       place.append(cell);
       line.classList.add("has-fault");
       line.after(place);
     } else if (control) {
       field.closest(".counts, .scroll").after(words);
-      words.textContent = (field.getAttribute("aria-label") || field.labels[0].textContent) + ": " + fault.text;
     } else field.append(words);
   }
   function show(answer) {
@@ -124,7 +122,7 @@
       link.id = "to-fault";
       link.textContent = "Go to the field";
       link.addEventListener("click", function (event) { event.preventDefault(); get(first.id).focus(); });
-      told.append(" ", first.text, " ", link);
+      told.append(" ", first.where ? first.where[0].toUpperCase() + first.where.slice(1) + ": " : "", first.text, ". ", link);
     }
     told.dataset.state = answer.state;
     told.dataset.serial = answer.serial || serial;
