@@ -80,7 +80,8 @@ CLAIMS = (
     "the report has at most {report_words} words", "lends {report_words}, those of 1,000 rows",
     "longer than {text_bytes} bytes",
     # the course's ledger
-    "{most_calls} calls, and a ledger has no room for more", "{load_calls} calls at once",
+    "{most_calls} calls, and a ledger has no room for more", "each of the nine has {most_calls} calls",
+    "{load_calls} calls at once",
     # docs/METHOD.md, proved and measured
     "the terms left out 11/4 | 2^-40 | 5 | {quadratic_error} |", "E up to 1/16 | 2^-40 | 8 | {fine_error} |",
     "0.004·vp | 2^-40 | {bound_2_3} | {error_2_3} |",
