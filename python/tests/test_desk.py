@@ -92,7 +92,10 @@ class PeopleTest(LedgerTestCase):
         page = marker.get().text
         self.assertEqual(len(re.findall(r'data-l="vehicles"', page)), ROWS)
         report = LIBRARY.report(REGION)
-        self.assertIn(format(report.total.low, ","), re.sub("<[^>]*>", "", page))
+        self.assertIn(apart(report.total.low), re.sub("<[^>]*>", "", page))
+        self.assertNotIn("Refresh", dict(marker.get().headers))
+        self.assertEqual(dict(marker.get("?every=10").headers)["Refresh"], "10")
+        self.assertNotIn("Refresh", dict(people[0].get("?every=10").headers))
 
     def test_refusals(self):
         marker, one, *_ = self.serve("--new", SHEET).people()
@@ -254,7 +257,7 @@ class TurnedAwayTest(LedgerTestCase):
         self.desk = self.serve("--new", SHEET, "--patience", 3)
         self.marker, *self.people = self.desk.people()
 
-    def assert_served(self, within: float = 5):
+    def assert_served(self, within: float = 15):
         """A participant makes a call and reads the answer."""
         client = self.desk.client(self.people[0].link, timeout=within)
         began = time.monotonic()
@@ -295,7 +298,7 @@ class TurnedAwayTest(LedgerTestCase):
             self.people[0].link.encode(), b"127.0.0.1:%d" % self.desk.port)
         began = time.monotonic()
         self.assertEqual(raw(self.desk.port, head).split()[1], b"413")
-        self.assertLess(time.monotonic() - began, 2)
+        self.assertLess(time.monotonic() - began, 5)
         with contextlib.suppress(OSError), socket.create_connection((HOST, self.desk.port), 5) as sending:
             sending.sendall(head + b"x" * 10_000_000)
         chunked = head.replace(b"Content-Length: 10000000", b"Transfer-Encoding: chunked")
@@ -307,6 +310,8 @@ class TurnedAwayTest(LedgerTestCase):
 
     def test_thousand_connections(self):
         """A thousand that only stay open; they are let go of in time."""
+        from evp.desk.server import most_connections
+        self.assertGreater(most_connections(), 1_000)  # of this process too
         with contextlib.ExitStack() as stack:
             idle = [stack.enter_context(socket.create_connection((HOST, self.desk.port), 10)) for _ in range(1_000)]
             self.assert_served()
