@@ -144,6 +144,19 @@ class PeopleTest(LedgerTestCase):
         self.assertIn("older than your last call", one.call("arrive", 1, 6, own=1).text)
         self.assertEqual(len(marker.table("calls.csv")), 1)
 
+    def test_sent_twice_at_once(self):
+        marker, one, *_ = (desk := self.serve("--new", SHEET)).people()
+        for own in range(1, 11):
+            answers = []
+            threads = [threading.Thread(target=lambda: answers.append(
+                desk.client(one.link).call("arrive", 1, 5, own=own).status)) for _ in range(4)]
+            for thread in threads:
+                thread.start()
+            for thread in threads:
+                thread.join()
+            self.assertEqual(answers, [303] * 4)
+        self.assertEqual(len(marker.table("calls.csv")), 10)
+
     def test_limit_of_calls(self):
         made_ledger(self.file)
         found = store.Store(self.file)
@@ -297,7 +310,9 @@ class TurnedAwayTest(LedgerTestCase):
         head = b"POST %s HTTP/1.1\r\nHost: %s\r\nContent-Length: 10000000\r\n\r\n" % (
             self.people[0].link.encode(), b"127.0.0.1:%d" % self.desk.port)
         began = time.monotonic()
-        self.assertEqual(raw(self.desk.port, head).split()[1], b"413")
+        answer = raw(self.desk.port, head)
+        self.assertEqual(answer.split()[1], b"413")
+        self.assertIn(b"This is longer than anything that is wanted here.", answer)
         self.assertLess(time.monotonic() - began, 5)
         with contextlib.suppress(OSError), socket.create_connection((HOST, self.desk.port), 5) as sending:
             sending.sendall(head + b"x" * 10_000_000)
