@@ -253,6 +253,9 @@ class CourseLedger:
                 self._played.note(waiting.who, call)
         if not failure:
             self._played.shared = trial.shared
+        for waiting in batch:
+            if isinstance(waiting.answer, OutOfDate):  # or the same call, sent twice at once
+                waiting.answer = self._known(waiting, self._played) or waiting.answer
 
     def _known(self, waiting: _Waiting, trial: _Played) -> Call | NotTaken | None:
         """What can be said of a call without the library; None where it is to be played."""
