@@ -10,6 +10,7 @@ how things were: of these the links alone are looked at.
 """
 
 import re
+from collections import Counter
 from collections.abc import Iterator
 from pathlib import Path
 
@@ -49,9 +50,14 @@ def has_name(text: str, name: str) -> bool:
 
 
 def headings(path: Path) -> set[str]:
-    """The anchors of a page's headings, as a reader of Markdown makes them."""
-    found = re.findall(r"^#+ (.+)$", path.read_text(encoding="utf-8"), re.M)
-    return {re.sub(r"[^\w\- ]", "", title.lower()).replace(" ", "-") for title in found}
+    """The anchors of a page's headings, as a reader of Markdown makes them: one that is there already gets a number."""
+    seen: Counter[str] = Counter()
+    found = set()
+    for title in re.findall(r"^#+ (.+)$", path.read_text(encoding="utf-8"), re.M):
+        anchor = re.sub(r"[^\w\- ]", "", title.lower()).replace(" ", "-")
+        found.add("%s-%d" % (anchor, seen[anchor]) if seen[anchor] else anchor)
+        seen[anchor] += 1
+    return found
 
 
 def link_faults(path: Path) -> Iterator[str]:
