@@ -24,7 +24,7 @@ class Words(NamedTuple):
 
 
 class Travel(NamedTuple):
-    """Whether a row's owners live in town, and where its vehicles drive."""
+    """Whether a row's owners live in town, 1 or 0, and where its vehicles drive."""
     town: int
     urban_mileage: int
     rural_mileage: int
@@ -126,7 +126,7 @@ def shares(travel: Travel) -> tuple[tuple[Fraction, ...], ...]:
 
 def refusal_of(row: Row) -> str | None:
     """Why a row is refused, in words, or None; 28 comes first."""
-    if any(not 1 <= x <= TRAVEL_LIMIT for x in row.travel[1:]):
+    if row.travel.town not in (0, 1) or any(not 1 <= x <= TRAVEL_LIMIT for x in row.travel[1:]):
         return "travel"
     lows, highs = row.words[::2], row.words[1::2]
     if any(low > high for low, high in zip(lows, highs)):

@@ -33,11 +33,12 @@ Vectors = tuple[list[Row], list[Sum]]
 WORKED = Row(Words(3875007, 3875009, 8463293, 8463295, 1843000, 1843002), Travel(1, 6000, 4500, 3000, 60, 100))
 LEVEL = Travel(1, 1, 1, 1, 1, 1)
 BEYOND = (0, TRAVEL_LIMIT + 1, 2 ** 32, 2 ** 64 - 1)
+NO_TOWNS = (2, 3, 256, 2 ** 32, 2 ** 64 - 1)
 
 
 def travel_rows() -> Iterator[Row]:
-    """Each mileage and speed at its ends and beyond them, of good words and of
-    words that would be refused too."""
+    """Each mileage and speed at its ends and beyond them, and what is no answer to
+    the question of town, of good words and of words that would be refused too."""
     wrong = WORKED.words._replace(soak_low=WORKED.words.soak_high + 1)
     for field in Travel._fields[1:]:
         for x in (1, TRAVEL_LIMIT):
@@ -45,6 +46,8 @@ def travel_rows() -> Iterator[Row]:
         for x in BEYOND:
             yield Row(WORKED.words, WORKED.travel._replace(**{field: x}))
             yield Row(wrong, WORKED.travel._replace(town=0, **{field: x}))
+    for words, town in product((WORKED.words, wrong), NO_TOWNS):
+        yield Row(words, WORKED.travel._replace(town=town))
     for town in (0, 1):
         for x in (1, TRAVEL_LIMIT):
             yield Row(WORKED.words, Travel(town, *[x] * 5))

@@ -35,7 +35,7 @@ unfolding textNumbers reportText
 text-numbers {s} {old} e a made =
     rw (made, e)
     (record {
-      answer-is = rw (a .length-is) refl;
+      answer-is = ap (textNumbers (reportCheck s (length old))) (a .length-is);
       text = a;
       says = a .reported .says;
       a-report = report-of s (length old);
