@@ -510,8 +510,8 @@ class TestRoutes(unittest.TestCase):
         self.assertEqual(self.post("/sheet", example="../../etc/passwd").status_code, 400)
 
     def test_long_requests_are_turned_away(self):
-        self.assertEqual(self.client.post("/sheet", data=b"x" * 200_001).status_code, 413)
-        self.assertEqual(self.client.post("/form/check", data=b"x" * 200_001).status_code, 413)
+        self.assertEqual(self.client.post("/sheet", data=b"x" * 1_000_001).status_code, 413)
+        self.assertEqual(self.client.post("/form/check", data=b"x" * 1_000_001).status_code, 413)
         self.assertEqual(self.client.post("/class", data=b"x" * 4_000_001).status_code, 413)
 
     def test_form_is_checked_and_saved(self):

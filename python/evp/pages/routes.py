@@ -32,7 +32,7 @@ from evp.wording import counted, name_shown
 
 blueprint = Blueprint("pages", __name__)
 
-MOST_BODY = 200_000  # of a request with a sheet or two and a table
+MOST_BODY = 1_000_000  # of a request with a sheet or two and a table, or with a form of 1,000 rows
 MOST_CLASS = 4_000_000  # of one with the sheets of a class
 MOST_SHEETS = 200
 NAMES = re.compile(r"[^A-Za-z0-9._-]+")

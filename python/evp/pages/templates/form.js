@@ -39,20 +39,25 @@
     }
     field.value = word;
   }
-  function add(name, words, before) {
+  function make(name, words) {
     var line = get(name + "-line").content.cloneNode(true).querySelector("tr");
-    get(name + "-table").tBodies[0].insertBefore(line, before || null);
-    Object.keys(words || {}).forEach(function (key) {
-      var field = line.querySelector("[data-field=" + key + "]");
-      if (field) setField(field, words[key]);
+    all("[data-field]", line).forEach(function (field) {
+      if (field.dataset.field in words) setField(field, words[field.dataset.field]);
     });
+    return line;
+  }
+  function add(name, words, before) {
+    var line = make(name, words);
+    get(name + "-table").tBodies[0].insertBefore(line, before || null);
     number(name);
     return line;
   }
   function fill(words) {
-    ["season", "row"].forEach(function (name) { get(name + "-table").tBodies[0].replaceChildren(); });
-    words.seasons.forEach(function (season) { add("season", season); });
-    words.rows.forEach(function (row) { add("row", row); });
+    ["season", "row"].forEach(function (name) {
+      var lines = words[name + "s"].map(function (record) { return make(name, record); });
+      get(name + "-table").tBodies[0].replaceChildren.apply(get(name + "-table").tBodies[0], lines);
+      number(name);
+    });
     form.querySelector("[name=kind][value=" + words.parking + "]").checked = true;
     range(24).forEach(function (i) {
       get("durations-" + i).value = words.durations[i - 1];
