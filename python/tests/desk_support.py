@@ -19,7 +19,7 @@ from support import TOP
 
 HOST = "127.0.0.1"
 HAS_MODULES = all(find_spec(name) for name in ("flask", "jinja2", "waitress"))
-NO_MODULES = "Flask or waitress is missing: bash .ci/install"
+NO_MODULES = "Flask or waitress is missing: bash .ci/install pages"
 LINK = re.compile(r"^  (.+?) +http://127\.0\.0\.1:[0-9]+(/ledger/\S+)$", re.M)
 START = 60  # seconds that a desk may take
 MARKER = 0

@@ -92,7 +92,10 @@ class PeopleTest(LedgerTestCase):
         page = marker.get().text
         self.assertEqual(len(re.findall(r'data-l="vehicles"', page)), ROWS)
         report = LIBRARY.report(REGION)
-        self.assertIn(format(report.total.low, ","), re.sub("<[^>]*>", "", page))
+        self.assertIn(apart(report.total.low), re.sub("<[^>]*>", "", page))
+        self.assertNotIn("Refresh", dict(marker.get().headers))
+        self.assertEqual(dict(marker.get("?every=10").headers)["Refresh"], "10")
+        self.assertNotIn("Refresh", dict(people[0].get("?every=10").headers))
 
     def test_refusals(self):
         marker, one, *_ = self.serve("--new", SHEET).people()
@@ -140,6 +143,19 @@ class PeopleTest(LedgerTestCase):
         self.assertEqual(one.call("arrive", 1, 6, own=3).status, 409)
         self.assertIn("older than your last call", one.call("arrive", 1, 6, own=1).text)
         self.assertEqual(len(marker.table("calls.csv")), 1)
+
+    def test_sent_twice_at_once(self):
+        marker, one, *_ = (desk := self.serve("--new", SHEET)).people()
+        for own in range(1, 11):
+            answers = []
+            threads = [threading.Thread(target=lambda: answers.append(
+                desk.client(one.link).call("arrive", 1, 5, own=own).status)) for _ in range(4)]
+            for thread in threads:
+                thread.start()
+            for thread in threads:
+                thread.join()
+            self.assertEqual(answers, [303] * 4)
+        self.assertEqual(len(marker.table("calls.csv")), 10)
 
     def test_limit_of_calls(self):
         made_ledger(self.file)
@@ -254,7 +270,7 @@ class TurnedAwayTest(LedgerTestCase):
         self.desk = self.serve("--new", SHEET, "--patience", 3)
         self.marker, *self.people = self.desk.people()
 
-    def assert_served(self, within: float = 5):
+    def assert_served(self, within: float = 15):
         """A participant makes a call and reads the answer."""
         client = self.desk.client(self.people[0].link, timeout=within)
         began = time.monotonic()
@@ -294,8 +310,10 @@ class TurnedAwayTest(LedgerTestCase):
         head = b"POST %s HTTP/1.1\r\nHost: %s\r\nContent-Length: 10000000\r\n\r\n" % (
             self.people[0].link.encode(), b"127.0.0.1:%d" % self.desk.port)
         began = time.monotonic()
-        self.assertEqual(raw(self.desk.port, head).split()[1], b"413")
-        self.assertLess(time.monotonic() - began, 2)
+        answer = raw(self.desk.port, head)
+        self.assertEqual(answer.split()[1], b"413")
+        self.assertIn(b"This is longer than anything that is wanted here.", answer)
+        self.assertLess(time.monotonic() - began, 5)
         with contextlib.suppress(OSError), socket.create_connection((HOST, self.desk.port), 5) as sending:
             sending.sendall(head + b"x" * 10_000_000)
         chunked = head.replace(b"Content-Length: 10000000", b"Transfer-Encoding: chunked")
@@ -307,6 +325,8 @@ class TurnedAwayTest(LedgerTestCase):
 
     def test_thousand_connections(self):
         """A thousand that only stay open; they are let go of in time."""
+        from evp.desk.server import most_connections
+        self.assertGreater(most_connections(), 1_000)  # of this process too
         with contextlib.ExitStack() as stack:
             idle = [stack.enter_context(socket.create_connection((HOST, self.desk.port), 10)) for _ in range(1_000)]
             self.assert_served()
@@ -448,7 +468,11 @@ class FileTest(LedgerTestCase):
                 ("UPDATE calls SET vehicles = 11 WHERE serial = 1", "lead to another sheet than was kept"),
                 ("DELETE FROM calls WHERE serial = 3", "lead to another sheet than was kept"),
                 ("UPDATE calls SET number = 29 WHERE serial = 2", "call 2 was answered with number 29, and played"),
-                ("UPDATE digests SET words = sheet", "the same counts and other masses")):
+                ("UPDATE digests SET words = sheet", "the same counts and other masses"),
+                ("DELETE FROM digests", "lead to another sheet than was kept"),
+                ("UPDATE calls SET line = 0 WHERE serial = 4", "call 4 is none"),
+                ("UPDATE calls SET kind = 'x' WHERE serial = 4", "call 4 is none"),
+                ("UPDATE opening SET sheet = substr(sheet, 2)", "does not open the ledger's sheet, refused 2 at 0")):
             self.played()
             self.change(statement)
             said_so = self.refused_start(self.file)
@@ -475,6 +499,12 @@ class FileTest(LedgerTestCase):
                 store.Store(self.put("other.db", content))
         with self.assertRaisesRegex(InputError, "there is no such ledger; --new SHEET makes one"):
             store.Store(self.folder / "absent.db")
+        for statement in ("DELETE FROM opening", "DELETE FROM people WHERE who = 3", "DROP TABLE people"):
+            made_ledger(self.file)
+            self.change(statement)
+            with self.assertRaisesRegex(InputError, "damaged|no such table"):
+                store.Store(self.file)
+            self.file.unlink()
         with contextlib.closing(sqlite3.connect(self.folder / "notes.db")) as db, db:
             db.execute("CREATE TABLE calls (a)")
         with self.assertRaisesRegex(InputError, "no ledger of a course"):

@@ -58,7 +58,8 @@ class Machine:
 def random_call(chance: random.Random, machine: Machine) -> tuple[str, int, int]:
     """A call as an afternoon has them: most on one's own rows, some too large, some on a row of another or on none."""
     row = chance.choice(list(machine.counts)) if chance.random() < 0.93 else chance.randrange(1, ROWS + 20)
-    vehicles = chance.choice((1, 5, 20, 120, 900)) if chance.random() < 0.93 else chance.randrange(10 ** 8)
+    large = chance.choice((9_950_000, chance.randrange(10 ** 8)))  # too many for the participant, or for the row
+    vehicles = chance.choice((1, 5, 20, 120, 900)) if chance.random() < 0.93 else large
     return chance.choice(("arrive", "arrive", "depart")), row, vehicles
 
 

@@ -79,6 +79,9 @@ CLAIMS = (
     "longest sheet, which has {sheet_bytes} bytes", "at most {sheet_bytes} for S = 12 and R = 1,000",
     "the report has at most {report_words} words", "lends {report_words}, those of 1,000 rows",
     "longer than {text_bytes} bytes",
+    # the course's ledger
+    "{most_calls} calls, and a ledger has no room for more", "each of the nine has {most_calls} calls",
+    "{load_calls} calls at once",
     # docs/METHOD.md, proved and measured
     "the terms left out 11/4 | 2^-40 | 5 | {quadratic_error} |", "E up to 1/16 | 2^-40 | 8 | {fine_error} |",
     "0.004·vp | 2^-40 | {bound_2_3} | {error_2_3} |",
@@ -152,6 +155,16 @@ def header_facts() -> Iterator[tuple[str, str]]:
         yield name, re.search(r"#define EVP_%s (\d+)$" % name.upper(), header, re.M)[1]
 
 
+def desk_facts() -> Iterator[tuple[str, str]]:
+    """Numbers that stand in the desk's code and in its tests."""
+    for name, file, line in (
+        ("most_calls", "evp/desk/ledger.py", r"^MOST_CALLS = ([\d_]+)"),
+        ("load_calls", "tests/test_desk_load.py", r'^CALLS = .*"(\d+)"'),
+    ):
+        found = re.search(line, (TOP / "python" / file).read_text(encoding="utf-8"), re.M)
+        yield name, found[1].replace("_", "")
+
+
 def counted_facts() -> Iterator[tuple[str, int]]:
     """What is counted in files, and not printed."""
     for name, by_version in (
@@ -171,6 +184,7 @@ def counted_facts() -> Iterator[tuple[str, int]]:
 def facts() -> dict[str, str]:
     """All facts, as decimals without commas."""
     found = dict(fact for program in PRINTED for fact in printed_facts(program)) | dict(header_facts())
+    found |= dict(desk_facts())
     found |= {name: str(value) for name, value in counted_facts()}
     number = {name: int(value) for name, value in found.items()}
     sums = {

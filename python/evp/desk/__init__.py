@@ -4,10 +4,12 @@
     ledger.py    the ledger itself; the library's calls alone decide
     words.py     its answers in words
     views.py     its pages
+    render.py    their templates, upon the base and the style of all pages
     security.py  what is turned away before a page is asked
     app.py       the Flask application of all of these
     server.py    waitress, with limits
     command.py   `evp desk`
 
-app.py, views.py and server.py need Flask, Jinja2 and waitress; the others need the standard library alone.
+app.py, render.py, security.py, server.py and views.py need Flask, Jinja2 and waitress; the others need the standard
+library alone.
 """

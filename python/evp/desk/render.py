@@ -48,4 +48,4 @@ def render(template: str, **values) -> str:
 
 def message(status: int, heading: str, sentence: str) -> Response:
     """A page that says one thing."""
-    return Response(render("message.html", heading=heading, sentence=sentence), status)
+    return Response(render("turned-away.html", status=status, heading=heading, sentence=sentence), status)

@@ -21,7 +21,8 @@ WORDS = {  # of what is turned away: a heading and a sentence
     400: ("Not understood", "The desk did not understand this request."),
     404: ("No such page", "There is nothing at this address. A link to a ledger must be taken whole: its end is a key."),
     405: ("Not done", "This page is read and not written to."),
-    413: ("Too long", "This is longer than anything that is wanted here. Nothing has changed."),
+    411: ("Not understood", "A request must tell how long it is."),
+    413: ("Too long", "This is longer than anything that is wanted here."),
     421: ("Another name", "This desk does not go by that name. Use the address that its terminal shows."),
     500: ("A fault of the desk", "This page could not be made. What was answered before is kept."),
 }

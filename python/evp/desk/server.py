@@ -8,8 +8,9 @@ import socket
 from flask import Flask
 from waitress import create_server
 from waitress.channel import HTTPChannel
+from waitress.task import ErrorTask
 
-from evp.desk.security import MOST_BODY
+from evp.desk.security import MOST_BODY, WORDS
 from evp.files import InputError
 
 THREADS = 12
@@ -17,8 +18,19 @@ CONNECTIONS = 4_000
 SPARE_FILES = 200  # that are no connections
 
 
+class TurnedAway(ErrorTask):
+    """What is turned away before it is read, in the words of all that is."""
+
+    def execute(self):
+        error = self.request.error
+        error.body = WORDS.get(error.code, WORDS[400])[1]
+        super().execute()
+
+
 class Channel(HTTPChannel):
     """A connection. What drips in does not keep it open: the time of a request counts from its first byte."""
+
+    error_task_class = TurnedAway
 
     def handle_read(self):
         began = self.last_activity if self.request is not None else None
