@@ -24,6 +24,7 @@ TOP = Path(__file__).resolve().parents[3]
 for _folder in (TOP, TOP / "python"):
     if str(_folder) not in sys.path:
         sys.path.insert(0, str(_folder))
+sys.path.append(str(TOP / "python" / "tests"))  # behind this folder, whose tests may have the same names
 
 import flask  # noqa: E402
 import waitress  # noqa: E402
