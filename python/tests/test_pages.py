@@ -514,6 +514,17 @@ class TestRoutes(unittest.TestCase):
         self.assertEqual(self.post("/sheet/save").status_code, 400)
         self.assertEqual(self.post("/sheet", example="../../etc/passwd").status_code, 400)
 
+    def test_files_dropped_on_the_first_page(self):
+        table = ("files", (COURSE / "filed.csv").read_bytes(), "filed.csv")
+        north, heath = (("files", course(name), name + ".evp") for name in ("north", "heath"))
+        for files, words in (([north], "north.evp accepted"), ([north, table], "The filed figures"),
+                             ([heath], "refused 18 at 168"), ([north, heath, table], "1 of 2 sheets to look at"),
+                             ([north, heath], "choose the sheets and the table"), ([table], "choose a sheet first"),
+                             ([], "choose a sheet first")):
+            with self.subTest(words):
+                self.assertIn(words, Page(self.post("/open", *files).get_data(as_text=True)).text)
+        self.assertIn("one is shown here", Page(self.post("/sheet", north, heath).get_data(as_text=True)).text)
+
     def test_long_requests_are_turned_away(self):
         self.assertEqual(self.client.post("/sheet", data=b"x" * 1_000_001).status_code, 413)
         self.assertEqual(self.client.post("/form/check", data=b"x" * 1_000_001).status_code, 413)

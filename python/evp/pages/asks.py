@@ -83,8 +83,8 @@ def page_ask(what: str, message: str = "") -> str:
                   example=ask.example in examples())
 
 
-def page_home() -> str:
+def page_home(message: str = "") -> str:
     words = {name: ask.about for name, ask in ASKS.items()}
     words["form"] = "Seasons, parking and fleet; what is refused is explained at its field. Save the sheet and its csv."
     titles = {name: ask.title for name, ask in ASKS.items()} | {"form": "Form to sheet"}
-    return render("home.html", True, cards=[(name, titles[name], words[name]) for name, _ in LINKS])
+    return render("home.html", True, message=message.split("\n") if message else [], cards=[(name, titles[name], words[name]) for name, _ in LINKS])

@@ -128,7 +128,11 @@ class Sheet(NamedTuple):
         parts = [self._wrong_words(), self._settled_words()]
         parts += ["%s: %s" % (judged.name, judged.mark.note) for judged in self.judged
                   if judged.verdict in ("absent", "unreadable")][:2]
-        return "; ".join(filter(None, [*parts, self._missing_words()])) or "all %d agree" % len(self.judged)
+        wrong = list(filter(None, parts)) or [self._fine_words()]
+        return "; ".join([*wrong, *filter(None, [self._missing_words()])])
+
+    def _fine_words(self) -> str:
+        return "all %d agree" % len(self.judged) if len(self.judged) > 1 else "the one figure agrees"
 
     def _missing_words(self) -> str:
         left_out = [figure.name for figure in self.wanted if figure not in self.across]
@@ -199,7 +203,9 @@ def _lead(sheets: list[Sheet]) -> str:
     fine = sum(states[state] for state in ORDER if state not in LOOK)
     end = "; in %d of them the band cannot settle a figure" % states["fits"] if states["fits"] else ""
     beyond = " Figures were filed for %s without a sheet." % counted(nowhere, "name") if nowhere else ""
-    return "%s%d %s fine%s.%s" % (look + ". " if look else "", fine, "is" if fine == 1 else "are", end, beyond)
+    rest = "none is" if not fine else "%d %s" % (fine, "is" if fine == 1 else "are")
+    told = "%s. %s" % (look, rest) if look else rest
+    return "%s%s fine%s.%s" % (told[0].upper(), told[1:], end, beyond)
 
 
 EXAMPLE = Filed(283, 2, Unit.T)

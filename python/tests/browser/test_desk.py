@@ -185,6 +185,10 @@ class TestLooks(BrowserTestCase):
 
     def shown(self):
         """Every page, one after another."""
+        self.open("/")
+        self.drop([COURSE / "heath.evp"])
+        self.wait(lambda: self.text("h1").startswith("heath"), "a refused sheet")
+        yield "refused"
         for name in ("", "form", *ASKS):
             self.open("/" + name)
             yield "/" + name
@@ -193,10 +197,6 @@ class TestLooks(BrowserTestCase):
             self.one("form:not(.drop) button").click()
             self.wait(lambda: not self.all("form.drop"), "the example of " + name)
             yield name
-        self.open("/sheet")
-        self.drop([COURSE / "heath.evp"])
-        self.wait(lambda: self.text("h1").startswith("heath"), "a refused sheet")
-        yield "refused"
 
     def test_nothing_is_cut_off_and_all_can_be_read(self):
         seen = 0
