@@ -3,7 +3,7 @@
     /usr/bin/python3 -m unittest discover -s python/tests/browser
 
 needs Debian's chromium, chromium-driver, python3-selenium, python3-flask and python3-waitress (.ci/install). Pictures
-go to target/browser, and to docs/pictures where EVP_PICTURES is set.
+go to target/browser; those of the README to docs/pictures too where EVP_PICTURES is set.
 """
 
 import atexit
@@ -37,7 +37,9 @@ from evp.desk.app import create_app  # noqa: E402
 from evp.desk.security import hosts_of  # noqa: E402
 
 SAMPLES = TOP / "samples"
-PICTURES = TOP / "docs" / "pictures" if os.environ.get("EVP_PICTURES") else TOP / "target" / "browser"
+PICTURES = TOP / "target" / "browser"
+README_PICTURES = TOP / "docs" / "pictures"
+OF_README = ("class", "parking")
 MOST_PICTURE = 200_000  # bytes
 WAIT = 10  # seconds at most for an answer
 PROGRAMS = ("chromium", "chromium-browser", "google-chrome")
@@ -145,10 +147,12 @@ class BrowserTestCase(unittest.TestCase):
 
     def picture(self, name: str):
         """A picture of the window, small enough for a README."""
-        PICTURES.mkdir(parents=True, exist_ok=True)
         shot = base64.b64decode(self.browser.execute_cdp_cmd("Page.captureScreenshot", {"format": "png"})["data"])
         self.assertLess(len(shot), MOST_PICTURE)
-        (PICTURES / (name + ".png")).write_bytes(shot)
+        of_readme = name in OF_README and os.environ.get("EVP_PICTURES")
+        for folder in (PICTURES, README_PICTURES) if of_readme else (PICTURES,):
+            folder.mkdir(parents=True, exist_ok=True)
+            (folder / (name + ".png")).write_bytes(shot)
 
     # ------------------------------------------------------------------ doing
 

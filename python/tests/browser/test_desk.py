@@ -1,10 +1,8 @@
 """The desk in a real browser: a class marked, a refusal mended, a grid filled, all of it by keyboard once."""
 
-import json
-import unittest
 from pathlib import Path
 
-from driving import PICTURES, SAMPLES, BrowserTestCase, Keys, desk
+from driving import SAMPLES, BrowserTestCase, Keys
 
 from evp import layout, library
 from evp.pages.asks import ASKS
@@ -245,8 +243,3 @@ class TestWithoutScript(BrowserTestCase):
         self.wait(lambda: "14 of 30" in self.text("h1"), "the class")
         self.one("tr.p th a").click()
         self.assertTrue(self.one("tr.more").is_displayed())
-
-
-if __name__ == "__main__":
-    print(json.dumps({"desk": desk(), "pictures": str(PICTURES)}))
-    unittest.main()
