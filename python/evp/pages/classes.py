@@ -9,7 +9,7 @@ from markupsafe import Markup
 
 from evp.figures import GROUP_NAMES, TOTAL, Figure
 from evp.library import GROUPS, MECHANISMS, Band, Filed, Unit
-from evp.marking import FINE, Filing, Mark, Marked
+from evp.marking import Filing, Mark, Marked
 from evp.pages.interval import deviation, edges_text, figure_text, picture
 from evp.pages.render import render
 from evp.pages.words import about, listed
@@ -235,5 +235,5 @@ def page_class(sheets: dict[str, Marked], filings: list[Filing], marks: list[Mar
         look=[sheet for sheet in found if sheet.state in LOOK], lead=_lead(found),
         counts=counts, legend=_legend(counts), across=across, heads=[head for head in heads if head[1]],
         with_total=Figure(TOTAL, "") in filed, with_rows=any(figure.row.isdigit() for figure in filed),
-        fine=FINE, pages=pages or {}, packed=packed or {}, hints=hints,
+        pages=pages or {}, packed=packed or {}, hints=hints,
         marks=b64encode(marks_csv.encode("utf-8", "replace")).decode())

@@ -53,7 +53,7 @@ def free_port() -> int:
 
 def serve(app: flask.Flask, port: int) -> str:
     """Serves an application on this machine until the tests end; its address."""
-    server = waitress.create_server(app, host="127.0.0.1", port=port, threads=4)
+    server = waitress.create_server(app, host="127.0.0.1", port=port, threads=4, clear_untrusted_proxy_headers=True)
     threading.Thread(target=server.run, daemon=True).start()
     return "http://127.0.0.1:%d" % port
 

@@ -44,8 +44,15 @@ class TestClass(BrowserTestCase):
         self.assertEqual(field.get_attribute("aria-invalid"), "true")
         fault = self.text("#" + field.get_attribute("aria-describedby"))
         self.assertIn("31.00 a day is above 12.00 a day; write at most 12.00", fault)
+        self.look(360, 740)
+        edge = self.run_script("return document.querySelector('.fault-text').getBoundingClientRect().right")
+        self.assertLessEqual(edge, 360)
+        self.look(1280, 500)
         self.one("#to-fault").click()
         self.assertEqual(self.focused(), "#row-2-trips")
+        bar, top = (self.run_script("return document.querySelector(arguments[0]).getBoundingClientRect()[arguments[1]]",
+                                    *where) for where in (("#state", "bottom"), ("#row-2-trips", "top")))
+        self.assertLess(bar, top)  # the bar on top does not hide the field
         field.clear()
         field.send_keys("5.10")
         self.wait(lambda: self.one("#told").get_attribute("data-state") == "accepted", "the mended sheet is accepted")
