@@ -468,7 +468,11 @@ class FileTest(LedgerTestCase):
                 ("UPDATE calls SET vehicles = 11 WHERE serial = 1", "lead to another sheet than was kept"),
                 ("DELETE FROM calls WHERE serial = 3", "lead to another sheet than was kept"),
                 ("UPDATE calls SET number = 29 WHERE serial = 2", "call 2 was answered with number 29, and played"),
-                ("UPDATE digests SET words = sheet", "the same counts and other masses")):
+                ("UPDATE digests SET words = sheet", "the same counts and other masses"),
+                ("DELETE FROM digests", "lead to another sheet than was kept"),
+                ("UPDATE calls SET line = 0 WHERE serial = 4", "call 4 is none"),
+                ("UPDATE calls SET kind = 'x' WHERE serial = 4", "call 4 is none"),
+                ("UPDATE opening SET sheet = substr(sheet, 2)", "does not open the ledger's sheet, refused 2 at 0")):
             self.played()
             self.change(statement)
             said_so = self.refused_start(self.file)
@@ -495,6 +499,12 @@ class FileTest(LedgerTestCase):
                 store.Store(self.put("other.db", content))
         with self.assertRaisesRegex(InputError, "there is no such ledger; --new SHEET makes one"):
             store.Store(self.folder / "absent.db")
+        for statement in ("DELETE FROM opening", "DELETE FROM people WHERE who = 3", "DROP TABLE people"):
+            made_ledger(self.file)
+            self.change(statement)
+            with self.assertRaisesRegex(InputError, "damaged|no such table"):
+                store.Store(self.file)
+            self.file.unlink()
         with contextlib.closing(sqlite3.connect(self.folder / "notes.db")) as db, db:
             db.execute("CREATE TABLE calls (a)")
         with self.assertRaisesRegex(InputError, "no ledger of a course"):
