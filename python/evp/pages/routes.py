@@ -45,7 +45,7 @@ NAMES = re.compile(r"[^A-Za-z0-9._-]+")
 def _limit():
     """Turns a long request away before it is read."""
     if request.method == "POST":
-        most = MOST_CLASS if request.path.rstrip("/").endswith("/class") else MOST_BODY
+        most = MOST_CLASS if request.path in ("/class", "/open") else MOST_BODY
         if request.content_length is None and "Transfer-Encoding" in request.headers:
             abort(411)
         if (request.content_length or 0) > most:
@@ -115,7 +115,7 @@ def _number(name: str, many: int) -> int | None:
 
 def page(what: str) -> Callable:
     """A page that asks for files where it is fetched and shows them where they are sent."""
-    def route(show: Callable[[Given], str]) -> Callable:
+    def route(show: Callable[[Given], str]) -> Callable[[Given], str]:
         @wraps(show)
         def answer():
             if request.method == "GET":
@@ -124,7 +124,8 @@ def page(what: str) -> Callable:
                 return show(_given())
             except InputError as error:
                 return page_ask(what, str(error)), 400
-        return blueprint.route("/" + what, methods=["GET", "POST"])(answer)
+        blueprint.add_url_rule("/" + what, view_func=answer, methods=["GET", "POST"])
+        return show
     return route
 
 
@@ -145,6 +146,18 @@ def accepted(show: Callable[[str, bytes], str]) -> Callable[[Given], str]:
 @blueprint.get("/")
 def home():
     return page_home()
+
+
+@blueprint.post("/open")
+def open_files():
+    """What was dropped on the first page: a class where there are several sheets, else a sheet."""
+    try:
+        given = _given()
+        files = [file for found in given.values() for file in found]
+        sheets = [name for name, _ in files if not name.lower().endswith(".csv")]
+        return show_class(given) if len(sheets) > 1 else show_sheet(given)
+    except InputError as error:
+        return page_home(str(error)), 400
 
 
 @page("class")
@@ -188,6 +201,10 @@ def _filed_for(name: str, table: marking.FiledTable) -> str:
 
 @page("sheet")
 def show_sheet(given: Given) -> str:
+    sheets = [name for name, _ in given.get("files", ()) if not name.lower().endswith(".csv")]
+    if len(sheets) > 1:
+        raise InputError("%s, and one is shown here; Class takes several together with filed.csv" % (
+            counted(len(sheets), "sheet")))
     name, data = _sheet(given)
     tables = [file for file in given.get("files", ()) if file[0].lower().endswith(".csv")]
     text = text_of(tables[0][1], tables[0][0]) if tables else request.form.get("filed", "")
