@@ -166,7 +166,8 @@ class BrowserTestCase(unittest.TestCase):
         return self.run_script("""
             var e = document.activeElement;
             if (e === document.body) return "";
-            return e.id ? "#" + e.id : (e.textContent || e.value || e.type).trim().replace(/\\s+/g, " ").slice(0, 60);""")
+            if (e.id) return "#" + e.id;
+            return (e.textContent || e.value || e.type).trim().replace(/\\s+/g, " ").slice(0, 60);""")
 
     def tab_to(self, wanted: str, most: int = 120):
         """Presses the tabulator until something has the focus, and sees that it can be seen."""
