@@ -227,7 +227,8 @@ class TestContrast(unittest.TestCase):
 
     def test_shapes_tell_verdicts_apart(self):
         band = {"agrees": (2831491356, 2831497572), "low": (2843491356, 2843497572), "high": (2816491356, 2816497572)}
-        drawn = {verdict: str(picture(Filed(283, 2, Unit.T), marking.Band(*ends), verdict)) for verdict, ends in band.items()}
+        drawn = {verdict: str(picture(Filed(283, 2, Unit.T), marking.Band(*ends), verdict))
+                 for verdict, ends in band.items()}
         paths = {verdict: re.search('class="br" d="([^"]*)"', svg)[1] for verdict, svg in drawn.items()}
         self.assertEqual(len({re.sub("[0-9.]+", "", path) + path[:3] for path in paths.values()}), 3)
 
@@ -330,7 +331,8 @@ class TestRefused(unittest.TestCase):
 
     def test_every_refusal_of_a_row_or_season_has_its_page(self):
         edits = ["trips=31.00", "minutes=2000", "load=70.0", "fill=101", "vehicles=20000000", "tank=200.0", "class=10",
-                 "technology=9", "canister=9", "saturation=6000.0", "days=400", "vp=10.0", "highest=95.0", "lowest=40.0"]
+                 "technology=9", "canister=9", "saturation=6000.0", "days=400", "vp=10.0", "highest=95.0",
+                 "lowest=40.0"]
         for edit in edits:
             text = _edited(edit)
             with self.subTest(edit):
@@ -520,7 +522,8 @@ class TestRoutes(unittest.TestCase):
         self.assertEqual((found["state"], found["serial"]), ("accepted", 7))
         answer = self.client.post("/form/save", data={"form": json.dumps(form), "name": "../a b", "what": "sheet"})
         self.assertEqual(answer.headers["Content-Disposition"], 'attachment; filename="a-b.evp"')
-        self.assertEqual(LIBRARY.report(answer.data).total, LIBRARY.report(forms.made_of(forms.form_of(form)).data).total)
+        again = forms.made_of(forms.form_of(form)).data
+        self.assertEqual(LIBRARY.report(answer.data).total, LIBRARY.report(again).total)
         answer = self.client.post("/form/save", data={"form": json.dumps(form), "name": "", "what": "csv"})
         self.assertEqual(answer.headers["Content-Disposition"], 'attachment; filename="csv.zip"')
         self.assertTrue(zipfile.is_zipfile(io.BytesIO(answer.data)))
@@ -567,7 +570,8 @@ class TestCommand(DeskTestCase):
 
     def test_class_with_its_sheets(self):
         target = self.folder / "class.html"
-        found = run("page", "class", COURSE, "--filed", COURSE / "filed.csv", "--each", self.folder / "each", "-o", target)
+        found = run("page", "class", COURSE, "--filed", COURSE / "filed.csv", "--each", self.folder / "each", "-o",
+                    target)
         self.assert_plain(found, 1)
         links = re.findall('class="button" href="([^"]*)"', target.read_text(encoding="utf-8"))
         self.assertEqual(len(links), 30)

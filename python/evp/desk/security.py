@@ -19,7 +19,8 @@ HEADERS = {
 
 WORDS = {  # of what is turned away: a heading and a sentence
     400: ("Not understood", "The desk did not understand this request."),
-    404: ("No such page", "There is nothing at this address. A link to a ledger must be taken whole: its end is a key."),
+    404: ("No such page",
+          "There is nothing at this address. A link to a ledger must be taken whole: its end is a key."),
     405: ("Not done", "This page is read and not written to."),
     411: ("Not understood", "A request must tell how long it is."),
     413: ("Too long", "This is longer than anything that is wanted here."),

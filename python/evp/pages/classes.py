@@ -216,7 +216,8 @@ def _legend(counts: Counter) -> list[dict]:
 
 
 def page_class(sheets: dict[str, Marked], filings: list[Filing], marks: list[Mark], served: bool = False,
-               pages: dict[str, str] | None = None, packed: dict[str, dict] | None = None, hints: bool = False, marks_csv: str = "") -> str:
+               pages: dict[str, str] | None = None, packed: dict[str, dict] | None = None, hints: bool = False,
+               marks_csv: str = "") -> str:
     """The marks of a class. `pages` has the page of a sheet by its file, `packed` what a served page sends for it."""
     counts = Counter(mark.verdict for mark in marks)
     filed = {filing.figure for filing in filings}
@@ -224,7 +225,8 @@ def page_class(sheets: dict[str, Marked], filings: list[Filing], marks: list[Mar
     found = _sheets(sheets, filings, marks, across)
     heads = [(GROUP_NAMES[group], [figure for figure in across if figure.row == group]) for group in GROUPS]
     return render(
-        "class.html", served, sheets=found, there=[sheet for sheet in found if sheet.there], look=[sheet for sheet in found if sheet.state in LOOK], lead=_lead(found),
+        "class.html", served, sheets=found, there=[sheet for sheet in found if sheet.there],
+        look=[sheet for sheet in found if sheet.state in LOOK], lead=_lead(found),
         counts=counts, legend=_legend(counts), across=across, heads=[head for head in heads if head[1]],
         with_total=Figure(TOTAL, "") in filed, with_rows=any(figure.row.isdigit() for figure in filed),
         fine=FINE, pages=pages or {}, packed=packed or {}, hints=hints,

@@ -235,8 +235,8 @@ def form_from(data: bytes, name: str) -> dict:
         except TextError as error:
             raise InputError("\n".join(error.messages[:3])) from None
     if len(data) < 8 or layout.version_of(data) not in (1, 2, 3, 4) or len(data) != layout.length_of(data):
-        raise InputError("%s: the form holds whole sheets of versions 1 to 4; the page of the sheet says what is wrong" % (
-            name_shown(name)))
+        raise InputError("%s: the form holds whole sheets of versions 1 to 4; the page of the sheet says what is wrong"
+                         % name_shown(name))
     grid = layout.has_grid(data)
     lists = [list(map(str, layout.counts(data, at))) for at in ((8, 56) if not grid else ())] or [[""] * 24] * 2
     cells = [list(map(str, layout.counts(data, 8 + 48 * t))) for t in range(24)] if grid else [[""] * 24] * 24
@@ -275,10 +275,12 @@ def tables_of(data: bytes) -> bytes:
 
 # ------------------------------------------------------------------ its page
 
-LABELS = {"saturation": "m_sat", "carburettor": "carb.", "hot": "ends hot", "vp": "vapour pressure", "fill": "fill level"}
-UNITS = {"days": "1 to 366", "lowest": "°C", "highest": "°C", "vp": "kPa", "carburettor": "% of vehicles", "hot": "% of trips",
-         "fill": "% of tank", "tank": "l", "vehicles": "number", "trips": "a day", "minutes": "a trip",
-         "load": "g", "saturation": "g", "mileage": "km; grid only", "class": "", "technology": "", "canister": ""}
+LABELS = {"saturation": "m_sat", "carburettor": "carb.", "hot": "ends hot", "vp": "vapour pressure",
+          "fill": "fill level"}
+UNITS = {"days": "1 to 366", "lowest": "°C", "highest": "°C", "vp": "kPa", "carburettor": "% of vehicles",
+         "hot": "% of trips", "fill": "% of tank", "tank": "l", "vehicles": "number", "trips": "a day",
+         "minutes": "a trip", "load": "g", "saturation": "g", "mileage": "km; grid only", "class": "", "technology": "",
+         "canister": ""}
 
 
 def label_of(field: Field) -> str:

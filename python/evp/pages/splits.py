@@ -60,7 +60,8 @@ def page_pool(library: Library, names: tuple[str, str], sheets: tuple[bytes, byt
     lines = [(GROUP_NAMES[group], mechanism, [_mass_of(report, group, m) for report in reports])
              for group, masses in groups(reports[2]) for m, mechanism in enumerate(masses._fields)]
     fleet = [{"number": i + 1, "from": names[i >= rows[0]], "who": row_name(row), "canister": canister_words(row),
-              "vehicles": row["vehicles"]} for i, row in enumerate(map(lambda i: layout.row(pooled, i), range(rows[2])))]
+              "vehicles": row["vehicles"]}
+             for i, row in enumerate(map(lambda i: layout.row(pooled, i), range(rows[2])))]
     return render("pool.html", served, names=[name_shown(name) for name in names], rows=rows, lines=lines,
                   totals=[report.total for report in reports], most=max(1, *(r.total.high for r in reports)),
                   fleet=fleet[:MOST_ROWS], left_out=max(0, len(fleet) - MOST_ROWS), packed=packed, size=len(pooled),

@@ -2,8 +2,8 @@
 
     /usr/bin/python3 -m unittest discover -s python/tests/browser
 
-needs Debian's chromium, chromium-driver, python3-selenium, python3-flask and python3-waitress (.ci/install). Pictures go
-to target/browser, and to docs/pictures where EVP_PICTURES is set.
+needs Debian's chromium, chromium-driver, python3-selenium, python3-flask and python3-waitress (.ci/install). Pictures
+go to target/browser, and to docs/pictures where EVP_PICTURES is set.
 """
 
 import atexit
@@ -160,7 +160,8 @@ class BrowserTestCase(unittest.TestCase):
         """What has the focus, in short."""
         return self.run_script("""
             var e = document.activeElement;
-            return e === document.body ? "" : (e.id ? "#" + e.id : (e.textContent || e.value || e.type).trim().slice(0, 60));""")
+            if (e === document.body) return "";
+            return e.id ? "#" + e.id : (e.textContent || e.value || e.type).trim().slice(0, 60);""")
 
     def tab_to(self, wanted: str, most: int = 120):
         """Presses the tabulator until something has the focus, and sees that it can be seen."""
@@ -181,8 +182,9 @@ class BrowserTestCase(unittest.TestCase):
               var bytes = Uint8Array.from(atob(file.data), function (sign) { return sign.charCodeAt(0); });
               held.items.add(new File([bytes], file.name));
             });
-            document.body.dispatchEvent(new DragEvent("dragover", {dataTransfer: held, bubbles: true, cancelable: true}));
-            document.body.dispatchEvent(new DragEvent("drop", {dataTransfer: held, bubbles: true, cancelable: true}));""",
+            ["dragover", "drop"].forEach(function (name) {
+              document.body.dispatchEvent(new DragEvent(name, {dataTransfer: held, bubbles: true, cancelable: true}));
+            });""",
             json.dumps(files))
 
     def downloaded(self, name: str) -> bytes:
