@@ -408,7 +408,7 @@ class TurnedAwayTest(LedgerTestCase):
             answer = raw(self.desk.port, got(path))
             self.assertIn(answer.split()[1], (b"404", b"400", b"308"), path)
             self.assertNotIn(b"not for you", answer)
-            self.assertNotIn(b"root:", answer)
+            self.assertNotIn(b"root:x:", answer)
         self.assert_served()
 
     def test_headers(self):
