@@ -550,12 +550,30 @@ class TestRoutes(unittest.TestCase):
                 self.assertEqual(self.client.post("/form/save", data={"form": body}).status_code, 400)
 
     def test_dropped_sheet_fills_the_form(self):
-        found = self.client.post("/form/read?name=heath.evp", data=course("heath")).get_json()
+        found = self.post("/form/read", ("files", course("heath"), "heath.evp")).get_json()
         self.assertEqual((found["name"], found["form"]["rows"][2]["trips"]), ("heath", "31.00"))
-        answer = self.client.post("/form/read?name=x", data=course("cape"))
-        self.assertEqual(answer.status_code, 400)
-        for body in (b"", b"\0" * 9, b"PK\3\4", b"\xff\xfe", b"EVP", b"hello"):
-            self.assertEqual(self.client.post("/form/read?name=x", data=body).status_code, 400)
+        for body in (course("cape"), b"", b"\0" * 9, b"PK\3\4", b"\xff\xfe", b"EVP", b"hello"):
+            self.assertEqual(self.post("/form/read", ("files", body, "x")).status_code, 400)
+
+    def test_dropped_tables_fill_the_form(self):
+        """With what is wrong in them, which the form then says at its field."""
+        names = ("seasons.csv", "parking.csv", "fleet.csv")
+        files = [("files", (SAMPLES / "afternoon" / name).read_bytes(), name) for name in names]
+        form = self.post("/form/read", *files).get_json()["form"]
+        found = forms.check_form(LIBRARY, forms.form_of(form))
+        self.assertEqual([fault["id"] for fault in found["faults"]], ["row-0-trips"])
+        form["rows"][0]["trips"] = "4.80"
+        found = forms.check_form(LIBRARY, forms.form_of(form))
+        self.assertEqual([fault["id"] for fault in found["faults"]], ["row-1-load"])
+        self.assertEqual(found["doubts"], ["row 3: vehicles left out, so 0"])
+        for path in samples():
+            tables = sheet.folder_of(path.read_bytes())
+            files = [("files", text.encode("utf-8-sig"), name) for name, text in tables.items()]
+            form = {**forms.empty_form(), **self.post("/form/read", *files).get_json()["form"]}
+            form["version"] = forms.form_from(path.read_bytes(), path.name)["version"]
+            self.assertEqual(forms.made_of(forms.form_of(form)).data, path.read_bytes(), path.name)
+        self.assertEqual(self.post("/form/read", ("files", b"a,b\n", "other.csv")).status_code, 400)
+        self.assertEqual(self.post("/form/read", ("files", b"a,b\n", "fleet.csv")).status_code, 400)
 
     def test_season_and_row_of_the_parkings(self):
         sheet64 = base64.b64encode(sample("region")).decode()

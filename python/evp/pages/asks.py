@@ -87,5 +87,5 @@ def page_home(message: str = "") -> str:
     words = {name: ask.about for name, ask in ASKS.items()}
     words["form"] = "Seasons, parking and fleet; what is refused is explained at its field. Save the sheet and its csv."
     titles = {name: ask.title for name, ask in ASKS.items()} | {"form": "Form to sheet"}
-    cards = [(name, titles[name], words[name]) for name, _ in LINKS]
-    return render("home.html", True, message=message.split("\n") if message else [], cards=cards)
+    return render("home.html", True, message=message.split("\n") if message else [],
+                  cards=[(name, titles[name], words[name]) for name, _ in LINKS])

@@ -99,12 +99,13 @@ def _pack(name: str, data: bytes, filed: str = "") -> dict[str, str]:
     return {**packed, "filed": filed} if filed else packed
 
 
-def _sheet(given: Given, field: str = "files") -> tuple[str, bytes]:
-    """The first sheet among the files."""
+def _sheet(given: dict, field: str = "files") -> tuple[str, bytes]:
+    """The first sheet among the files, of a long one no more than tells that it is too long."""
     sheets = [file for file in given.get(field, ()) if not file[0].lower().endswith(".csv")]
     if not sheets:
         raise InputError("choose a sheet first, a file whose name ends with .evp")
-    return sheets[0][0], sheets[0][1][:SHEET_BYTES + 1]
+    name, data = sheets[0]
+    return name, data[:SHEET_BYTES + 1] if data[:3] == b"EVP" else data
 
 
 def _number(name: str, many: int) -> int | None:
@@ -308,12 +309,14 @@ def check_form():
 
 @blueprint.post("/form/read")
 def read_form():
-    """The form of a sheet that was dropped."""
-    data = request.get_data()
+    """The form of a sheet that was dropped, or what its tables give of one."""
     try:
-        name = _name(request.args.get("name", ""))
-        return jsonify({"form": forms.form_from(data[:SHEET_BYTES + 1] if data[:3] == b"EVP" else data, name),
-                        "name": PurePosixPath(name).stem})
+        files = _given().get("files", [])
+        tables = {name: data for name, data in files if name.lower().endswith(".csv")}
+        if tables:
+            return jsonify({"form": forms.form_from_tables(tables)})
+        name, data = _sheet({"files": files})
+        return jsonify({"form": forms.form_from(data, name), "name": PurePosixPath(name).stem})
     except InputError as error:
         return jsonify({"message": str(error)}), 400
 

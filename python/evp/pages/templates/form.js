@@ -160,18 +160,20 @@
     clearTimeout(timer);
     timer = setTimeout(check, now === true ? 0 : 250);
   }
-  function open(file) {
-    file.arrayBuffer().then(function (bytes) {
-      return fetch("form/read?name=" + encodeURIComponent(file.name), { method: "POST", body: bytes });
-    }).then(function (answer) { return answer.json(); }).then(function (answer) {
+  function open(files) {
+    var sent = new FormData();
+    Array.from(files).forEach(function (file) { sent.append("files", file); });
+    fetch("form/read", { method: "POST", body: sent }).then(function (answer) {
+      return answer.json();
+    }).then(function (answer) {
       if (answer.message) {
         told.textContent = answer.message;
         told.dataset.state = "unread";
         get("state").className = "state no";
         return;
       }
-      get("name").value = answer.name;
-      fill(answer.form);
+      get("name").value = answer.name || get("name").value;
+      fill(Object.assign(collect(), answer.form));
     }).catch(failed);
   }
 
@@ -219,12 +221,12 @@
     changed(true);
   });
   get("sheet-file").addEventListener("change", function (event) {
-    if (event.target.files[0]) open(event.target.files[0]);
+    if (event.target.files[0]) open(event.target.files);
   });
   document.addEventListener("dragover", function (event) { event.preventDefault(); });
   document.addEventListener("drop", function (event) {
     event.preventDefault();
-    if (event.dataTransfer.files[0]) open(event.dataTransfer.files[0]);
+    if (event.dataTransfer.files[0]) open(event.dataTransfer.files);
   });
 
   // the grid by keys, and blocks of a spreadsheet
