@@ -112,8 +112,9 @@ def _take_lists(builder: Builder, folder: Path):
         with builder.at(name_shown(folder / PARKING)):
             missing = [key for key in keys if key not in found]
             if missing:
-                raise TextError("%s: all of %s to %s are wanted; %s is missing" % (
-                    key_column, keys[0], keys[-1], ", ".join(missing)))
+                more = " and %d more" % (len(missing) - 3) if len(missing) > 3 else ""
+                raise TextError("%s: all of %s to %s are wanted; %s%s %s missing" % (
+                    key_column, keys[0], keys[-1], ", ".join(missing[:3]), more, "is" if len(missing) == 1 else "are"))
             builder.add_counts(name, tuple(found[key] for key in keys))
 
 
