@@ -1,5 +1,6 @@
-// Holds the explanation of sheets against the findings that tools/vectors/findings.py put into standard input: how many sheets are to be
-// refused with each number, and how many of them get the whole finding. Number 0 stands for the sheets to be accepted, whose findings are 0.
+// Holds the explanation of sheets against the findings that tools/vectors/findings.py put into standard input: how many
+// sheets are to be refused with each number, and how many of them get the whole finding. Number 0 stands for the sheets
+// to be accepted, whose findings are 0.
 use explanation::explain;
 use findings::Finding;
 use libc::STDIN_FILENO;
@@ -16,8 +17,9 @@ use vectors::tally::next;
 ghost use Prim.Native.Nat.{_+_, _≤_};
 ghost use lib.ListN.{length};
 
-// The bytes before each sheet: how many bytes follow (two), the place in the sheet where they stand (two), the length of the sheet (two) and
-// the finding. Elsewhere the sheet has the bytes that the sheets before it left there, at first zeros. No list is behind it.
+// The bytes before each sheet: how many bytes follow (two), the place in the sheet where they stand (two), the length
+// of the sheet (two) and the finding. Elsewhere the sheet has the bytes that the sheets before it left there, at first
+// zeros. No list is behind it.
 const HEAD: usize = 29;
 
 // Where the number stands in them
@@ -82,7 +84,8 @@ fn print_finding(f: Finding) {
     number(b" most ", f.most);
 }
 
-// A line for a sheet whose finding is another than the one expected; sheets are counted from 1, as tools/vectors/findings.py lists them.
+// A line for a sheet whose finding is another than the one expected; sheets are counted from 1, as
+// tools/vectors/findings.py lists them.
 fn print_other(position: u64, expected: Finding, found: Finding) {
     number(b"sheet ", position);
     text(b": expected ");
@@ -161,7 +164,8 @@ fn report_numbers(s: &[u8]) -> Tally {
     all
 }
 
-// A sheet that is cut off, or whose number is above the last, is missing from the tally; the count that the input gives shows it.
+// A sheet that is cut off, or whose number is above the last, is missing from the tally; the count that the input gives
+// shows it.
 fn report(s: &[u8]) {
     if s.len() < COUNT {
         vectors::print::no_count();

@@ -1,5 +1,5 @@
-// Holds the marks of filed figures against the verdicts that tools/vectors/marks.py put into standard input: how many figures are to get each
-// verdict, and how many of them get it and are off by as much.
+// Holds the marks of filed figures against the verdicts that tools/vectors/marks.py put into standard input: how many
+// figures are to get each verdict, and how many of them get it and are off by as much.
 use libc::STDIN_FILENO;
 use marking::Filed;
 use marking::Unit;
@@ -15,12 +15,14 @@ use vectors::tally::next;
 ghost use Prim.Native.Nat.{_≤_};
 ghost use lib.ListN.{length};
 
-// A figure has seven numbers of eight bytes: its digits, how many stand behind the point, its unit, the band's low and high, and the mark.
+// A figure has seven numbers of eight bytes: its digits, how many stand behind the point, its unit, the band's low and
+// high, and the mark.
 const VECTOR: usize = 56;
 
 const VERDICTS: u64 = 5;
 
-// A verdict, from 0 agrees, fits, low, high and unreadable; and how many milligrams the figure is off, 0 where it has no such distance
+// A verdict, from 0 agrees, fits, low, high and unreadable; and how many milligrams the figure is off, 0 where it has
+// no such distance
 pub struct Mark {
     pub verdict: u64,
     pub off: u64,
@@ -81,7 +83,8 @@ fn print_mark(mark: Mark) {
     number(b" by ", mark.off);
 }
 
-// A line for a figure whose mark is another than the one expected; figures are counted from 1, as tools/vectors/marks.py lists them.
+// A line for a figure whose mark is another than the one expected; figures are counted from 1, as
+// tools/vectors/marks.py lists them.
 fn print_other(position: u64, expected: Mark, found: Mark) {
     number(b"figure ", position);
     text(b": expected ");
@@ -142,7 +145,8 @@ fn report_verdicts(s: &[u8]) -> Tally {
     all
 }
 
-// A figure that is cut off, or whose verdict is above the last, is missing from the tally; the count that the input gives shows it.
+// A figure that is cut off, or whose verdict is above the last, is missing from the tally; the count that the input
+// gives shows it.
 fn report(s: &[u8]) {
     if s.len() < COUNT {
         vectors::print::no_count();

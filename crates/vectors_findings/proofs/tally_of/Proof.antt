@@ -1,5 +1,5 @@
--- `vectors_findings::tally_of` is safe and ends. The loop's invariant: the next head lies within the input, and the sheet keeps its room. The
--- measure is what is left of the input.
+-- `vectors_findings::tally_of` is safe and ends. The loop's invariant: the next head lies within the input, and the
+-- sheet keeps its room. The measure is what is left of the input.
 use mathlib.Core.Path.{_≡_}
 use Prim.Native.Nat.{_≤_, _-_}
 use borrow.Author.Needs.{needs}
