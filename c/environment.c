@@ -1,5 +1,5 @@
-/* The calls for cells in every rounding mode of the machine, and with its smallest doubles taken for 0 as in a program that is linked with
- * -ffast-math: each answer is the same as in the usual mode, bit by bit. */
+/* The calls for cells in every rounding mode of the machine, and with its smallest doubles taken for 0 as in a
+ * program that is linked with -ffast-math: each answer is the same as in the usual mode, bit by bit. */
 #include <fenv.h>
 #include <inttypes.h>
 #include <stdio.h>
@@ -52,12 +52,14 @@ static void expect_sums(const char *mode) {
 
 /* Doubles that are not 0 but very small, of both signs, and a half: none is a whole number of milligrams. */
 static void expect_fractions(const char *mode) {
-    static const uint64_t fractions[] = {1, 0x000fffffffffffff, 0x8000000000000001, 0x0010000000000000, 0x3fe0000000000000};
+    static const uint64_t fractions[] = {1, 0x000fffffffffffff, 0x8000000000000001, 0x0010000000000000,
+                                         0x3fe0000000000000};
     const struct evp_cell one = {EVP_EXACT, 1.0, 1.0};
     for (size_t i = 0; i < sizeof fractions / sizeof fractions[0]; i++) {
         const double x = double_of(fractions[i]);
-        expect(mode, "the number of a fraction as low", evp_add_cells((struct evp_cell){EVP_BAND, x, 7.0}, one).number, EVP_CELL);
-        expect(mode, "the number of a fraction as mass", evp_add_cells((struct evp_cell){EVP_EXACT, x, x}, one).number, EVP_CELL);
+        const struct evp_cell low = {EVP_BAND, x, 7.0}, mass = {EVP_EXACT, x, x};
+        expect(mode, "the number of a fraction as low", evp_add_cells(low, one).number, EVP_CELL);
+        expect(mode, "the number of a fraction as mass", evp_add_cells(mass, one).number, EVP_CELL);
     }
 }
 
@@ -65,14 +67,17 @@ int main(void) {
     static const struct {
         int mode;
         const char *name;
-    } modes[] = {{FE_TONEAREST, "to nearest"}, {FE_DOWNWARD, "downward"}, {FE_UPWARD, "upward"}, {FE_TOWARDZERO, "to zero"}};
+    } modes[] = {
+        {FE_TONEAREST, "to nearest"}, {FE_DOWNWARD, "downward"}, {FE_UPWARD, "upward"}, {FE_TOWARDZERO, "to zero"},
+    };
     const unsigned usual = _mm_getcsr();
     for (int zeroed = 0; zeroed < 2; zeroed++) {
         for (size_t i = 0; i < sizeof modes / sizeof modes[0]; i++) {
             char mode[64];
             snprintf(mode, sizeof mode, "rounding %s%s", modes[i].name, zeroed ? ", smallest doubles as 0" : "");
             fesetround(modes[i].mode);
-            _mm_setcsr((_mm_getcsr() & ~(DENORMALS_ARE_ZERO | FLUSH_TO_ZERO)) | (zeroed ? DENORMALS_ARE_ZERO | FLUSH_TO_ZERO : 0));
+            _mm_setcsr((_mm_getcsr() & ~(DENORMALS_ARE_ZERO | FLUSH_TO_ZERO))
+                       | (zeroed ? DENORMALS_ARE_ZERO | FLUSH_TO_ZERO : 0));
             expect_sums(mode);
             expect_fractions(mode);
         }

@@ -1,5 +1,5 @@
-/* Sheets for the tests, of any version: 12 seasons, and rows of all classes and technologies with every kind of canister,
- * with written loads and, where the version has them, with mileages. */
+/* Sheets for the tests, of any version: 12 seasons, and rows of all classes and technologies with every kind of
+ * canister, with written loads and, where the version has them, with mileages. */
 #ifndef LARGEST_H
 #define LARGEST_H
 

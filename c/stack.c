@@ -13,7 +13,8 @@
 #define PATTERN 0x5a
 #define PAGE 4096
 
-static uint8_t sheet[EVP_SHEET_BYTES], half[EVP_SHEET_BYTES], pooled[EVP_SHEET_BYTES], text[EVP_TEXT_BYTES], owners[1000];
+static uint8_t sheet[EVP_SHEET_BYTES], half[EVP_SHEET_BYTES], pooled[EVP_SHEET_BYTES];
+static uint8_t text[EVP_TEXT_BYTES], owners[1000];
 static uint64_t words[EVP_REPORT_WORDS], milligrams[EVP_SPECIES];
 static size_t sheet_bytes, half_bytes;
 static unsigned rows; /* of the sheet; the half, which is pooled with itself, and shared, has half of them */
@@ -148,6 +149,7 @@ int main(void) {
         const size_t taken = most_of(version, &failures);
         most = taken > most ? taken : most;
     }
-    printf("at most %zu of %d bytes of stack, the thread's own among them: %d failures\n", most, EVP_STACK_BYTES, failures);
+    printf("at most %zu of %d bytes of stack, the thread's own among them: %d failures\n", most, EVP_STACK_BYTES,
+           failures);
     return failures != 0;
 }

@@ -1,11 +1,11 @@
-/* The calls from C. Two sample sheets of version 1: their reports and factors against the values below, the text of the
- * first against document 01's lines, and refusals of each call. Then the same for the sheets of version 2 that have the
- * products of their lists as a grid, and for these in versions 3 and 4, without a mileage, which must answer alike. Then
- * a sample of version 3 with mileages; species; the cells of a row of the second sample, their sum, and cells that are
- * refused; a ledger on the second sample, in versions 1 and 4, and a shared one; two sheets of version 4 that are pooled;
- * damaged sheets explained, filed masses marked; null pointers in every call; the texts. All of it in every rounding
- * mode of the machine, and with its smallest doubles taken for 0. Prints what is not as expected; the exit status is 0
- * only where all is.
+/* The calls from C. Two sample sheets of version 1: their reports and factors against the values below, the text of
+ * the first against document 01's lines, and refusals of each call. Then the same for the sheets of version 2 that
+ * have the products of their lists as a grid, and for these in versions 3 and 4, without a mileage, which must answer
+ * alike. Then a sample of version 3 with mileages; species; the cells of a row of the second sample, their sum, and
+ * cells that are refused; a ledger on the second sample, in versions 1 and 4, and a shared one; two sheets of version
+ * 4 that are pooled; damaged sheets explained, filed masses marked; null pointers in every call; the texts. All of it
+ * in every rounding mode of the machine, and with its smallest doubles taken for 0. Prints what is not as expected;
+ * the exit status is 0 only where all is.
  *
  * usage: test EXAMPLE.evp TABLE-3-5-DAY.evp ODOMETER.evp NORTH.evp SOUTH.evp POOLED */
 #include <fenv.h>
@@ -98,11 +98,12 @@ static void expect_factors(uint64_t row, const uint64_t expected[7][2]) {
 static const uint64_t example_words[EVP_WORDS_OF(1)] = {0};
 
 static const uint64_t example_factors[7][2] = {
-    {14333, 14334}, {42027, 42029}, {3368733, 3368735}, {4738073, 4738075}, {0, 1}, {649532, 649533}, {3766912, 3766914},
+    {14333, 14334}, {42027, 42029}, {3368733, 3368735}, {4738073, 4738075}, {0, 1}, {649532, 649533},
+    {3766912, 3766914},
 };
 
-/* Table 3-5, first column: 1,000 vehicles with one trip on one day, so that a mass in milligrams is a factor in micrograms. The
- * guidebook has 3.90, 0.10, 8.48, 11.93, 0.13, 1.84 and 10.05 g. */
+/* Table 3-5, first column: 1,000 vehicles with one trip on one day, so that a mass in milligrams is a factor in
+ * micrograms. The guidebook has 3.90, 0.10, 8.48, 11.93, 0.13, 1.84 and 10.05 g. */
 static const uint64_t table_words[EVP_WORDS_OF(3)] = {
     3875007,  3875009,  103054,   103056,   128038,   128040,   /* row 1 */
     3875007,  3875009,  8463293,  8463295,  1843000,  1843002,  /* row 2 */
@@ -120,8 +121,8 @@ static const uint64_t table_factors[7][2] = {
 };
 
 /* Document 01's example, as it is printed: 108 bytes. */
-static const char example_text[] = "EVP 1 rows 1\nrow 1 0 0 0 0 0 0\ncars 0 0 0 0 0 0\nlight 0 0 0 0 0 0\ntwo 0 0 0 0 0 0\n"
-                                   "all 0 0 0 0 0 0\ntotal 0 0\n";
+static const char example_text[] = "EVP 1 rows 1\nrow 1 0 0 0 0 0 0\ncars 0 0 0 0 0 0\nlight 0 0 0 0 0 0\n"
+                                   "two 0 0 0 0 0 0\nall 0 0 0 0 0 0\ntotal 0 0\n";
 static const char short_text[] = "refused 22 at 0\n";
 
 #define EXAMPLE_TEXT (sizeof example_text - 1)
@@ -158,8 +159,8 @@ static void put_count(size_t at, uint64_t count) {
     sheet[at + 1] = (uint8_t)(count / 256);
 }
 
-/* The sheet, of version 1 until now, as one of version 2: the grid has the products of the two lists, end hour 1 first, and all
- * else stands behind it as before. */
+/* The sheet, of version 1 until now, as one of version 2: the grid has the products of the two lists, end hour 1
+ * first, and all else stands behind it as before. */
 static void make_grid(void) {
     enum { LIST = 24, DURATIONS = 8, HOURS = 56 };
     uint64_t durations[LIST], hours[LIST];
@@ -408,7 +409,8 @@ static void expect_row_cells(void) {
 }
 
 /* Beside an empty cell: refused, or given with this kind and these doubles. */
-static void expect_sum(const char *what, struct evp_cell cell, uint64_t number, uint64_t kind, double low, double high) {
+static void expect_sum(const char *what, struct evp_cell cell, uint64_t number, uint64_t kind, double low,
+                       double high) {
     struct evp_cell_sum sum = evp_add_cells(cell, (struct evp_cell){EVP_EMPTY, NAN, NAN});
     expect(what, sum.number, number);
     expect(what, sum.place, 0);
@@ -426,8 +428,8 @@ static void expect_cells(void) {
     expect_sum("an infinity", (struct evp_cell){EVP_BAND, 7, INFINITY}, EVP_CELL, EVP_NONE, 0, 0);
     expect_sum("a fraction", (struct evp_cell){EVP_BAND, 0.5, 7}, EVP_CELL, EVP_NONE, 0, 0);
     expect_sum("a kind that is none", (struct evp_cell){3, 5, 7}, EVP_CELL, EVP_NONE, 0, 0);
-    struct evp_cell_sum over = evp_add_cells((struct evp_cell){EVP_EXACT, most, most}, (struct evp_cell){EVP_EXACT, 1, 1});
-    expect("a sum of 2^53 + 1", over.number, EVP_CELL);
+    const struct evp_cell largest = {EVP_EXACT, most, most}, one = {EVP_EXACT, 1, 1};
+    expect("a sum of 2^53 + 1", evp_add_cells(largest, one).number, EVP_CELL);
 }
 
 /* The vehicles of a row behind one season. */
@@ -436,8 +438,9 @@ static uint64_t vehicles_of(size_t seasons_start, size_t row) {
     return count_at(at) + UINT64_C(65536) * count_at(at + 2);
 }
 
-/* What a call on the ledger answers, with the vehicles that the row then has; and its words are those of a fresh report. */
-static void expect_change(size_t seasons_start, struct evp_check answer, uint64_t number, size_t row, uint64_t vehicles) {
+/* What a call on the ledger answers, with the vehicles that the row then has; its words are those of a fresh report. */
+static void expect_change(size_t seasons_start, struct evp_check answer, uint64_t number, size_t row,
+                          uint64_t vehicles) {
     static uint64_t fresh[EVP_REPORT_WORDS];
     expect("number of a change", answer.number, number);
     expect("place of a change", answer.place, 0);
@@ -469,7 +472,8 @@ static void expect_ledger(size_t seasons_start) {
     expect_change(seasons_start, arrive(1, UINT64_MAX), EVP_COUNT, 1, 1000);
     expect_change(seasons_start, arrive(1, 9999000), EVP_ACCEPTED, 1, 10000000);
     expect("a ledger without room", evp_arrive(sheet, sheet_bytes, words, EVP_WORDS_OF(3) - 1, 1, 1).number, EVP_ROOM);
-    expect("a ledger of a cut sheet", evp_depart(sheet, sheet_bytes - 1, words, EVP_REPORT_WORDS, 1, 1).number, EVP_LENGTH);
+    expect("a ledger of a cut sheet", evp_depart(sheet, sheet_bytes - 1, words, EVP_REPORT_WORDS, 1, 1).number,
+           EVP_LENGTH);
     expect_change(seasons_start, depart(1, 9999000), EVP_ACCEPTED, 1, 1000);
     expect_change(seasons_start, depart(0, 250), EVP_ACCEPTED, 0, 1000);
     expect_change(seasons_start, arrive(2, 1000), EVP_ACCEPTED, 2, 1000);
@@ -479,10 +483,12 @@ static void expect_ledger(size_t seasons_start) {
 }
 
 /* Two sheets, their pooled sheet, and the buffer of the pool call. */
-static uint8_t first[EVP_SHEET_BYTES + 1], second[EVP_SHEET_BYTES + 1], pooled[EVP_SHEET_BYTES + 1], pool[EVP_SHEET_BYTES];
+static uint8_t first[EVP_SHEET_BYTES + 1], second[EVP_SHEET_BYTES + 1], pooled[EVP_SHEET_BYTES + 1];
+static uint8_t pool[EVP_SHEET_BYTES];
 static size_t first_bytes, second_bytes, pooled_bytes;
 
-/* Pools the two with this much room. The buffer starts with these bytes of the pooled sheet, and all else in it is as it was. */
+/* Pools the two with this much room. The buffer starts with these bytes of the pooled sheet, and all else in it is as
+ * it was. */
 static void expect_pool(size_t room, uint64_t number, uint64_t place, uint64_t of, size_t written) {
     memset(pool, 'U', sizeof pool);
     struct evp_pool_check answer = evp_pool(first, first_bytes, second, second_bytes, pool, room);
@@ -590,7 +596,8 @@ static void expect_shared(size_t seasons_start) {
 static void expect_finding(const char *what, struct evp_finding expected) {
     struct evp_finding found = evp_explain(sheet, sheet_bytes);
     if (memcmp(&found, &expected, sizeof found) != 0) {
-        printf("%s: found %" PRIu64 " at %" PRIu64 " reason %" PRIu64 " value %" PRIu64 " of %" PRIu64 " to %" PRIu64 "\n", what,
+        printf("%s: found %" PRIu64 " at %" PRIu64 " reason %" PRIu64 " value %" PRIu64 " of %" PRIu64 " to %" PRIu64
+               "\n", what,
                found.number, found.place, found.reason, found.value, found.least, found.most);
         mismatches += 1;
     }
@@ -603,7 +610,8 @@ static void expect_findings(void) {
     expect_finding("a fill level", (struct evp_finding){EVP_PERCENT, row, 3, 2, 0, row + 5, 1, 101, 0, 100});
     put_count(EVP_LISTS_END + 2, 65536 - 301);
     expect_finding("a lowest temperature",
-                   (struct evp_finding){EVP_TEMPERATURES, EVP_LISTS_END, 1, 0, 0, EVP_LISTS_END + 2, 2, 32768 - 301, 32768 - 300, 32768 + 500});
+                   (struct evp_finding){EVP_TEMPERATURES, EVP_LISTS_END, 1, 0, 0, EVP_LISTS_END + 2, 2, 32768 - 301,
+                                        32768 - 300, 32768 + 500});
     sheet_bytes = 7;
     expect_finding("seven bytes", (struct evp_finding){EVP_HEAD_SHORT, 0, 1, 0, 0, 0, 0, 7, 8, EVP_SHEET_BYTES});
 }
@@ -659,7 +667,7 @@ static void expect_shared_nulls(size_t first_row) {
     expect_answer("nothing shared", evp_shared_open(NULL, 0, NULL, 0, NULL, 0), EVP_HEAD_SHORT, 0);
     expect_answer("shared without words", evp_shared_open(sheet, sheet_bytes, owners, 3, NULL, 0), EVP_ROOM, 0);
     expect_answer("shared without owners", shared_open(NULL, 0), EVP_SHARE, first_row);
-    expect_answer("an arrival at nothing shared", evp_shared_arrive(NULL, 0, NULL, 0, NULL, 0, 1, 0, 1), EVP_HEAD_SHORT, 0);
+    expect_answer("an arrival at it", evp_shared_arrive(NULL, 0, NULL, 0, NULL, 0, 1, 0, 1), EVP_HEAD_SHORT, 0);
     expect_answer("a departure from it", evp_shared_depart(NULL, 0, NULL, 0, NULL, 0, 1, 0, 1), EVP_HEAD_SHORT, 0);
     expect("a row of nothing shared", evp_shared_row(NULL, 0, NULL, 0, NULL, 0, 1, 0).number, EVP_HEAD_SHORT);
     expect("a row without words", evp_shared_row(sheet, sheet_bytes, owners, 3, NULL, 0, 1, 0).number, EVP_ROOM);
@@ -707,10 +715,10 @@ static void expect_records(unsigned version) {
             const struct evp_finding found = evp_explain(sheet, sheet_bytes);
             const struct evp_check check = evp_check_sheet(sheet, sheet_bytes);
             const char *kind = evp_place_text(found.number);
-            const int record = strcmp(kind, "season") == 0 || strcmp(kind, "row") == 0;
+            const uint64_t record = strcmp(kind, "season") == 0 || strcmp(kind, "row") == 0 ? found.index + 1 : 0;
             expect("the number explained", found.number, check.number);
             expect("the place explained", found.place, check.place);
-            expect("a record", evp_place_record(sheet, sheet_bytes, found.number, found.place), record ? found.index + 1 : 0);
+            expect("a record", evp_place_record(sheet, sheet_bytes, found.number, found.place), record);
         }
         sheet[at] = kept;
     }
@@ -791,7 +799,8 @@ static const struct {
     const char *name;
 } modes[] = {
     {FE_TONEAREST, 0, ""}, {FE_DOWNWARD, 0, "rounding downward, "}, {FE_UPWARD, 0, "rounding upward, "},
-    {FE_TOWARDZERO, 0, "rounding to zero, "}, {FE_TONEAREST, DENORMALS_ARE_ZERO | FLUSH_TO_ZERO, "smallest doubles as 0, "},
+    {FE_TOWARDZERO, 0, "rounding to zero, "},
+    {FE_TONEAREST, DENORMALS_ARE_ZERO | FLUSH_TO_ZERO, "smallest doubles as 0, "},
     {FE_UPWARD, DENORMALS_ARE_ZERO | FLUSH_TO_ZERO, "rounding upward, smallest doubles as 0, "},
 };
 
@@ -808,6 +817,7 @@ int main(int count, char **paths) {
         if (!expect_all(paths))
             return 2;
     }
-    printf("the calls from C in %zu modes of the machine: %d answers held, %d not as expected\n", all, checked, mismatches);
+    printf("the calls from C in %zu modes of the machine: %d answers held, %d not as expected\n", all, checked,
+           mismatches);
     return mismatches != 0;
 }

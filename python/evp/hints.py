@@ -125,7 +125,7 @@ class Nearby:
     def of(self, filed: Filed) -> list[Figure]:
         least, most = _around(filed)
         here = slice(bisect_left(self.lows, least - self.widest), bisect_right(self.lows, most))
-        return [figure for _, figure in self.bands[here]]
+        return [figure for band, figure in self.bands[here] if band.high >= least]
 
 
 class Guesser:

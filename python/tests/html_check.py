@@ -71,7 +71,8 @@ class Page(HTMLParser):
         if tag in VOID:
             return
         if not self.open or self.open[-1][0] != tag:
-            self.faults.append("</%s> closes %s at %s" % (tag, self.open[-1][0] if self.open else "nothing", self.getpos()))
+            inner = self.open[-1][0] if self.open else "nothing"
+            self.faults.append("</%s> closes %s at %s" % (tag, inner, self.getpos()))
             return
         _, found = self.open.pop()
         if tag == "script" and found.get("type") != "application/json":
@@ -96,7 +97,7 @@ class Page(HTMLParser):
         if self.open:
             self.faults.append("not closed: %s" % [tag for tag, _ in self.open])
         self.faults += ["id %s is there twice" % id for id in set(self.ids) if self.ids.count(id) > 1]
-        self.faults += ["%s points to no %s" % reference for reference in self.references if reference[1] not in self.ids]
+        self.faults += ["%s points to no %s" % (name, id) for name, id in self.references if id not in self.ids]
         for field in self.fields:
             if not (field["within"] or field.get("aria-label") or field.get("id") in self.labels):
                 self.faults.append("a field has no label: %s" % field)

@@ -223,7 +223,8 @@ class MakingTest(DeskTestCase):
     def test_progress(self):
         """The last part is proved where the library is made, and not by itself."""
         said = self.make("for name in numbers bounds bounds report; do echo rt: $name proved; done")
-        self.assertTrue(said.startswith("evp: the library is not made yet. Proving and making it takes some minutes;\n"))
+        began = "evp: the library is not made yet. Proving and making it takes some minutes;\n"
+        self.assertTrue(said.startswith(began))
         self.assertTrue(said.endswith("\nevp: all 3 parts proved, the library is made\n"))
         many = "".join("p%d:\n" % i for i in range(24)) + "evaporation:" + "".join(" p%d" % i for i in range(24))
         said = self.make("for i in $(seq 0 23); do echo rt: p$i proved; done", many)

@@ -144,6 +144,9 @@ class ManyRowsHintsTest(DeskTestCase):
 
     def test_other_rows(self):
         """Another row's mass is told where its digits leave no doubt, and two that are exchanged."""
+        one, two = Figure("24", "running"), Figure("300", "running")  # of the smallest, beside sums with wide bands
+        found = self.hints({one: self.bands[two].low, two: self.bands[one].low})
+        self.assertIn("\n  guess: a.evp: 2 figures: row 24 and row 300 are exchanged\n", found.out)
         one, two = Figure("3", "diurnal"), Figure("40", "diurnal")
         found = self.hints({one: self.bands[two].low, two: self.bands[one].low})
         self.assertIn("\n  guess: a.evp: 2 figures: row 3 and row 40 are exchanged\n", found.out)

@@ -216,6 +216,8 @@ class FolderTest(DeskTestCase):
             ({"parking": PARKING_HEADER + "0.7,1,1,1\n"}, "parking.csv: line 2: duration: '0.7' is not 0.5 to 12"),
             ({"parking": PARKING_HEADER + "".join("%g,1,%d,1\n" % (d / 2, d) for d in range(1, 24))},
              "parking.csv: duration: all of 0.5 to 12 are wanted; 12 is missing"),
+            ({"parking": PARKING_HEADER + "0.5,1,1,1\n"},
+             "parking.csv: duration: all of 0.5 to 12 are wanted; 1, 1.5, 2 and 20 more are missing"),
         ):
             with self.subTest(said):
                 folder = self.put_folder(**changed)

@@ -77,7 +77,6 @@ CLAIMS = (
     "{filed_figures} filed figures",
     # the gate
     "{tests} tests: {crates} crates proved", "and {edits} must-fail edits refused",
-    "12 of {crates} crates, 3 of {edits} edits",
     # the longest sheet, its report and its text
     "longest sheet, which has {sheet_bytes} bytes", "at most {sheet_bytes} for S = 12 and R = 1,000",
     "the report has at most {report_words} words", "lends {report_words}, those of 1,000 rows",

@@ -114,12 +114,6 @@ class Escape:
         return self.lost(self.m1 + v) - self.lost_before
 
 
-@functools.lru_cache(maxsize=256)
-def escape_of(day: Day, row: Row, i: int) -> Escape:
-    """The kept escape, as several factors ask for it."""
-    return Escape(day, row, i)
-
-
 def parkings(sheet: Sheet) -> list[tuple[int, int, int]]:
     """The cells of the parking grid that weigh something: (d, t, count) with
     d half-hours and end hour t."""
@@ -156,7 +150,7 @@ def _diurnal(sheet: Sheet, day: Day, row: Row):
         by_start.setdefault(start_mark(t, d), {})[d] = count
     total = 0
     for start, lengths in by_start.items():
-        escape = escape_of(day, row, start)
+        escape = Escape(day, row, start)
         heat = rates = 0
         least = most = day.heat(start)
         for d in range(1, max(lengths) + 1):
@@ -177,7 +171,7 @@ def _raised(day: Day, row: Row, rise: Fraction) -> Callable:
     """Escape of the vapour from T(i) to T(i) + rise, as a function of i."""
     def value(i):
         v = day.vapour(row, day.heat(i, rise) - day.heat(i))
-        return escape_of(day, row, i).of(v)
+        return Escape(day, row, i).of(v)
     return value
 
 

@@ -11,7 +11,13 @@ from tools.command import TOP
 MADE = ("bin/report", "bin/species", "bin/pool", "lib/libevaporation.a", "lib/libevaporation.so.1")
 
 
-@unittest.skipUnless(shutil.which("rt") and (TOP / ".git").exists(), "no kit, or no repository")
+def is_repository() -> bool:
+    """Whether git reads a commit here."""
+    words = ["git", "-C", str(TOP), "rev-parse", "--verify", "HEAD"]
+    return shutil.which("git") is not None and subprocess.run(words, capture_output=True).returncode == 0
+
+
+@unittest.skipUnless(shutil.which("rt") and is_repository(), "no kit, or no repository that git reads")
 class ReleaseTest(unittest.TestCase):
     """A gate that has passed on a clone, and then something else."""
 
@@ -21,7 +27,7 @@ class ReleaseTest(unittest.TestCase):
         cls.addClassCleanup(folder.cleanup)
         cls.top = Path(folder.name, "repository")
         kept = ("README.md", "release")
-        cls.git(TOP, "clone", "--quiet", "--shared", "--no-checkout", str(TOP), str(cls.top))
+        cls.git(TOP, "clone", "--quiet", "--depth", "1", "--no-checkout", TOP.as_uri(), str(cls.top))
         cls.git(cls.top, "reset", "--quiet", "--", *kept)
         for name in kept:  # as they are, committed or not
             (shutil.copytree if (TOP / name).is_dir() else shutil.copy)(TOP / name, cls.top / name)

@@ -1,9 +1,8 @@
 -- What holds of the species of a sheet holds of the numbers that leave the library.
 -- Assumes nothing.
 use mathlib.Core.List.{List}
-use mathlib.Core.Path.{_≡_, refl, _∙_, ap}
+use mathlib.Core.Path.{_≡_, _∙_, ap}
 use Prim.Native.Nat.{ℕ}
-use lib.ListN.{length}
 use Rattle.species_report.specs.declared.composition.Composition.{Composition}
 use Rattle.species_report.specs.Composition.{CompositionCall}
 use Rattle.boundary.specs.declared.EvpComposition.{EvpComposition}

@@ -1,22 +1,21 @@
 -- The words of a report, counted from the sheet alone.
 -- Assumes nothing.
 use mathlib.Core.List.{List}
-use mathlib.Core.Path.{_≡_, refl, sym, _∙_, ap}
+use mathlib.Core.Path.{_≡_, refl}
 use Prim.Native.Nat.{ℕ, _+_, _*_, _≤_}
 use native.Mathlib.Omega.{arith}
 use borrow.Author.Tests.{le-ltb}
 use lib.ListN.{length}
-use Rattle.sheet.specs.declared.Check.{Check}
 use Rattle.sheet.specs.declared.Check.the-variants.{Pass, Refused}
 use Rattle.sheet.specs.Bytes.{rowsOf}
 use Rattle.sheet.specs.Check.{refuse, _then_}
 use Rattle.sheet.specs.Sheet.{sheetCheck}
 use Rattle.sheet.proofs.Accepted.{accepted}
 use Rattle.sheet.proofs.Versions.{rows-limit, start-between}
-use Rattle.report_words.specs.Report.{reportLength, report}
+use Rattle.report_words.specs.Report.{reportLength}
 use Rattle.report_words.proofs.ReportPlaces.{report-length}
 use Rattle.inventory.specs.ReportCall.{reportCheck}
-use Rattle.inventory.proofs.CallConditions.{report-accepted, report-sheet}
+use Rattle.inventory.proofs.CallConditions.{report-accepted}
 use Rattle.boundary.specs.SheetExport.{wordsOf, reportWords, WordsCounted}
 
 module _ (s : List ℕ) where

@@ -15,7 +15,7 @@ use map_shares::Words;
 ghost use mathlib.Core.Path.{_≡_};
 ghost use Rattle.boundary.specs.Cells.{cellNumbers, noCell, rowNumbers, sumNumbers, exactHanded, cellHanded, handedSum, travelHanded, handedRow};
 
-pub fn cell_numbers(c: Cell) -> EvpCell
+fn cell_numbers(c: Cell) -> EvpCell
     ensures { λ r. ⌜ r ≡ cellNumbers c ⌝ }
 {
     match c {
@@ -34,7 +34,7 @@ pub fn cell_numbers(c: Cell) -> EvpCell
 }
 
 // What stands for a cell where there is none.
-pub fn no_cell() -> EvpCell
+fn no_cell() -> EvpCell
     ensures { λ r. ⌜ r ≡ noCell ⌝ }
 {
     EvpCell {
@@ -88,7 +88,7 @@ pub fn sum_numbers(a: CellAnswer) -> EvpCellSum
 }
 
 // One mass stands in both doubles.
-pub fn exact_handed(low: f64, high: f64) -> Handed
+fn exact_handed(low: f64, high: f64) -> Handed
     ensures { λ r. ⌜ r ≡ exactHanded low high ⌝ }
 {
     if low == high {

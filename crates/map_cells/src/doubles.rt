@@ -16,7 +16,7 @@ const MINUS_ZERO: u64 = 9223372036854775808;
 const ONE: u64 = 4607182418800017408;
 
 // A mass as a double. Through i64, which the machine turns into a double in one step: 0 is then a plus zero however it is set to round.
-pub fn double_of(n: u64) -> f64
+fn double_of(n: u64) -> f64
     requires { ⌜ n ≤ massLimit ⌝ }
     ensures { λ r. ⌜ r ≡ double n ⌝ }
 {

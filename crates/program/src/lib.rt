@@ -42,7 +42,7 @@ fn read(fd: i32, bytes: &mut [u8]) -> Input
 }
 
 // The sheet of standard input.
-pub fn read_input(name: &[u8], bytes: &mut [u8]) -> Input
+fn read_input(name: &[u8], bytes: &mut [u8]) -> Input
     ensures { λ r. ⌜ Counts (r .count) (now (bytes .exit)) ⌝ }
 {
     let input = read(STDIN_FILENO, bytes);
@@ -64,7 +64,7 @@ fn open(name: &[u8], path: &[u8]) -> i32 {
 }
 
 // The sheet of a file.
-pub fn read_file(name: &[u8], path: &[u8], bytes: &mut [u8]) -> Input
+fn read_file(name: &[u8], path: &[u8], bytes: &mut [u8]) -> Input
     ensures { λ r. ⌜ Counts (r .count) (now (bytes .exit)) ⌝ }
 {
     let fd = open(name, path);
@@ -102,7 +102,7 @@ pub fn read_argument(name: &[u8], i: usize, bytes: &mut [u8]) -> Input
 
 // Whether argument i starts with -: there are no options, so that --help and the like are answered with the usage, and
 // such a file is named with its folder, as ./-x.
-pub fn is_option(i: usize) -> bool {
+fn is_option(i: usize) -> bool {
     let mut path = io::buffer();
     let n = os::arg(i, &mut path);
     (0 < n) & (path[0] == b'-')

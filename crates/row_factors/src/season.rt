@@ -60,7 +60,7 @@ fn permeation_mean(grid: &[u64; 627], rates: &[u64; 48]) -> u64
 }
 
 // The means of a season, from the rises of its parkings and its values at the marks.
-pub fn at_season(grid: &[u64; 627], rises: &[u64; 576], season: Season, marks: Marks) -> AtSeason
+fn at_season(grid: &[u64; 627], rises: &[u64; 576], season: Season, marks: Marks) -> AtSeason
     requires { ⌜ GridReady (now grid) × MarksReady season marks × (now rises ≡ risesOf season) ⌝ }
     ensures { λ r. ⌜ AtSeasonOf season marks (cellsIn (now (grid .entry))) r ⌝ }
 {

@@ -43,7 +43,7 @@ unfolding slope
 slope-low K y =
     let k : ℕ = binary K in
     ≤-trans
-    (≤-trans (ratio-≤ _ _ parts-pos _ (slope-cut k (k / 2 ^ 24) y (k / 2 ^ 24 * y / 2 ^ 38) (omega arith) (div-mul-le-self _ _)))
+    (≤-trans (ratio-≤ _ _ parts-pos _ (slope-cut k (k / 2 ^ 24) y _ (omega arith) (omega arith)))
     (≈→≥ (ratio-product k (y * 2 ^ 4) b-pos unit-pos)))
     (*-mono-left (ratio-nonNegative _ unit-pos) (within-above b-pos (rising-cut K)))
 
@@ -54,10 +54,7 @@ slope-high K y h =
     let k : ℕ = binary K in
     ≤-trans (*-mono-left (ratio-nonNegative _ unit-pos) (within-below b-pos (rising-cut K)))
     (≤-trans (≈→≤ (ratio-product (k + 1) (y * 2 ^ 4) b-pos unit-pos))
-    (ratio-≤ _ _ _ parts-pos (slope-next k (k / 2 ^ 24) y (k / 2 ^ 24 * y / 2 ^ 38) (omega arith) (next (k / 2 ^ 24 * y)) h)))
-  where
-    next : (z : ℕ) → z < (z / 2 ^ 38 + 1) * 2 ^ 38
-    next z = omega arith
+    (ratio-≤ _ _ _ parts-pos (slope-next k (k / 2 ^ 24) y _ (omega arith) (omega arith) h)))
 
 -- it is at most a quarter
 pub slope-most : (k y : ℕ) → k ≤ 2 ^ 43 → y ≤ 2 ^ 36 → slope k y ≤ 2 ^ 17

@@ -122,7 +122,7 @@ module _ (A K h σ M : ℕ) (vp s saturation T : Fraction) (ea : a vp T ≈ᶠ e
         (≤-trans (≈→≥ (drivenExponent-cong x es)) l))
         (λ l. absurd (r (record { far = ≤-trans (enough-reaches M least most n n40) (E-mono n l) })))
 
-    -- the starting load, within 0.12 µg
+    -- the starting load, within 0.14 µg
     pub mileage-within : WithinAll (2 ^ 40) (startUnits (binary A) (binary K) h σ M) startError (λ n. startingLoad n vp s T M saturation)
     mileage-within = record {
       at = λ n n40.

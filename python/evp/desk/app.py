@@ -21,6 +21,7 @@ def create_app(hosts: frozenset[str], ledger: CourseLedger | None = None) -> Fla
     if has_pages():
         from evp.pages.routes import blueprint
         app.register_blueprint(blueprint)
+        security.Turns().keep(app, "/class")
     if ledger is not None:
         app.register_blueprint(views.blueprint(ledger))
     return app

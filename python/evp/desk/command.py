@@ -257,7 +257,7 @@ def serve(library: Library, given: Namespace) -> int:
         listener.close()
         if ledger is not None:
             ledger.close()
-    print("\nStopped. Every call that was answered is kept.")
+    print("\nStopped.%s" % (" Every call that was answered is kept." if ledger is not None else ""))
     return 0
 
 

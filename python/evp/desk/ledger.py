@@ -143,15 +143,25 @@ class CourseLedger:
         self.store = store
         self.opening = store.opening
         self.people = {person.who: person for person in store.people}
-        self._played = _Played(library.shared_ledger(self.opening.sheet, self.opening.owners))
+        self._played = _Played(self._opened(library))
         self._replay(store)
         self._queue: list[_Waiting] = []
         self._queue_lock, self._lock = threading.Lock(), threading.Lock()
         self._lost = ""
 
+    def _opened(self, library: Library) -> SharedLedger:
+        try:
+            return library.shared_ledger(self.opening.sheet, self.opening.owners)
+        except Refusal as refusal:
+            raise InputError("%s: this library does not open the ledger's sheet, %s; nothing is served" % (
+                name_shown(self.store.path), refusal)) from None
+
     def _replay(self, store: Store):
         played = self._played
         for serial, stored in enumerate(store.calls(), 1):
+            if stored.kind not in KINDS or stored.row < 1 or stored.vehicles < 0 or stored.who not in played.made:
+                raise InputError("%s: call %d is none: the file was changed, and nothing is served" % (
+                    name_shown(store.path), serial))
             call = played.play(stored.who, Wanted(stored.kind, stored.row, stored.vehicles))
             if call.number != stored.number:
                 raise InputError("%s: call %d was answered with number %d, and played again with %d; "
@@ -239,23 +249,32 @@ class CourseLedger:
         """Answers all of a batch: plays them on a copy, keeps them, and takes the copy."""
         trial = _Played(self._played.shared.copy())
         trial.made = dict(self._played.made)
-        new: list[tuple[_Waiting, Call]] = []
+        new = self._try(batch, trial)
+        failure = self._keep(new, trial.shared) if new else ""
+        for waiting, call in new:
+            waiting.answer = NoRoom(failure) if failure else call
+        if not failure:
+            self._take(trial.shared, new)
+        for waiting in batch:
+            if isinstance(waiting.answer, OutOfDate):  # or the same call, sent twice at once
+                waiting.answer = self._known(waiting, self._played) or waiting.answer
+
+    def _try(self, batch: list[_Waiting], trial: _Played) -> list[tuple[_Waiting, Call]]:
+        """Plays the calls of a batch that are new, and gives them with their answers; the others are answered here."""
+        new = []
         for waiting in batch:
             waiting.answer = self._known(waiting, trial)
             if waiting.answer is None:
                 call = trial.play(waiting.who, waiting.wanted)
                 trial.made[waiting.who] = call.own
                 new.append((waiting, call))
-        failure = self._keep(new, trial.shared) if new else ""
+        return new
+
+    def _take(self, shared: SharedLedger, new: list[tuple[_Waiting, Call]]):
+        """What was kept is the ledger."""
         for waiting, call in new:
-            waiting.answer = NoRoom(failure) if failure else call
-            if not failure:
-                self._played.note(waiting.who, call)
-        if not failure:
-            self._played.shared = trial.shared
-        for waiting in batch:
-            if isinstance(waiting.answer, OutOfDate):  # or the same call, sent twice at once
-                waiting.answer = self._known(waiting, self._played) or waiting.answer
+            self._played.note(waiting.who, call)
+        self._played.shared = shared
 
     def _known(self, waiting: _Waiting, trial: _Played) -> Call | NotTaken | None:
         """What can be said of a call without the library; None where it is to be played."""

@@ -1,6 +1,8 @@
 """What is turned away before a page is asked, and what every answer carries."""
 
-from flask import Flask, Response, request
+import threading
+
+from flask import Flask, Response, g, request
 
 from evp.desk.render import message
 from evp.pages.render import policy
@@ -19,12 +21,13 @@ HEADERS = {
 
 WORDS = {  # of what is turned away: a heading and a sentence
     400: ("Not understood", "The desk did not understand this request."),
-    404: ("No such page", "There is nothing at this address. A link to a ledger must be taken whole: its end is a key."),
+    404: ("No such page", "There is nothing at this address. A link to a ledger must be whole: its end is a key."),
     405: ("Not done", "This page is read and not written to."),
     411: ("Not understood", "A request must tell how long it is."),
     413: ("Too long", "This is longer than anything that is wanted here."),
     421: ("Another name", "This desk does not go by that name. Use the address that its terminal shows."),
     500: ("A fault of the desk", "This page could not be made. What was answered before is kept."),
+    503: ("Busy", "Others have classes marked at this moment. Try again in a minute."),
 }
 
 
@@ -54,3 +57,32 @@ def protect(app: Flask, hosts: frozenset[str]):
         for name, value in HEADERS.items():
             answer.headers.setdefault(name, value)
         return answer
+
+
+class Turns:
+    """Classes are marked two at a time, and few may wait: so a class of thirty does not keep a ledger waiting."""
+
+    AT_ONCE, TOGETHER = 2, 8  # in work, and with those that wait
+
+    def __init__(self):
+        self._work, self._places = threading.Semaphore(self.AT_ONCE), threading.Semaphore(self.TOGETHER)
+
+    def keep(self, app: Flask, path: str):
+        """Lets the requests that send files to a path take turns."""
+        @app.before_request
+        def take_turn():
+            if request.method != "POST" or request.path != path:
+                return None
+            if not self._places.acquire(blocking=False):
+                return turned_away(503)
+            self._work.acquire()
+            g.turns = self._give
+            return None
+
+        @app.teardown_request
+        def give_turn(_):
+            g.pop("turns", lambda: None)()
+
+    def _give(self):
+        self._work.release()
+        self._places.release()

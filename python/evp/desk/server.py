@@ -13,7 +13,7 @@ from waitress.task import ErrorTask
 from evp.desk.security import MOST_BODY, WORDS
 from evp.files import InputError
 
-THREADS = 12
+THREADS = 32
 CONNECTIONS = 4_000
 SPARE_FILES = 200  # that are no connections
 

@@ -80,6 +80,7 @@ class Store:
         try:
             self._connect(pages)
             self._own()
+            self.opening, self.people = self._opening(), self._people()
         except sqlite3.DatabaseError as error:
             self.close()
             raise InputError("%s: %s" % (shown, _reason(error))) from None
@@ -107,17 +108,22 @@ class Store:
 
     # ------------------------------------------------------------------ what it has
 
-    @property
-    def opening(self) -> Opening:
-        return Opening(*self._db.execute("SELECT sheet, owners, source FROM opening").fetchone())
+    def _opening(self) -> Opening:
+        found = self._db.execute("SELECT sheet, owners, source FROM opening").fetchone()
+        if found is None:
+            raise sqlite3.DatabaseError("the file is damaged: it has no sheet")
+        return Opening(*found)
 
-    @property
-    def people(self) -> list[Person]:
-        return [Person(*row) for row in self._db.execute("SELECT who, name, secret FROM people ORDER BY who")]
+    def _people(self) -> list[Person]:
+        found = [Person(*row) for row in self._db.execute("SELECT who, name, secret FROM people ORDER BY who")]
+        if [person.who for person in found] != list(range(9)):
+            raise sqlite3.DatabaseError("the file is damaged: it has not nine people")
+        return found
 
     @property
     def digests(self) -> Digests:
-        return Digests(*self._db.execute("SELECT sheet, words FROM digests").fetchone())
+        found = self._db.execute("SELECT sheet, words FROM digests").fetchone()
+        return Digests(*(found or (b"", b"")))
 
     def calls(self) -> list[StoredCall]:
         """Every call, in order."""
@@ -152,6 +158,7 @@ class Store:
     def renew(self, who: int, secret: bytes):
         """Another secret for one of the people: the old link is none any more."""
         self._db.execute("UPDATE people SET secret = ? WHERE who = ?", (secret, who))
+        self.people = self._people()
 
     def close(self):
         if hasattr(self, "_db"):

@@ -20,9 +20,9 @@ class Ask(NamedTuple):
 
 SHEET = ("files", "The sheet, a file .evp", False)
 ASKS = {
-    "class": Ask("Mark a class", "Sheets and filed.csv together: each filed mass is held against the band of its sheet, "
-                 "and what is wrong stands first.", (("files", "The sheets .evp, and filed.csv", True),), "course",
-                 "thirty sheets, made up"),
+    "class": Ask("Mark a class", "Sheets and filed.csv together: each filed mass is held against the band of its "
+                 "sheet, and what is wrong stands first.", (("files", "The sheets .evp, and filed.csv", True),),
+                 "course", "thirty sheets, made up"),
     "sheet": Ask("Look at a sheet", "Where its mass comes from, or why it is refused, byte by byte. With filed.csv "
                  "beside it, the filed figures with the bands on them.",
                  (("files", "The sheet .evp, and filed.csv if you like", True),), "region", "a region of 24 rows"),
@@ -33,9 +33,11 @@ ASKS = {
     "fuels": Ask("Two fuels, or two years", "Two sheets side by side: which masses differ for certain, and which way.",
                  (("a", "A, a sheet .evp", False), ("b", "B, a sheet .evp", False)), "fuels",
                  "a region with summer fuel and with 10 kPa more"),
-    "species": Ask("Species", "The 29 compounds of Table 3-14 in the total of a sheet.", (SHEET,), "region", "a region"),
+    "species": Ask("Species", "The 29 compounds of Table 3-14 in the total of a sheet.", (SHEET,), "region",
+                   "a region"),
     "cells": Ask("Cells for the map", "Urban, rural and highway cells of each row, by where its vehicles drive.",
-                 (SHEET, ("travel", "travel.csv, where vehicles drive", False)), "cells", "a region with owners in town"),
+                 (SHEET, ("travel", "travel.csv, where vehicles drive", False)), "cells",
+                 "a region with owners in town"),
     "pool": Ask("Pool two sheets", "Two sheets of version 4 with the same seasons and parking become one.",
                 (("a", "The first, a sheet .evp", False), ("b", "The second, a sheet .evp", False)), "pool",
                 "the districts twice"),
@@ -81,8 +83,9 @@ def page_ask(what: str, message: str = "") -> str:
                   example=ask.example in examples())
 
 
-def page_home() -> str:
+def page_home(message: str = "") -> str:
     words = {name: ask.about for name, ask in ASKS.items()}
     words["form"] = "Seasons, parking and fleet; what is refused is explained at its field. Save the sheet and its csv."
     titles = {name: ask.title for name, ask in ASKS.items()} | {"form": "Form to sheet"}
-    return render("home.html", True, cards=[(name, titles[name], words[name]) for name, _ in LINKS])
+    return render("home.html", True, message=message.split("\n") if message else [],
+                  cards=[(name, titles[name], words[name]) for name, _ in LINKS])

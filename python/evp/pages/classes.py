@@ -9,7 +9,7 @@ from markupsafe import Markup
 
 from evp.figures import GROUP_NAMES, TOTAL, Figure
 from evp.library import GROUPS, MECHANISMS, Band, Filed, Unit
-from evp.marking import FINE, Filing, Mark, Marked
+from evp.marking import Filing, Mark, Marked
 from evp.pages.interval import deviation, edges_text, figure_text, picture
 from evp.pages.render import render
 from evp.pages.words import about, listed
@@ -128,7 +128,11 @@ class Sheet(NamedTuple):
         parts = [self._wrong_words(), self._settled_words()]
         parts += ["%s: %s" % (judged.name, judged.mark.note) for judged in self.judged
                   if judged.verdict in ("absent", "unreadable")][:2]
-        return "; ".join(filter(None, [*parts, self._missing_words()])) or "all %d agree" % len(self.judged)
+        wrong = list(filter(None, parts)) or [self._fine_words()]
+        return "; ".join([*wrong, *filter(None, [self._missing_words()])])
+
+    def _fine_words(self) -> str:
+        return "all %d agree" % len(self.judged) if len(self.judged) > 1 else "the one figure agrees"
 
     def _missing_words(self) -> str:
         left_out = [figure.name for figure in self.wanted if figure not in self.across]
@@ -199,7 +203,9 @@ def _lead(sheets: list[Sheet]) -> str:
     fine = sum(states[state] for state in ORDER if state not in LOOK)
     end = "; in %d of them the band cannot settle a figure" % states["fits"] if states["fits"] else ""
     beyond = " Figures were filed for %s without a sheet." % counted(nowhere, "name") if nowhere else ""
-    return "%s%d %s fine%s.%s" % (look + ". " if look else "", fine, "is" if fine == 1 else "are", end, beyond)
+    rest = "none is" if not fine else "%d %s" % (fine, "is" if fine == 1 else "are")
+    told = "%s. %s" % (look, rest) if look else rest
+    return "%s%s fine%s.%s" % (told[0].upper(), told[1:], end, beyond)
 
 
 EXAMPLE = Filed(283, 2, Unit.T)
@@ -216,7 +222,8 @@ def _legend(counts: Counter) -> list[dict]:
 
 
 def page_class(sheets: dict[str, Marked], filings: list[Filing], marks: list[Mark], served: bool = False,
-               pages: dict[str, str] | None = None, packed: dict[str, dict] | None = None, hints: bool = False, marks_csv: str = "") -> str:
+               pages: dict[str, str] | None = None, packed: dict[str, dict] | None = None, hints: bool = False,
+               marks_csv: str = "") -> str:
     """The marks of a class. `pages` has the page of a sheet by its file, `packed` what a served page sends for it."""
     counts = Counter(mark.verdict for mark in marks)
     filed = {filing.figure for filing in filings}
@@ -224,8 +231,9 @@ def page_class(sheets: dict[str, Marked], filings: list[Filing], marks: list[Mar
     found = _sheets(sheets, filings, marks, across)
     heads = [(GROUP_NAMES[group], [figure for figure in across if figure.row == group]) for group in GROUPS]
     return render(
-        "class.html", served, sheets=found, there=[sheet for sheet in found if sheet.there], look=[sheet for sheet in found if sheet.state in LOOK], lead=_lead(found),
+        "class.html", served, sheets=found, there=[sheet for sheet in found if sheet.there],
+        look=[sheet for sheet in found if sheet.state in LOOK], lead=_lead(found),
         counts=counts, legend=_legend(counts), across=across, heads=[head for head in heads if head[1]],
         with_total=Figure(TOTAL, "") in filed, with_rows=any(figure.row.isdigit() for figure in filed),
-        fine=FINE, pages=pages or {}, packed=packed or {}, hints=hints,
+        pages=pages or {}, packed=packed or {}, hints=hints,
         marks=b64encode(marks_csv.encode("utf-8", "replace")).decode())

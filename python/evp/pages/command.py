@@ -41,7 +41,8 @@ def add_parser(add_command: Callable, add):
     sheet.add_argument("--filed", metavar="FILE", help="csv: the figures of this sheet are shown with its bands")
     day = add_page("day", page_day, "shows the temperatures of a day, and a parking on them",
                    "evp page day north.evp --row 1 4 -o day.html", "SHEET")
-    day.add_argument("--row", type=int, nargs="+", metavar="N", help="one or two rows; else one without canister and one with")
+    day.add_argument("--row", type=int, nargs="+", metavar="N",
+                     help="one or two rows; else one without canister and one with")
     parking = add_page("parking", page_parking, "shows the parkings by end hour and duration, and what each lets go of",
                        "evp page parking survey.evp --season 2 --row 1 -o parking.html", "SHEET")
     parking.add_argument("--season", type=int, metavar="N", help="the warmest where none is given")

@@ -124,7 +124,8 @@ def page_day(library: Library, name: str, data: bytes, rows: list[int] | None = 
         seasons=[{"name": "season %d" % (i + 1), "words": season_words(s), "lowest": tenths(s["lowest"]),
                   "highest": tenths(s["highest"]), "vp": tenths(s["vp"]), "days": s["days"]}
                  for i, s in enumerate(seasons)],
-        rows=[{"number": i + 1, "who": row_name(row), "canister": canister_words(row)} for i, row in zip(rows, records)],
+        rows=[{"number": i + 1, "who": row_name(row), "canister": canister_words(row)}
+              for i, row in zip(rows, records)],
         told={"days": [[round(t, 3) for t in day] for day in days], "charts": drawn,
               "grams": [[[[_grams(band) for band in hour] for hour in season] for season in row] for row in factors]})
 

@@ -8,21 +8,23 @@ typed. Field N of record I has the id `season-I-N` or `row-I-N`, I from 0.
 import io
 import re
 import zipfile
+from collections.abc import Callable
 from typing import NamedTuple
 
 from evp import layout
 from evp.explain import explain
-from evp.files import InputError
+from evp.files import InputError, text_of
 from evp.layout import CANISTERS, CLASSES, MILEAGE, ROW_FIELDS, SEASON_FIELDS, Field
 from evp.library import MECHANISMS, Library
 from evp.masses import shown
 from evp.pages.refusals import minus_in
 from evp.pages.render import render
 from evp.pages.words import hours
-from evp.sheet import Builder, TextError, doubts, folder_of, take_text
-from evp.sheet.folders import WORDS
+from evp.sheet import Builder, TextError, doubts, folder_of, folders, take_text
+from evp.sheet.folders import WORDS, numbers, plain
 from evp.sheet.reader import record_words
 from evp.sheet.words import encode
+from evp.tables import read_table
 from evp.wording import counted, name_shown
 
 MOST_RECORDS = 1_200  # some more than a sheet may have, so that the library says so
@@ -235,8 +237,8 @@ def form_from(data: bytes, name: str) -> dict:
         except TextError as error:
             raise InputError("\n".join(error.messages[:3])) from None
     if len(data) < 8 or layout.version_of(data) not in (1, 2, 3, 4) or len(data) != layout.length_of(data):
-        raise InputError("%s: the form holds whole sheets of versions 1 to 4; the page of the sheet says what is wrong" % (
-            name_shown(name)))
+        raise InputError("%s: the form holds whole sheets of versions 1 to 4; the page of the sheet says what is "
+                         "wrong" % name_shown(name))
     grid = layout.has_grid(data)
     lists = [list(map(str, layout.counts(data, at))) for at in ((8, 56) if not grid else ())] or [[""] * 24] * 2
     cells = [list(map(str, layout.counts(data, 8 + 48 * t))) for t in range(24)] if grid else [[""] * 24] * 24
@@ -264,6 +266,53 @@ def _version_of(data: bytes) -> str:
     return "" if version == made else str(version)
 
 
+# ------------------------------------------------------------------ tables to a form
+
+
+def form_from_tables(files: dict[str, bytes]) -> dict:
+    """What tables of a sheet give of a form, by the names of their files: words as they stand, so that the form can
+    say what is wrong with one. InputError where a table is none."""
+    unknown = [name for name in files if name not in TABLES]
+    if unknown:
+        raise InputError("%s: the tables of a sheet are %s" % (name_shown(unknown[0]), ", ".join(TABLES)))
+    found: dict = {}
+    for name, data in files.items():
+        found.update(TABLES[name](text_of(data, name)))
+    return found
+
+
+def _records_of(key: str, name: str, columns: list[str], needed: list[str]) -> Callable[[str], dict]:
+    def read(text: str) -> dict:
+        lines = numbers(read_table(text, name, columns, needed))
+        return {key: [{column: line.cells.get(column, "") for column in columns} for line in lines]}
+    return read
+
+
+def _lists_of(text: str) -> dict:
+    found = {"parking": "lists", "durations": [""] * 24, "hours": [""] * 24}
+    for line in read_table(text, folders.PARKING, folders.PARKING_COLUMNS, folders.PARKING_COLUMNS).lines:
+        for name, (key, count, keys) in folders.LISTS.items():
+            if plain(line.cells.get(key, "")) in keys:
+                found[name][keys.index(plain(line.cells[key]))] = line.cells.get(count, "")
+    return found
+
+
+def _grid_of(text: str) -> dict:
+    grid = [[""] * 24 for _ in range(24)]
+    for line in read_table(text, folders.GRID, folders.GRID_COLUMNS, folders.GRID_COLUMNS, plain).lines:
+        hour = plain(line.cells.get("end_hour", ""))
+        if hour in folders.HOURS:
+            grid[int(hour) - 1] = [line.cells.get(duration, "") for duration in folders.DURATIONS]
+    return {"parking": "grid", "grid": grid}
+
+
+TABLES = {
+    folders.SEASONS: _records_of("seasons", folders.SEASONS, folders.SEASON_COLUMNS, NEEDED["season"]),
+    folders.FLEET: _records_of("rows", folders.FLEET, folders.ROW_COLUMNS, NEEDED["row"]),
+    folders.PARKING: _lists_of, folders.GRID: _grid_of,
+}
+
+
 def tables_of(data: bytes) -> bytes:
     """The csv files of a sheet, together."""
     out = io.BytesIO()
@@ -275,10 +324,13 @@ def tables_of(data: bytes) -> bytes:
 
 # ------------------------------------------------------------------ its page
 
-LABELS = {"saturation": "m_sat", "carburettor": "carb.", "hot": "ends hot", "vp": "vapour pressure", "fill": "fill level"}
-UNITS = {"days": "1 to 366", "lowest": "°C", "highest": "°C", "vp": "kPa", "carburettor": "% of vehicles", "hot": "% of trips",
-         "fill": "% of tank", "tank": "l", "vehicles": "number", "trips": "a day", "minutes": "a trip",
-         "load": "g", "saturation": "g", "mileage": "km; grid only", "class": "", "technology": "", "canister": ""}
+LABELS = {"saturation": "m_sat", "carburettor": "carb.", "hot": "ends hot", "vp": "vapour pressure",
+          "fill": "fill level"}
+UNITS = {
+    "days": "1 to 366", "lowest": "°C", "highest": "°C", "vp": "kPa", "class": "", "technology": "", "canister": "",
+    "carburettor": "% of vehicles", "hot": "% of trips", "fill": "% of tank", "tank": "l", "vehicles": "number",
+    "trips": "a day", "minutes": "a trip", "load": "g", "saturation": "g", "mileage": "km; grid only",
+}
 
 
 def label_of(field: Field) -> str:

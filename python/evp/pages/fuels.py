@@ -8,7 +8,7 @@ from evp.figures import GROUP_NAMES
 from evp.layout import canister_of
 from evp.library import GROUPS, MECHANISMS, Library
 from evp.pages.render import render
-from evp.pages.words import CLASS_NAMES, canister_words, minus, row_name, tenths
+from evp.pages.words import canister_words, minus, row_name, tenths
 from evp.show import Difference, differences
 from evp.wording import name_shown
 
@@ -111,6 +111,6 @@ def page_fuels(library: Library, names: tuple[str, str], sheets: tuple[bytes, by
     return render(
         "fuels.html", served, names=[name_shown(name) for name in names], fuel=fuel, rows=rows, groups=_groups(found),
         total=total, seasons=_seasons(*sheets), counts=Counter(d.verdict for d in found), many=len(found), words=WORDS,
-        left_out=len(a.rows) - len(rows) if rows else 0, row_counts=(len(a.rows), len(b.rows)), reports=(a, b),
+        left_out=len(a.rows) - len(rows) if rows else 0, row_counts=(len(a.rows), len(b.rows)),
         most=max(1, *(band.high for report in (a, b) for group in GROUPS for band in getattr(report, group))),
-        mechanisms=MECHANISMS, class_names=CLASS_NAMES)
+        mechanisms=MECHANISMS)

@@ -1,8 +1,8 @@
 """What a filed figure stands for, drawn with the band on it.
 
-The band stands in the middle, as an upright line or, where it is wide, a box. The bar is what the figure stands for: half
-a step to each side, where it lies. One unit is the larger of the figure's step and the band's width; what lies beyond
-the edge is an arrow.
+The band stands in the middle, as an upright line or, where it is wide, a box. The bar is what the figure stands for:
+half a step to each side, where it lies. One unit is the larger of the figure's step and the band's width; what lies
+beyond the edge is an arrow.
 """
 
 from fractions import Fraction

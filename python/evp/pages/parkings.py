@@ -68,7 +68,8 @@ def page_parking(library: Library, name: str, data: bytes, season: int | None = 
     if season is None:
         season = max(range(len(seasons)), key=lambda i: seasons[i]["highest"])
     counts = counts_of(data)
-    factors = [[library.factor(with_cell(data, t, d), season, row, DIURNAL) for d in range(1, 25)] for t in range(1, 25)]
+    factors = [[library.factor(with_cell(data, t, d), season, row, DIURNAL) for d in range(1, 25)]
+               for t in range(1, 25)]
     so_far, alone = (_means(library, data, season, row, first) for first in (lambda t: 1, lambda t: t))
     by_hour, most = [sum(line) for line in counts], max(band.high for line in factors for band in line)
     filled = [Filled(sum(by_hour[:t]), so_far[t - 1]) for t in range(1, 25)]

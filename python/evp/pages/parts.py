@@ -1,5 +1,5 @@
-"""Sheets that hold a part of another: some rows, one season, some parkings. Of an accepted sheet all are accepted, so that
-the library gives the part of a mass; nothing is added up here."""
+"""Sheets that hold a part of another: some rows, one season, some parkings. Of an accepted sheet all are accepted, so
+that the library gives the part of a mass; nothing is added up here."""
 
 from collections.abc import Sequence
 from math import exp
@@ -67,7 +67,7 @@ def _with_grid(data: bytes, grid: bytes) -> bytes:
 
 
 def _weight(mark: int) -> float:
-    """How far the temperature of a mark lies from the lowest to the highest: nearest billionth, as document 01 has it."""
+    """How far the temperature of a mark lies from the lowest to the highest: a whole number of billionths."""
     away = abs(mark / 2 - 14)
     return round(1e9 * exp(-0.0247 * min(away, 24 - away) ** 2)) / 1e9
 

@@ -45,7 +45,7 @@ NAMES = re.compile(r"[^A-Za-z0-9._-]+")
 def _limit():
     """Turns a long request away before it is read."""
     if request.method == "POST":
-        most = MOST_CLASS if request.path.rstrip("/").endswith("/class") else MOST_BODY
+        most = MOST_CLASS if request.path in ("/class", "/open") else MOST_BODY
         if request.content_length is None and "Transfer-Encoding" in request.headers:
             abort(411)
         if (request.content_length or 0) > most:
@@ -99,12 +99,13 @@ def _pack(name: str, data: bytes, filed: str = "") -> dict[str, str]:
     return {**packed, "filed": filed} if filed else packed
 
 
-def _sheet(given: Given, field: str = "files") -> tuple[str, bytes]:
-    """The first sheet among the files."""
+def _sheet(given: dict, field: str = "files") -> tuple[str, bytes]:
+    """The first sheet among the files, of a long one no more than tells that it is too long."""
     sheets = [file for file in given.get(field, ()) if not file[0].lower().endswith(".csv")]
     if not sheets:
         raise InputError("choose a sheet first, a file whose name ends with .evp")
-    return sheets[0][0], sheets[0][1][:SHEET_BYTES + 1]
+    name, data = sheets[0]
+    return name, data[:SHEET_BYTES + 1] if data[:3] == b"EVP" else data
 
 
 def _number(name: str, many: int) -> int | None:
@@ -115,7 +116,7 @@ def _number(name: str, many: int) -> int | None:
 
 def page(what: str) -> Callable:
     """A page that asks for files where it is fetched and shows them where they are sent."""
-    def route(show: Callable[[Given], str]) -> Callable:
+    def route(show: Callable[[Given], str]) -> Callable[[Given], str]:
         @wraps(show)
         def answer():
             if request.method == "GET":
@@ -124,7 +125,8 @@ def page(what: str) -> Callable:
                 return show(_given())
             except InputError as error:
                 return page_ask(what, str(error)), 400
-        return blueprint.route("/" + what, methods=["GET", "POST"])(answer)
+        blueprint.add_url_rule("/" + what, view_func=answer, methods=["GET", "POST"])
+        return show
     return route
 
 
@@ -145,6 +147,18 @@ def accepted(show: Callable[[str, bytes], str]) -> Callable[[Given], str]:
 @blueprint.get("/")
 def home():
     return page_home()
+
+
+@blueprint.post("/open")
+def open_files():
+    """What was dropped on the first page: a class where there are several sheets, else a sheet."""
+    try:
+        given = _given()
+        files = [file for found in given.values() for file in found]
+        sheets = [name for name, _ in files if not name.lower().endswith(".csv")]
+        return show_class(given) if len(sheets) > 1 else show_sheet(given)
+    except InputError as error:
+        return page_home(str(error)), 400
 
 
 @page("class")
@@ -188,6 +202,10 @@ def _filed_for(name: str, table: marking.FiledTable) -> str:
 
 @page("sheet")
 def show_sheet(given: Given) -> str:
+    sheets = [name for name, _ in given.get("files", ()) if not name.lower().endswith(".csv")]
+    if len(sheets) > 1:
+        raise InputError("%s, and one is shown here; Class takes several together with filed.csv" % (
+            counted(len(sheets), "sheet")))
     name, data = _sheet(given)
     tables = [file for file in given.get("files", ()) if file[0].lower().endswith(".csv")]
     text = text_of(tables[0][1], tables[0][0]) if tables else request.form.get("filed", "")
@@ -291,12 +309,14 @@ def check_form():
 
 @blueprint.post("/form/read")
 def read_form():
-    """The form of a sheet that was dropped."""
-    data = request.get_data()
+    """The form of a sheet that was dropped, or what its tables give of one."""
     try:
-        name = _name(request.args.get("name", ""))
-        return jsonify({"form": forms.form_from(data[:SHEET_BYTES + 1] if data[:3] == b"EVP" else data, name),
-                        "name": PurePosixPath(name).stem})
+        files = _given().get("files", [])
+        tables = {name: data for name, data in files if name.lower().endswith(".csv")}
+        if tables:
+            return jsonify({"form": forms.form_from_tables(tables)})
+        name, data = _sheet({"files": files})
+        return jsonify({"form": forms.form_from(data, name), "name": PurePosixPath(name).stem})
     except InputError as error:
         return jsonify({"message": str(error)}), 400
 

@@ -14,7 +14,7 @@ from evp.pages.classes import Judged
 from evp.pages.parts import one_vehicle, only_rows, only_season
 from evp.pages.refusals import page_refused
 from evp.pages.render import render
-from evp.pages.words import CLASS_NAMES, canister_words, row_more, row_name, season_words
+from evp.pages.words import CLASS_NAMES, canister_words, parking_words, row_more, row_name, season_words
 from evp.wording import name_shown
 
 MOST_ROWS = 200  # that the fleet is told in words for
@@ -86,6 +86,7 @@ def page_sheet(library: Library, name: str, data: bytes, filings: Iterable[Filin
     vehicles = sum(part.vehicles for part in classes)
     return render(
         "sheet.html", served, name=name_shown(name), size=len(data), version=layout.version_of(data), report=report,
+        parking=parking_words(data),
         total=report.total, unit=unit, canisters=canisters, classes=classes, seasons=seasons, fleet=fleet,
         row_count=layout.row_count(data), vehicles=vehicles, groups=[(GROUP_NAMES[n], m) for n, m in groups(report)],
         judged=_judged(library, data, report, filings), packed=packed,

@@ -34,7 +34,7 @@ def page_cells(library: Library, name: str, data: bytes, travels: list[Travel], 
     told = [_cells_line(data, travels, i, row) for i, row in enumerate(rows[:MOST_ROWS])]
     most = max((cell.high for row in rows for cell in row.cells), default=1) or 1
     return render("cells.html", served, name=name_shown(name), rows=told, left_out=len(rows) - len(told), most=most,
-                  sums=sums.cells, kinds=Kind, total=report.total, packed=packed, mass=_cell_mass, band=_cell_band)
+                  sums=sums.cells, total=report.total, packed=packed, mass=_cell_mass, band=_cell_band)
 
 
 def _cells_line(data: bytes, travels: list[Travel], i: int, row: RowOfCells) -> dict:
@@ -59,12 +59,12 @@ def page_pool(library: Library, names: tuple[str, str], sheets: tuple[bytes, byt
     rows = [layout.row_count(data) for data in (*sheets, pooled)]
     lines = [(GROUP_NAMES[group], mechanism, [_mass_of(report, group, m) for report in reports])
              for group, masses in groups(reports[2]) for m, mechanism in enumerate(masses._fields)]
+    records = [layout.row(pooled, i) for i in range(rows[2])]
     fleet = [{"number": i + 1, "from": names[i >= rows[0]], "who": row_name(row), "canister": canister_words(row),
-              "vehicles": row["vehicles"]} for i, row in enumerate(map(lambda i: layout.row(pooled, i), range(rows[2])))]
+              "vehicles": row["vehicles"]} for i, row in enumerate(records)]
     return render("pool.html", served, names=[name_shown(name) for name in names], rows=rows, lines=lines,
                   totals=[report.total for report in reports], most=max(1, *(r.total.high for r in reports)),
-                  fleet=fleet[:MOST_ROWS], left_out=max(0, len(fleet) - MOST_ROWS), packed=packed, size=len(pooled),
-                  sheet_size=[len(data) for data in sheets])
+                  fleet=fleet[:MOST_ROWS], left_out=max(0, len(fleet) - MOST_ROWS), packed=packed, size=len(pooled))
 
 
 def _mass_of(report: Report, group: str, mechanism: int) -> Band:

@@ -86,6 +86,16 @@ def season_words(season: dict[str, int]) -> str:
         season["days"], tenths(season["lowest"]), tenths(season["highest"]), tenths(season["vp"]))
 
 
+def parking_words(data: bytes) -> str:
+    """How the parkings of a sheet are counted."""
+    if not layout.has_grid(data):
+        durations, ends = sum(layout.counts(data, 8)), sum(layout.counts(data, 56))
+        return "parking in two lists, %s durations and %s end hours" % (apart(durations), apart(ends))
+    by_hour = [sum(layout.counts(data, 8 + 48 * t)) for t in range(24)]
+    return "a grid of %s parkings, of which most end at hour %d" % (
+        apart(sum(by_hour)), by_hour.index(max(by_hour)) + 1)
+
+
 def canister_words(row: dict[str, int]) -> str:
     """The canister of a row, and what it holds when a parking starts."""
     name = canister_name(row)

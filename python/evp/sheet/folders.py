@@ -32,10 +32,10 @@ def take_folder(folder: str | Path) -> Builder:
     """What the tables of a folder give."""
     folder, builder = Path(folder), Builder()
     _take_parking(builder, folder)
-    for number, cells in _numbers(_table(folder, SEASONS, SEASON_COLUMNS, SEASON_COLUMNS)):
+    for number, cells in numbers(_table(folder, SEASONS, SEASON_COLUMNS, SEASON_COLUMNS)):
         with builder.at(_where(folder, SEASONS, number)):
             builder.add_season(cells)
-    for number, cells in _numbers(_table(folder, FLEET, ROW_COLUMNS, ("class", "technology"))):
+    for number, cells in numbers(_table(folder, FLEET, ROW_COLUMNS, ("class", "technology"))):
         with builder.at(_where(folder, FLEET, number)):
             builder.add_row(cells)
     return builder
@@ -53,7 +53,7 @@ def _table(folder: Path, name: str, columns: list[str], needed: Iterable[str],
     return read_table(read_text(folder / name), name_shown(folder / name), columns, needed, rename)
 
 
-def _numbers(table: Table) -> Iterable[Line]:
+def numbers(table: Table) -> Iterable[Line]:
     """The lines with a point as the decimal sign. With ; a point is taken too: no field has three places, so that it
     cannot be one between thousands."""
     if table.separator == ",":
@@ -76,7 +76,7 @@ def _take_parking(builder: Builder, folder: Path):
 
 
 def _take_grid(builder: Builder, folder: Path):
-    for line in _table(folder, GRID, GRID_COLUMNS, GRID_COLUMNS, _plain).lines:
+    for line in _table(folder, GRID, GRID_COLUMNS, GRID_COLUMNS, plain).lines:
         with builder.at(_where(folder, GRID, line.number)):
             hour = _key(line.cells.get("end_hour", ""), HOURS, "end_hour")
             name = "grid %s" % hour
@@ -85,16 +85,16 @@ def _take_grid(builder: Builder, folder: Path):
             builder.add_counts(name, tuple(line.cells.get(duration, "0") for duration in DURATIONS))
 
 
-def _plain(word: str) -> str:
+def plain(word: str) -> str:
     """A duration or an end hour as it is written here: 1,0 or 1.0 is 1."""
     return re.sub(r"\.0$", "", _with_point(word))
 
 
 def _key(word: str, keys: list[str], column: str) -> str:
     """A duration or an end hour, one of the keys."""
-    if _plain(word) not in keys:
+    if plain(word) not in keys:
         raise TextError("%s: %s is not %s to %s" % (column, quoted(word), keys[0], keys[-1]))
-    return _plain(word)
+    return plain(word)
 
 
 def _take_lists(builder: Builder, folder: Path):
@@ -112,8 +112,9 @@ def _take_lists(builder: Builder, folder: Path):
         with builder.at(name_shown(folder / PARKING)):
             missing = [key for key in keys if key not in found]
             if missing:
-                raise TextError("%s: all of %s to %s are wanted; %s is missing" % (
-                    key_column, keys[0], keys[-1], ", ".join(missing)))
+                more = " and %d more" % (len(missing) - 3) if len(missing) > 3 else ""
+                raise TextError("%s: all of %s to %s are wanted; %s%s %s missing" % (
+                    key_column, keys[0], keys[-1], ", ".join(missing[:3]), more, "is" if len(missing) == 1 else "are"))
             builder.add_counts(name, tuple(found[key] for key in keys))
 
 

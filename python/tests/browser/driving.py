@@ -2,8 +2,8 @@
 
     /usr/bin/python3 -m unittest discover -s python/tests/browser
 
-needs Debian's chromium, chromium-driver, python3-selenium, python3-flask and python3-waitress (.ci/install). Pictures go
-to target/browser, and to docs/pictures where EVP_PICTURES is set.
+needs Debian's chromium, chromium-driver, python3-selenium, python3-flask and python3-waitress (.ci/install). Pictures
+go to target/browser; those of the README to docs/pictures too where EVP_PICTURES is set.
 """
 
 import atexit
@@ -24,6 +24,7 @@ TOP = Path(__file__).resolve().parents[3]
 for _folder in (TOP, TOP / "python"):
     if str(_folder) not in sys.path:
         sys.path.insert(0, str(_folder))
+sys.path.append(str(TOP / "python" / "tests"))  # behind this folder, whose tests may have the same names
 
 import flask  # noqa: E402
 import waitress  # noqa: E402
@@ -36,7 +37,9 @@ from evp.desk.app import create_app  # noqa: E402
 from evp.desk.security import hosts_of  # noqa: E402
 
 SAMPLES = TOP / "samples"
-PICTURES = TOP / "docs" / "pictures" if os.environ.get("EVP_PICTURES") else TOP / "target" / "browser"
+PICTURES = TOP / "target" / "browser"
+README_PICTURES = TOP / "docs" / "pictures"
+OF_README = ("class", "parking")
 MOST_PICTURE = 200_000  # bytes
 WAIT = 10  # seconds at most for an answer
 PROGRAMS = ("chromium", "chromium-browser", "google-chrome")
@@ -50,7 +53,7 @@ def free_port() -> int:
 
 def serve(app: flask.Flask, port: int) -> str:
     """Serves an application on this machine until the tests end; its address."""
-    server = waitress.create_server(app, host="127.0.0.1", port=port, threads=4)
+    server = waitress.create_server(app, host="127.0.0.1", port=port, threads=4, clear_untrusted_proxy_headers=True)
     threading.Thread(target=server.run, daemon=True).start()
     return "http://127.0.0.1:%d" % port
 
@@ -144,10 +147,12 @@ class BrowserTestCase(unittest.TestCase):
 
     def picture(self, name: str):
         """A picture of the window, small enough for a README."""
-        PICTURES.mkdir(parents=True, exist_ok=True)
         shot = base64.b64decode(self.browser.execute_cdp_cmd("Page.captureScreenshot", {"format": "png"})["data"])
         self.assertLess(len(shot), MOST_PICTURE)
-        (PICTURES / (name + ".png")).write_bytes(shot)
+        of_readme = name in OF_README and os.environ.get("EVP_PICTURES")
+        for folder in (PICTURES, README_PICTURES) if of_readme else (PICTURES,):
+            folder.mkdir(parents=True, exist_ok=True)
+            (folder / (name + ".png")).write_bytes(shot)
 
     # ------------------------------------------------------------------ doing
 
@@ -160,7 +165,9 @@ class BrowserTestCase(unittest.TestCase):
         """What has the focus, in short."""
         return self.run_script("""
             var e = document.activeElement;
-            return e === document.body ? "" : (e.id ? "#" + e.id : (e.textContent || e.value || e.type).trim().slice(0, 60));""")
+            if (e === document.body) return "";
+            if (e.id) return "#" + e.id;
+            return (e.textContent || e.value || e.type).trim().replace(/\\s+/g, " ").slice(0, 60);""")
 
     def tab_to(self, wanted: str, most: int = 120):
         """Presses the tabulator until something has the focus, and sees that it can be seen."""
@@ -181,8 +188,10 @@ class BrowserTestCase(unittest.TestCase):
               var bytes = Uint8Array.from(atob(file.data), function (sign) { return sign.charCodeAt(0); });
               held.items.add(new File([bytes], file.name));
             });
-            document.body.dispatchEvent(new DragEvent("dragover", {dataTransfer: held, bubbles: true, cancelable: true}));
-            document.body.dispatchEvent(new DragEvent("drop", {dataTransfer: held, bubbles: true, cancelable: true}));""",
+            ["dragover", "drop"].forEach(function (name) {
+              var event = new DragEvent(name, {dataTransfer: held, bubbles: true, cancelable: true});
+              document.body.dispatchEvent(event);
+            });""",
             json.dumps(files))
 
     def downloaded(self, name: str) -> bytes:

@@ -1,10 +1,8 @@
 """The desk in a real browser: a class marked, a refusal mended, a grid filled, all of it by keyboard once."""
 
-import json
-import unittest
 from pathlib import Path
 
-from driving import PICTURES, SAMPLES, BrowserTestCase, Keys, desk
+from driving import SAMPLES, BrowserTestCase, Keys
 
 from evp import layout, library
 from evp.pages.asks import ASKS
@@ -46,8 +44,15 @@ class TestClass(BrowserTestCase):
         self.assertEqual(field.get_attribute("aria-invalid"), "true")
         fault = self.text("#" + field.get_attribute("aria-describedby"))
         self.assertIn("31.00 a day is above 12.00 a day; write at most 12.00", fault)
+        self.look(360, 740)
+        edge = self.run_script("return document.querySelector('.fault-text').getBoundingClientRect().right")
+        self.assertLessEqual(edge, 360)
+        self.look(1280, 500)
         self.one("#to-fault").click()
         self.assertEqual(self.focused(), "#row-2-trips")
+        bar, top = (self.run_script("return document.querySelector(arguments[0]).getBoundingClientRect()[arguments[1]]",
+                                    *where) for where in (("#state", "bottom"), ("#row-2-trips", "top")))
+        self.assertLess(bar, top)  # the bar on top does not hide the field
         field.clear()
         field.send_keys("5.10")
         self.wait(lambda: self.one("#told").get_attribute("data-state") == "accepted", "the mended sheet is accepted")
@@ -90,6 +95,17 @@ class TestForm(BrowserTestCase):
         self.assertEqual(self.text("#grid-sum"), "21,108")
         self.one("#save").click()
         self.assertEqual(self.downloaded("survey.evp"), (SAMPLES / "survey.evp").read_bytes())
+
+    def test_dropped_tables_fill_the_form_with_their_mistakes(self):
+        self.open("/form")
+        self.drop(list((SAMPLES / "afternoon").glob("*.csv")))
+        self.wait(lambda: self.text("#durations-sum") == "982" and self.state() == "unread", "the tables")
+        self.assertIn("Row 1: trips: '4,80' is no number", self.text("#told"))
+        field = self.one("#row-0-trips")
+        field.clear()
+        field.send_keys("4.80")
+        self.wait(lambda: self.state() == "refused", "the next mistake")
+        self.assertIn("Row 2: load 70.0 g is above m_sat 60.0 g; write at most 60.0", self.text("#told"))
 
     def test_the_guidebooks_tables_by_one_click(self):
         self.open("/form")
@@ -185,6 +201,10 @@ class TestLooks(BrowserTestCase):
 
     def shown(self):
         """Every page, one after another."""
+        self.open("/")
+        self.drop([COURSE / "heath.evp"])
+        self.wait(lambda: self.text("h1").startswith("heath"), "a refused sheet")
+        yield "refused"
         for name in ("", "form", *ASKS):
             self.open("/" + name)
             yield "/" + name
@@ -193,10 +213,6 @@ class TestLooks(BrowserTestCase):
             self.one("form:not(.drop) button").click()
             self.wait(lambda: not self.all("form.drop"), "the example of " + name)
             yield name
-        self.open("/sheet")
-        self.drop([COURSE / "heath.evp"])
-        self.wait(lambda: self.text("h1").startswith("heath"), "a refused sheet")
-        yield "refused"
 
     def test_nothing_is_cut_off_and_all_can_be_read(self):
         seen = 0
@@ -223,7 +239,8 @@ class TestLooks(BrowserTestCase):
             self.wait(lambda: not self.all("form.drop"), "the example of " + name)
             self.look(1000, 900, "dark", "print")
             self.assertEqual(self.visible("button, nav, .filter, input"), 0)
-            self.assertEqual(self.run_script("return getComputedStyle(document.body).backgroundColor"), "rgb(255, 255, 255)")
+            paper = self.run_script("return getComputedStyle(document.body).backgroundColor")
+            self.assertEqual(paper, "rgb(255, 255, 255)")
             paper = self.browser.execute_cdp_cmd("Page.printToPDF", {"printBackground": False})
             self.assertGreater(len(paper["data"]), 10_000)
             self.look(1280, 900)
@@ -244,8 +261,3 @@ class TestWithoutScript(BrowserTestCase):
         self.wait(lambda: "14 of 30" in self.text("h1"), "the class")
         self.one("tr.p th a").click()
         self.assertTrue(self.one("tr.more").is_displayed())
-
-
-if __name__ == "__main__":
-    print(json.dumps({"desk": desk(), "pictures": str(PICTURES)}))
-    unittest.main()

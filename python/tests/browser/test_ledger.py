@@ -1,12 +1,15 @@
 """The course's ledger in a real browser: an arrival by a participant is seen by the marker and not by another."""
 
+import sys
 import tempfile
 import unittest
 from pathlib import Path
 
-from driving import SAMPLES, BrowserTestCase, Keys
+from driving import SAMPLES, TOP, BrowserTestCase, Keys
 
-from desk_support import HOST, Desk
+sys.path.append(str(TOP / "python" / "tests"))  # behind this folder, which has a test_desk too
+
+from desk_support import HOST, Desk  # noqa: E402
 
 CONTRAST = (Path(__file__).parent / "contrast.js").read_text(encoding="utf-8")
 SIZES = ((360, 740), (1024, 768), (1440, 900))

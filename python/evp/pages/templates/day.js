@@ -25,7 +25,8 @@
     }
     svg.querySelectorAll(".st").forEach(function (path, i) {
       path.setAttribute("class", "st " + (s.steps[i] || ""));
-      path.setAttribute("d", "M" + x[i] + " " + base + "V" + y[i] + "L" + x[i + 1] + " " + y[(i + 1) % 48] + "V" + base + "Z");
+      var next = x[i + 1] + " " + y[(i + 1) % 48];
+      path.setAttribute("d", "M" + x[i] + " " + base + "V" + y[i] + "L" + next + "V" + base + "Z");
     });
     svg.querySelectorAll(".curve").forEach(function (path, i) { path.classList.toggle("on", i === s.season); });
     svg.querySelectorAll(".lb").forEach(function (text, i) { text.classList.toggle("on", i === s.season); });
@@ -35,8 +36,8 @@
       .textContent = some ? "+" + s.rise.toFixed(1) + " °C" : "";
     set(".park", { d: over ? "M" + x[s.start] + " " + foot + "H" + x[48] + "M" + x[0] + " " + foot + "H" + x[end]
       : "M" + x[s.start] + " " + foot + "H" + x[end] });
-    var middle = !over ? (x[s.start] + x[end]) / 2 : 48 - s.start > end ? (x[s.start] + x[48]) / 2 : (x[0] + x[end]) / 2;
-    var room = over ? 75 : 34;
+    var before = 48 - s.start > end, room = over ? 75 : 34;
+    var middle = (!over ? x[s.start] + x[end] : before ? x[s.start] + x[48] : x[0] + x[end]) / 2;
     set(".parked", { x: Math.min(Math.max(middle, x[0] + room), x[48] - room + 20) })
       .textContent = "parked " + s.lasts / 2 + " h" + (over ? ", over midnight" : "");
     set(".p1", { cx: x[s.start], cy: y[s.start] });
@@ -44,19 +45,21 @@
   }
   function tell(s) {
     var rows = data.grams.map(function (_, row) { return grams(row, s.season, s.end, s.lasts); });
-    var labels = Array.prototype.map.call(document.querySelectorAll("thead th.num"), function (th) { return th.textContent; })
-      .slice(-rows.length);
+    var heads = Array.from(document.querySelectorAll("thead th.num")).slice(-rows.length);
     var told = get("tell");
-    told.replaceChildren("Parked from ", bold(clock(s.start)), " to ", bold(clock(2 * s.end)), " in season " + (s.season + 1) + ": ",
-      bold(s.up.length + " of " + s.lasts), " half-hours rise");
+    told.replaceChildren("Parked from ", bold(clock(s.start)), " to ", bold(clock(2 * s.end)),
+      " in season " + (s.season + 1) + ": ", bold(s.up.length + " of " + s.lasts), " half-hours rise");
     if (s.up.length) told.append(", by ", bold(s.rise.toFixed(1) + " °C"), " in all");
     told.append(". One such parking lets go of ");
     rows.forEach(function (mass, i) {
-      told.append(i ? ", " : "", bold(mass + " g"), " from " + labels[i].replace("Row", "row").replace(", g", ""));
+      var row = heads[i].textContent.replace("Row", "row").replace(", g", "");
+      told.append(i ? ", " : "", bold(mass + " g"), " from " + row);
     });
     told.append(".");
     document.querySelectorAll("#factors tr").forEach(function (line, season) {
-      line.querySelectorAll(".factor").forEach(function (cell, row) { cell.textContent = grams(row, season, s.end, s.lasts); });
+      line.querySelectorAll(".factor").forEach(function (cell, row) {
+        cell.textContent = grams(row, season, s.end, s.lasts);
+      });
     });
     get("end-told").textContent = s.end + ":00";
     get("lasts-told").textContent = s.lasts / 2 + " h";

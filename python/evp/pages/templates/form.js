@@ -19,7 +19,8 @@
     function words(prefix) { return range(24).map(function (i) { return get(prefix + "-" + i).value; }); }
     return {
       seasons: lines("season"), parking: kind(), durations: words("durations"), hours: words("hours"),
-      grid: range(24).map(function (t) { return words("grid-" + t); }), rows: lines("row"), version: form.dataset.version || ""
+      grid: range(24).map(function (t) { return words("grid-" + t); }), rows: lines("row"),
+      version: form.dataset.version || ""
     };
   }
 
@@ -79,7 +80,9 @@
   function showSums() {
     get("lists").hidden = kind() !== "lists";
     get("grid").hidden = kind() !== "grid";
-    ["durations", "hours"].forEach(function (name) { get(name + "-sum").textContent = apart(sum(all("input", get(name)))); });
+    ["durations", "hours"].forEach(function (name) {
+      get(name + "-sum").textContent = apart(sum(all("input", get(name))));
+    });
     range(24).forEach(function (t) {
       var fields = range(24).map(function (d) { return get("grid-" + t + "-" + d); });
       fields.forEach(function (field) { field.classList.toggle("some", /[1-9]/.test(field.value)); });
@@ -127,7 +130,8 @@
       link.id = "to-fault";
       link.textContent = "Go to the field";
       link.addEventListener("click", function (event) { event.preventDefault(); get(first.id).focus(); });
-      told.append(" ", first.where ? first.where[0].toUpperCase() + first.where.slice(1) + ": " : "", first.text, ". ", link);
+      var where = first.where ? first.where[0].toUpperCase() + first.where.slice(1) + ": " : "";
+      told.append(" ", where, first.text, ". ", link);
     }
     told.dataset.state = answer.state;
     told.dataset.serial = answer.serial || serial;
@@ -141,7 +145,10 @@
   }
 
   // asking the server
-  function failed() { told.textContent = "The desk does not answer. Is it still running?"; told.dataset.state = "unanswered"; }
+  function failed() {
+    told.textContent = "The desk does not answer. Is it still running?";
+    told.dataset.state = "unanswered";
+  }
   function check() {
     var asked = ++serial;
     fetch("form/check?serial=" + asked, { method: "POST", body: JSON.stringify(collect()) })
@@ -153,23 +160,27 @@
     clearTimeout(timer);
     timer = setTimeout(check, now === true ? 0 : 250);
   }
-  function open(file) {
-    file.arrayBuffer().then(function (bytes) {
-      return fetch("form/read?name=" + encodeURIComponent(file.name), { method: "POST", body: bytes });
-    }).then(function (answer) { return answer.json(); }).then(function (answer) {
+  function open(files) {
+    var sent = new FormData();
+    Array.from(files).forEach(function (file) { sent.append("files", file); });
+    fetch("form/read", { method: "POST", body: sent }).then(function (answer) {
+      return answer.json();
+    }).then(function (answer) {
       if (answer.message) {
         told.textContent = answer.message;
         told.dataset.state = "unread";
         get("state").className = "state no";
         return;
       }
-      get("name").value = answer.name;
-      fill(answer.form);
+      get("name").value = answer.name || get("name").value;
+      fill(Object.assign(collect(), answer.form));
     }).catch(failed);
   }
 
   // what people do
-  form.addEventListener("input", function (event) { if (event.target.type !== "file" && event.target.id !== "name") changed(); });
+  form.addEventListener("input", function (event) {
+    if (event.target.type !== "file" && event.target.id !== "name") changed();
+  });
   form.addEventListener("submit", function () { get("collected").value = JSON.stringify(collect()); });
   form.addEventListener("click", function (event) {
     var line = event.target.closest("tr.record");
@@ -209,11 +220,13 @@
     });
     changed(true);
   });
-  get("sheet-file").addEventListener("change", function (event) { if (event.target.files[0]) open(event.target.files[0]); });
+  get("sheet-file").addEventListener("change", function (event) {
+    if (event.target.files[0]) open(event.target.files);
+  });
   document.addEventListener("dragover", function (event) { event.preventDefault(); });
   document.addEventListener("drop", function (event) {
     event.preventDefault();
-    if (event.dataTransfer.files[0]) open(event.dataTransfer.files[0]);
+    if (event.dataTransfer.files[0]) open(event.dataTransfer.files);
   });
 
   // the grid by keys, and blocks of a spreadsheet
@@ -229,10 +242,12 @@
     if (event.key === "Enter" && event.target.matches("input[type=text]")) event.preventDefault();
   });
   form.addEventListener("paste", function (event) {
-    var text = event.clipboardData.getData("text"), at = /^(durations|hours|grid)-(\d+)(?:-(\d+))?$/.exec(event.target.id);
+    var text = event.clipboardData.getData("text");
+    var at = /^(durations|hours|grid)-(\d+)(?:-(\d+))?$/.exec(event.target.id);
     if (!at || !/[\t\n]/.test(text.trim())) return;
     event.preventDefault();
-    var lines = text.replace(/\r/g, "").replace(/\n+$/, "").split("\n").map(function (line) { return line.split("\t"); });
+    var lines = text.replace(/\r/g, "").replace(/\n+$/, "").split("\n");
+    lines = lines.map(function (line) { return line.split("\t"); });
     if (at[1] === "grid") {
       lines.forEach(function (line, i) {
         line.forEach(function (word, j) { var to = cell(+at[2] + i, +at[3] + j); if (to) to.value = word.trim(); });
