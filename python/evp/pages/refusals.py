@@ -174,7 +174,8 @@ def page_refused(library: Library, name: str, data: bytes, found: Explanation, s
     if len(data) >= 8 and data[:3] == b"EVP":
         about = "Version %d, %s, by its head %d seasons and %s rows" % (
             layout.version_of(data), about, layout.season_count(data), apart(layout.row_count(data)))
-    record = _record(data, found) if found.record in ("row", "season", "head") and len(data) >= 8 else []
+    has_record = found.record in ("row", "season", "head") and len(data) >= 8 and data[:3] == b"EVP"
+    record = _record(data, found) if has_record else []
     return render(
         "refused.html", served, name=name_shown(name), found=found, about=about,
         sentence=minus_in(BYTES.sub("", words.sentence)), advice=minus_in(words.advice),
