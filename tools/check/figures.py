@@ -32,7 +32,7 @@ PRINTED = {
         "powers up to 65 degrees: {temperatures} enclosed * largest error {error_power} of {bound_power}",
     ),
     "vectors_species": ("totals: {totals} split as given *",),
-    "vectors_sheet": ("sheets {sheets} agree *",),
+    "vectors_sheet": ("sheets {sheets} checked as given * explained as given *",),
     "vectors_factor": (
         "factors: {factors} enclosed * widest band {factor_band} ug farthest from its middle {middle_ng} ng",
         "rows with a mileage: {driven_factors} enclosed * widest band {driven_band} ug * middle {driven_middle_ng} ng",
@@ -55,7 +55,6 @@ PRINTED = {
                        "pairs told the same {shared_pairs} right *"),
     "vectors_pool": ("refused pairs {refused_pools} right *", "pooled sheets {accepted_pools} right *"),
     "vectors_marks": ("figures {filed_figures} as given *",),
-    "vectors_findings": ("sheets {explained_sheets} explained as given *",),
 }
 
 CLAIMS = (
@@ -75,7 +74,7 @@ CLAIMS = (
     "{shared_calls} calls on {shared_ledgers} shared ledgers", "{shared_pairs} pairs of ledgers",
     "{pools} pairs of sheets, {refused_pools} of them refused",
     "{pressure_pairs} pairs of sheets",
-    "{filed_figures} filed figures", "what is wrong on each of the {explained_sheets} sheets",
+    "{filed_figures} filed figures",
     # the gate
     "{tests} tests: {crates} crates proved", "and {edits} must-fail edits refused",
     # the longest sheet, its report and its text

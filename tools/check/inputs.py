@@ -4,6 +4,8 @@ from collections import Counter
 
 from tools.command import TOP
 
+FINDING = 23  # the bytes of a finding in the input of vectors_sheet
+
 
 class Bytes:
     """The bytes of a file, read from the start on."""
@@ -41,9 +43,8 @@ def sheets_by_version() -> Counter[int]:
     found, data = Counter(), stdin_of("vectors_sheet")
     here = bytearray(2 ** 16)
     for _ in range(data.number(4)):
-        size, start = data.numbers(2, 2)
-        data.number(1)
-        _, length = data.numbers(2, 2)
+        size, start, length = data.numbers(2, 3)
+        data.take(FINDING)
         here[start:start + size] = data.take(size)
         found[version_in(here[:length])] += 1
     return found

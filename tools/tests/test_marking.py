@@ -10,8 +10,8 @@ from tools.reckoning.marking import AGREES, FITS, HIGH, LOW, UNREADABLE, interva
 from tools.reckoning.quantities import canister_a_b
 from tools.reckoning.tables import CANISTER_S
 from tools.tests.support import NAMES, sample
-from tools.vectors import findings as finding_vectors
 from tools.vectors import marks as mark_vectors
+from tools.vectors.sheets import findings as finding_vectors
 from tools.vectors.sheets.case import Case
 
 

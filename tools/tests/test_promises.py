@@ -15,11 +15,11 @@ class Promises(unittest.TestCase):
         self.assertEqual(list(promises.edit_faults("masses: band_from_zero, two")), ["crates/masses has no edit two"])
 
     def test_a_name_that_the_file_has(self):
-        self.assertEqual(list(promises.spec_faults("`ReportAnswer` (`says`) in inventory: ReportCall")), [])
+        self.assertEqual(list(promises.spec_faults("`ReportCall` (`says`) in inventory: ReportCall")), [])
 
     def test_a_name_that_the_file_has_not(self):
-        found = list(promises.spec_faults("`ReportAnswers` in inventory: ReportCall"))
-        self.assertEqual(found, ["crates/inventory/specs/ReportCall.antt has no ReportAnswers"])
+        found = list(promises.spec_faults("`ReportCalls` in inventory: ReportCall"))
+        self.assertEqual(found, ["crates/inventory/specs/ReportCall.antt has no ReportCalls"])
 
     def test_a_file_that_is_not_there(self):
         self.assertEqual(list(promises.spec_faults("`X` in inventory: Nothing")),

@@ -5,12 +5,12 @@ import sys
 import time
 
 from tools.command import add_command, described, report, run, write_or_check
-from tools.vectors import bounds, cells, factors, findings, ledgers, marks, pools, reports, shared, sheets, species
+from tools.vectors import bounds, cells, factors, ledgers, marks, pools, reports, shared, sheets, species
 from tools.vectors.frame import VectorError
 
 MODULES = {
     "bounds": bounds, "sheets": sheets, "factors": factors, "reports": reports, "cells": cells, "species": species,
-    "ledgers": ledgers, "shared": shared, "pools": pools, "marks": marks, "findings": findings,
+    "ledgers": ledgers, "shared": shared, "pools": pools, "marks": marks,
 }
 
 

@@ -1,10 +1,12 @@
-"""The input of vectors_sheet: sheets with the number and place at which the reckoning stops them.
+"""The input of vectors_sheet: sheets with the number and place at which the reckoning stops them, and why.
 
 The file says in four bytes how many sheets there are. Before each sheet stand
 how many bytes follow in two bytes, the place in the sheet where they stand in
-two, the number in one (0 where it is accepted), the place in two and the length
-of the sheet in two; then come these bytes. Elsewhere the sheet has the bytes
-that the sheets before it left at the same places, and zeros where none did: a
+two and the length of the sheet in two; then the finding: number, reason and
+season in one byte each, place, index, the field's first byte and its bytes in
+two each, and value, least and most in four each; then these bytes. All of the
+finding is 0 where the sheet is accepted. Elsewhere the sheet has the bytes that
+the sheets before it left at the same places, and zeros where none did: a
 thousand rows have 24,000 bytes, and most sheets differ from the one before in a
 few. Every number has its lowest byte first.
 
@@ -15,6 +17,7 @@ A sheet that is made for a condition or a limit carries the answer that
 document 01's table and the requests' numbers give it. Where the reckoning gives
 another the run ends, so that a slip of either does not pass unseen. Where no
 answer is known beforehand, as for damage by chance, that of the reckoning stands.
+The finding is the reckoning's, held against the answer and the bytes of the sheet.
 """
 
 import functools
@@ -23,10 +26,12 @@ from collections.abc import Iterator
 from itertools import chain
 
 from tools import reckoning
+from tools.reckoning.findings import explain
 from tools.vectors.frame import VectorError, VectorSet, packed
 from tools.vectors.plans import VERSIONS, records_start, rows_of, version_of
-from tools.vectors.sheets import version1, version2, version3, version4
+from tools.vectors.sheets import findings, version1, version2, version3, version4
 from tools.vectors.sheets.case import ACCEPTED, Case
+from tools.vectors.sheets.findings import Vector
 
 NUMBERS = (*range(1, 22), 24, 25, 26)  # those of a sheet; 22 and 23 are those of a call
 
@@ -58,6 +63,10 @@ def all_cases() -> list[Case]:
     return [answered(case) for case in found.values()]
 
 
+def all_vectors() -> list[Vector]:
+    return [Vector(case, explain(case.data)) for case in all_cases()]
+
+
 def refused_cases() -> list[Case]:
     """The first sheet for each number, of each version that can have it."""
     found = {}
@@ -78,7 +87,12 @@ def end_of(case: Case) -> tuple[int, str | None] | None:
     return (number, {0: "first", count - 1: "last"}.get(index)) if count > 1 else None
 
 
-def missing(cases: list[Case]) -> Iterator[str]:
+def missing(vectors: list[Vector]) -> Iterator[str]:
+    yield from missing_cases([vector.case for vector in vectors])
+    yield from findings.missing(vectors)
+
+
+def missing_cases(cases: list[Case]) -> Iterator[str]:
     """What the sheets as a whole should show and do not."""
     numbers = Counter(case.answer[0] for case in cases)
     for number in NUMBERS:
@@ -117,17 +131,17 @@ def other_parts(cases: list[Case]) -> Iterator[tuple[int, bytes]]:
         left = here
 
 
-def encoded(cases: list[Case]) -> bytes:
-    parts = [packed(4, [len(cases)])]
-    for case, (start, part) in zip(cases, other_parts(cases)):
-        number, place = case.answer
-        parts += [packed(2, [len(part), start]), packed(1, [number]), packed(2, [place, len(case.data)]), part]
+def encoded(vectors: list[Vector]) -> bytes:
+    parts = [packed(4, [len(vectors)])]
+    for (case, finding), (start, part) in zip(vectors, other_parts([vector.case for vector in vectors])):
+        parts += [packed(2, [len(part), start, len(case.data)]), findings.finding_bytes(finding), part]
     return b"".join(parts)
 
 
-def lines(cases: list[Case]) -> Iterator[str]:
-    for position, case in enumerate(cases, 1):
-        yield "%4d  %-17s  %s" % (position, reckoning.answer_text(*case.answer), case.words)
+def lines(vectors: list[Vector]) -> Iterator[str]:
+    for position, (case, finding) in enumerate(vectors, 1):
+        why = "; " + findings.reason_text(finding) if finding.number else ""
+        yield "%4d  %-17s  %s%s" % (position, reckoning.answer_text(*case.answer), case.words, why)
 
 
-VECTORS = VectorSet("vectors_sheet", all_cases, encoded, lines, missing)
+VECTORS = VectorSet("vectors_sheet", all_vectors, encoded, lines, missing)

@@ -1,5 +1,5 @@
--- `vectors_sheet::put` is safe and ends. The loop's invariant: no more bytes are put than there are, and the sheet is as long as it was. The
--- measure is what is left of the bytes.
+-- `vectors_sheet::put` is safe and ends. The loop's invariant: no more bytes are put than there are, and the sheet is
+-- as long as it was. The measure is what is left of the bytes.
 use mathlib.Core.Path.{_≡_}
 use Prim.Native.Nat.{_≤_, _-_}
 use borrow.Author.Needs.{needs}

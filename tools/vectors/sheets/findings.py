@@ -1,17 +1,7 @@
-"""The input of vectors_findings: the sheets of vectors_sheet with what the reckoning finds wrong on them.
+"""What the reckoning finds wrong on the sheets, held against their bytes.
 
-The file says in four bytes how many sheets there are. Before each sheet stand
-how many bytes follow in two bytes, the place in the sheet where they stand in
-two and the length of the sheet in two; then the finding: number, reason and
-season in one byte each, place, index, the field's first byte and its bytes in
-two each, and value, least and most in four each; then the bytes. All of the
-finding is 0 where the sheet is accepted. Elsewhere the sheet has the bytes that
-the sheets before it left, as in the input of vectors_sheet. Every number has its
-lowest byte first.
-
-The reckoning's findings are held against the sheets: number and place are those
-of the vectors for the check, a field's value is read from its bytes, and where
-the limit is put there the sheet no longer stops with this reason.
+Number and place are those of the check, a field's value is read from its bytes,
+and where the limit is put there the sheet no longer stops with this reason.
 """
 
 from collections import Counter
@@ -19,8 +9,7 @@ from collections.abc import Iterator
 from typing import NamedTuple
 
 from tools.reckoning.findings import Finding, explain
-from tools.vectors.frame import VectorSet, packed
-from tools.vectors.sheets import all_cases, other_parts
+from tools.vectors.frame import packed
 from tools.vectors.sheets.case import Case
 
 # By number how many reasons it has, where there is more than one.
@@ -35,19 +24,13 @@ SIGN = 2 ** 15  # between the bits of a temperature and its place in the order o
 
 
 class Vector(NamedTuple):
+    """A sheet, and what is wrong on it."""
     case: Case
     finding: Finding
 
 
-def vectors() -> list[Vector]:
-    return [Vector(case, explain(case.data)) for case in all_cases()]
-
-
 def rule(finding: Finding) -> tuple[int, int]:
     return finding.number, finding.reason
-
-
-# ------------------------------------------------------------------ what they show
 
 
 def standing(data: bytes, finding: Finding) -> int:
@@ -79,19 +62,19 @@ def faults_of(data: bytes, finding: Finding) -> Iterator[str]:
             yield "with %d there it is refused as before" % value
 
 
-def missing(found: list[Vector]) -> Iterator[str]:
+def missing(vectors: list[Vector]) -> Iterator[str]:
     """What the findings as a whole should show and do not."""
-    counts = Counter(rule(vector.finding) for vector in found)
+    counts = Counter(rule(vector.finding) for vector in vectors)
     for reason in sorted(REASONS | set(counts)):
         if reason != (0, 0) and (reason not in REASONS or counts[reason] < LEAST_OF_A_REASON):
             yield "number %d reason %d: %d sheets" % (*reason, counts[reason])
-    for case, finding in found:
+    for case, finding in vectors:
         if (finding.number, finding.place) != case.answer:
             yield "%s: number or place is not the check's" % case.words
         if finding.number:
             yield from ("%s: %s" % (case.words, fault) for fault in faults_of(case.data, finding))
     for name in ("index", "season"):
-        if not any(getattr(vector.finding, name) for vector in found):
+        if not any(getattr(vector.finding, name) for vector in vectors):
             yield "no finding with %s above 0" % name
 
 
@@ -101,21 +84,6 @@ def finding_bytes(finding: Finding) -> bytes:
             + packed(4, [finding.value, finding.least, finding.most]))
 
 
-def encoded(found: list[Vector]) -> bytes:
-    parts = [packed(4, [len(found)])]
-    for (case, finding), (start, part) in zip(found, other_parts([vector.case for vector in found])):
-        parts += [packed(2, [len(part), start, len(case.data)]), finding_bytes(finding), part]
-    return b"".join(parts)
-
-
-def lines(found: list[Vector]) -> Iterator[str]:
-    for position, (case, finding) in enumerate(found, 1):
-        yield "%4d  %s  %s" % (position, said(finding) if finding.number else "accepted", case.words)
-
-
-def said(finding: Finding) -> str:
-    return "%d at %d: reason %d index %d season %d field %d size %d value %d least %d most %d" % (
-        finding.number, finding.place, *finding[2:])
-
-
-VECTORS = VectorSet("vectors_findings", vectors, encoded, lines, missing)
+def reason_text(finding: Finding) -> str:
+    """All but number and place, as the program prints it."""
+    return "reason %d index %d season %d field %d size %d value %d least %d most %d" % finding[2:]
