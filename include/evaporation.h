@@ -45,9 +45,9 @@ extern "C" {
 
 uint64_t evp_library_version(void);
 
-/* A thread whose whole stack has so many bytes can make every call: measured are at most 94,616, the thread's own among
+/* A thread whose whole stack has so many bytes can make every call: measured are at most 107,816, the thread's own among
  * them, for the calls that make a report or a factor, and at most 7,376 for all others. */
-#define EVP_STACK_BYTES 131072
+#define EVP_STACK_BYTES 163840
 
 /* The longest sheet, of version 4 with 12 seasons and 1,000 rows, in bytes; and its report, in words. */
 #define EVP_SHEET_BYTES 25256

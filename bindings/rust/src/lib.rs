@@ -49,7 +49,7 @@ pub const SHEET_BYTES: usize = 25_256;
 pub const REPORT_WORDS: usize = 6_026;
 
 /// A thread whose whole stack has so many bytes can make every call.
-pub const STACK_BYTES: usize = 131_072;
+pub const STACK_BYTES: usize = 163_840;
 
 /// No text is longer, in bytes.
 pub const TEXT_BYTES: usize = 151_622;
