@@ -1,8 +1,8 @@
 """The course's ledger under load: eight participants at once, and a desk that is killed again and again.
 
-The gate makes fewer calls and kills than an afternoon might see; the whole is
+10,000 calls and a hundred kills, which take a minute or two; other numbers by
 
-    EVP_DESK_CALLS=10000 EVP_DESK_KILLS=100 /usr/bin/python3 python/tests/test_desk_load.py
+    EVP_DESK_CALLS=1000 EVP_DESK_KILLS=10 /usr/bin/python3 python/tests/test_desk_load.py
 
 kill -9 tries that a call is kept before it is answered, and that a desk finds its way back from any moment. It does not
 try a power cut: that the disk has a commit then is SQLite's promise with synchronous FULL.
@@ -23,7 +23,7 @@ from support import LIBRARY, SAMPLES, DeskTestCase, sample
 from evp import layout
 
 CALLS = int(os.environ.get("EVP_DESK_CALLS", "10000"))
-KILLS = int(os.environ.get("EVP_DESK_KILLS", "25"))
+KILLS = int(os.environ.get("EVP_DESK_KILLS", "100"))
 SHEET = SAMPLES / "region.evp"
 ROWS = layout.row_count(sample("region"))
 
