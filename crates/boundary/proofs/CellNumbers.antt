@@ -31,7 +31,9 @@ use Rattle.boundary.specs.declared.TravelHanded.{TravelHanded}
 use Rattle.boundary.specs.declared.TravelHanded.the-variants.{Told, NoTravel}
 use Rattle.boundary.specs.declared.Handed.{Handed}
 use Rattle.boundary.specs.declared.Handed.the-variants.{Given, NoCell}
-use Rattle.boundary.specs.Cells.{cellNumbers, noCell, rowNumbers, sumNumbers, exactHanded, cellHanded, handedSum, travelHanded, handedRow, RowCellsNone, RowCellsGiven, RowCellsNumbers, CellSumNumbers}
+use Rattle.boundary.specs.Cells.{cellNumbers, noCell, rowNumbers, sumNumbers, exactHanded, cellHanded, handedSum}
+use Rattle.boundary.specs.Cells.{travelHanded, handedRow, RowCellsNone, RowCellsGiven, RowCellsNumbers}
+use Rattle.boundary.specs.Cells.{CellSumNumbers}
 
 module _ {a : RowCellsAnswer} {u r h : EvpCell} where
   pub row-cells : (v : RowCells) → a ≡ row.Cells v → u ≡ cellNumbers (v .urban) → r ≡ cellNumbers (v .rural) → h ≡ cellNumbers (v .highway)
@@ -146,7 +148,11 @@ row-given : {w : Words} {t : Travel} (a : RowCellsAnswer) → RowCellsPromise w 
 unfolding rowNumbers
 row-given a p v e =
     let q = p .cells v e in
-    rw e (record { urban = handed-back (v .urban) (q .urban .no-minus); rural = handed-back (v .rural) (q .rural .no-minus); highway = handed-back (v .highway) (q .highway .no-minus) })
+    rw e (record {
+      urban = handed-back (v .urban) (q .urban .no-minus);
+      rural = handed-back (v .rural) (q .rural .no-minus);
+      highway = handed-back (v .highway) (q .highway .no-minus);
+    })
 
 handed-row-promise : (w : Words) (t : TravelHanded) (x : Travel) → t ≡ Told x → RowCellsPromise w x (handedRow w t)
 unfolding handedRow

@@ -43,7 +43,8 @@ module _ (u : ℕ) where
         unit-other n3 = rw (ne-eqb u 0 n0, ne-eqb u 1 n1, ne-eqb u 2 n2, ne-eqb u 3 n3)
 
 module _ {unit : UnitHanded} (digits places low high : ℕ) where
-  pub marked-in : {r : Verdict} (u : Unit) → unit ≡ Named u → r ≡ verdict (figure digits places u) low high → r ≡ handedVerdict digits places unit low high
+  pub marked-in : {r : Verdict} (u : Unit) → unit ≡ Named u → r ≡ verdict (figure digits places u) low high
+      → r ≡ handedVerdict digits places unit low high
   unfolding handedVerdict
   marked-in u e h = rw e h
 

@@ -13,7 +13,12 @@ unfolding checkNumbers numberOf placeOf
 check-is Pass = refl
 check-is (Refused number place) = refl
 
-pub factor-is : (a : FactorAnswer) → factorNumbers a ≡ record { number = answerNumber a; place = answerPlace a; low = answerLow a; high = answerHigh a }
+pub factor-is : (a : FactorAnswer) → factorNumbers a ≡ record {
+  number = answerNumber a;
+  place = answerPlace a;
+  low = answerLow a;
+  high = answerHigh a;
+}
 unfolding factorNumbers answerNumber answerPlace answerLow answerHigh
 factor-is (answer.Refused number place) = refl
 factor-is (answer.Band low high) = refl

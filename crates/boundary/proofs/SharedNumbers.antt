@@ -16,7 +16,8 @@ use Rattle.boundary.specs.Export.{checkNumbers}
 use Rattle.boundary.specs.Shared.{rowNumbers, totalsNumbers, OpenNumbers, SharedNumbers, RowNumbers, TotalsNumbers}
 use Rattle.boundary.proofs.Numbers.{check-is}
 
-pub open-numbers : {s owners old words : List ℕ} {c : Check} {r : EvpCheck} → OpenCall s owners old words c → r ≡ checkNumbers c → OpenNumbers s owners old words r
+pub open-numbers : {s owners old words : List ℕ} {c : Check} {r : EvpCheck} → OpenCall s owners old words c
+    → r ≡ checkNumbers c → OpenNumbers s owners old words r
 open-numbers a e = record {
   answer-is = e ∙ ap checkNumbers (a .answer-is);
   words-are = rw (a .answer-is) at (a .words-are);
@@ -33,10 +34,12 @@ shared-numbers a e = record {
   says = rw (e ∙ check-is _) (a .says);
 }
 
-pub row-told : {s owners words : List ℕ} {who i : ℕ} {a : RowAnswer} {r : EvpRow} → SharedRowCall s owners words who i a → r ≡ rowNumbers a → RowNumbers s owners words who i r
+pub row-told : {s owners words : List ℕ} {who i : ℕ} {a : RowAnswer} {r : EvpRow} → SharedRowCall s owners words who i a
+    → r ≡ rowNumbers a → RowNumbers s owners words who i r
 unfolding rowNumbers
 row-told a e = record { answer-is = e ∙ ap rowNumbers (a .answer-is); says = rw e (a .says) }
 
-pub totals-told : {s owners words : List ℕ} {who : ℕ} {a : TotalsAnswer} {r : EvpTotals} → SharedTotalsCall s owners words who a → r ≡ totalsNumbers a → TotalsNumbers s owners words who r
+pub totals-told : {s owners words : List ℕ} {who : ℕ} {a : TotalsAnswer} {r : EvpTotals}
+    → SharedTotalsCall s owners words who a → r ≡ totalsNumbers a → TotalsNumbers s owners words who r
 unfolding totalsNumbers
 totals-told a e = record { answer-is = e ∙ ap totalsNumbers (a .answer-is); says = rw e (a .says) }

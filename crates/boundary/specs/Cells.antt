@@ -40,7 +40,13 @@ noCell = record { kind = 3; low = fin false 0 (pos 0); high = fin false 0 (pos 0
 
 -- number 0 where the cells are given; a refusal has none
 unfoldable pub rowNumbers : RowCellsAnswer → EvpRowCells
-rowNumbers (row.Cells v) = record { number = 0; place = 0; urban = cellNumbers (v .urban); rural = cellNumbers (v .rural); highway = cellNumbers (v .highway) }
+rowNumbers (row.Cells v) = record {
+  number = 0;
+  place = 0;
+  urban = cellNumbers (v .urban);
+  rural = cellNumbers (v .rural);
+  highway = cellNumbers (v .highway);
+}
 rowNumbers (row.Refused number place) = record { number = number; place = place; urban = noCell; rural = noCell; highway = noCell }
 
 unfoldable pub sumNumbers : CellAnswer → EvpCellSum

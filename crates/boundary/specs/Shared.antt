@@ -14,7 +14,8 @@ use Rattle.ledger.specs.Ledger.{sheetAfter, wordsAfter}
 use Rattle.shared_ledger.specs.declared.RowAnswer.{RowAnswer}
 use Rattle.shared_ledger.specs.declared.TotalsAnswer.{TotalsAnswer}
 use Rattle.shared_ledger.specs.Opening.{sharedCheck, sharedDemands}
-use Rattle.shared_ledger.specs.Calls.{sharedChangeCheck, sharedChangeDemands, sharedRowAnswer, sharedRowDemands, sharedTotalsAnswer, sharedTotalsDemands}
+use Rattle.shared_ledger.specs.Calls.{sharedChangeCheck, sharedChangeDemands, sharedRowAnswer, sharedRowDemands}
+use Rattle.shared_ledger.specs.Calls.{sharedTotalsAnswer, sharedTotalsDemands}
 use Rattle.boundary.specs.declared.EvpCheck.{EvpCheck}
 use Rattle.boundary.specs.declared.EvpRow.{EvpRow}
 use Rattle.boundary.specs.declared.EvpTotals.{EvpTotals}

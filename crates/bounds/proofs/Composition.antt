@@ -4,7 +4,8 @@ use mathlib.Core.Path.{_≡_, refl}
 use Prim.Native.Nat.{ℕ, zero, suc, _+_, _*_, _^_, _-_, _/_, _≤_, _<_}
 use native.Mathlib.Decide.{decLe}
 use native.Mathlib.Omega.{arith}
-use native.Mathlib.Nat.{pow-zero, pow-suc, mul-zero, mul-sub, mul-pos, mul-le-mul, mul-le-mul-left, mul-le-mul-right, le-of-mul-le-mul-left, le-of-mul-le-mul-right, le-trans, div-mul-le-self, lt-div-mul-add}
+use native.Mathlib.Nat.{pow-zero, pow-suc, mul-zero, mul-sub, mul-pos, mul-le-mul, mul-le-mul-left, mul-le-mul-right}
+use native.Mathlib.Nat.{le-of-mul-le-mul-left, le-of-mul-le-mul-right, le-trans, div-mul-le-self, lt-div-mul-add}
 use Rattle.bounds.specs.Enclosure.{Within}
 use Rattle.numbers.proofs.Order.{via}
 use Rattle.bounds.proofs.Within.{ratio-within}
@@ -40,7 +41,12 @@ module _ (q : ℕ) (q0 : 0 < q) (w₁ x₁ w₂ x₂ : ℕ) where
       → x₁ * x₂ * num q v n ≤ w₁ * w₂ * den q n
   minus-above v d n m g h =
       le-of-mul-le-mul-left
-      (omega (arith, mul-le-mul-left (w₂ * (den q n * den q m)) g, mul-le-mul-left (x₁ * w₂) (product-below q v d n m), mul-le-mul-left (x₁ * num q v n * den q (n + m)) h))
+      (omega (
+        arith,
+        mul-le-mul-left (w₂ * (den q n * den q m)) g,
+        mul-le-mul-left (x₁ * w₂) (product-below q v d n m),
+        mul-le-mul-left (x₁ * num q v n * den q (n + m)) h,
+      ))
       (mul-pos (den-pos q m q0) (den-pos q (n + m) q0))
 
 -- A small exponent d/q of 0 or more: lo ≤ w·Sₖ(d/q), and w·Sₙ(d/q) ≤ lo + v for every n ≥ 40.
@@ -68,7 +74,13 @@ pub small-round : {q k w d lo v : ℕ} (c : ℕ) → 0 < c → Small q k (w * c)
 small-round {q} {k} {w} {d} {lo} {v} c c0 a = record {
   above = le-of-mul-le-mul-right {k = c} (omega (arith, a .above, mul-le-mul-right (den q k) (div-mul-le-self lo c))) c0;
   below =
-      λ n h. le-of-mul-le-mul-right {k = c} (omega (arith, a .below n h, mul-le-mul-right (den q n) (lt-div-mul-add {a = lo} c0), mul-le-mul-right (den q n) (lt-div-mul-add {a = v} c0))) c0;
+      λ n h. le-of-mul-le-mul-right {k = c}
+      (omega (
+        arith,
+        a .below n h,
+        mul-le-mul-right (den q n) (lt-div-mul-add {a = lo} c0),
+        mul-le-mul-right (den q n) (lt-div-mul-add {a = v} c0),
+      )) c0;
 }
 
 -- a larger width
@@ -155,7 +167,8 @@ record Bounded (q o c x n W low high : ℕ) : Type 0 where
   above : low * num (c * q) (c * o - x) n ≤ W * num (c * q) (x - c * o) n
   below : W * num (c * q) (x - c * o) n ≤ high * num (c * q) (c * o - x) n
 
-module _ (q o c a d k W w lo v t n : ℕ) (q0 : 0 < c * q) (dc : d < c) (few : k ≤ 11) (l : 40 ≤ n) (e : Near q (from o a) W (a - o) (o - a) t) (s : Small (c * q) k w d lo v) where
+module _ (q o c a d k W w lo v t n : ℕ) (q0 : 0 < c * q) (dc : d < c) (few : k ≤ 11) (l : 40 ≤ n)
+    (e : Near q (from o a) W (a - o) (o - a) t) (s : Small (c * q) k w d lo v) where
   -- an entry at an exponent of 0 or more
   bounded-plus : o ≤ a → Bounded q o c (c * a + d) n (W * w) (t * lo) ((t + 1) * (lo + v))
   unfolding from
@@ -191,7 +204,8 @@ module _ (q o c a d k W w lo v t n : ℕ) (q0 : 0 < c * q) (dc : d < c) (few : k
   -- t·lo encloses W·w·E((c·a + d − c·o)/(c·q)): the entry's exponent is (a − o)/q, and d/(c·q) is added to it
   pub composed : Within (W * w) (t * lo) (t * v + lo + v) (quotient n (c * a + d) (c * o) (c * q) q0)
   composed =
-      let b : Bounded q o c (c * a + d) n (W * w) (t * lo) ((t + 1) * (lo + v)) = elim (decLe o a) [ yes h ↦ bounded-plus h | no h ↦ bounded-minus h ] in
+      let b : Bounded q o c (c * a + d) n (W * w) (t * lo) ((t + 1) * (lo + v)) =
+      elim (decLe o a) [ yes h ↦ bounded-plus h | no h ↦ bounded-minus h ] in
       ratio-within _ _ _ (omega (arith, b .above)) (omega (arith, b .below))
 
 -- The quadratic 1 + ρ + ρ²/2 at ρ = r/q, with w·ρ known as g and w·ρ²/2 as c.

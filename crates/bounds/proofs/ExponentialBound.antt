@@ -123,7 +123,9 @@ pub fine-near : (d : ℕ) → d < 6250000000000 → Small (10 ^ 14) 10 (2 ^ 40) 
 unfolding fine
 fine-near d h =
     let m : ℕ = d / 24414062500 in
-    rw (div-add-mod d 24414062500) at (fine-at m (d % 24414062500) (getD middle m 0) (omega arith) (middle-below m (omega arith)) (middle-near m (omega arith)))
+    rw (div-add-mod d 24414062500) at
+    (fine-at m (d % 24414062500) (getD middle m 0) (omega arith) (middle-below m (omega arith))
+    (middle-near m (omega arith)))
 
 -- an entry t of coarse, and lo = fine d
 exponential-at : (n h d t lo : ℕ) → d < 6250000000000 → 40 ≤ n → lo < 2 ^ 41 → Near 16 (from 256 h) (2 ^ 40) (h - 256) (256 - h) t
@@ -132,7 +134,8 @@ exponential-at : (n h d t lo : ℕ) → d < 6250000000000 → 40 ≤ n → lo < 
 exponential-at n h d t lo l n40 k e s =
     widen
     (round-within (2 ^ 40) (omega arith)
-    (within-≈ (≈-sym (E-is n (exponent (6250000000000 * h + d)))) (composed 16 256 6250000000000 h d 10 (2 ^ 40) (2 ^ 40) lo 8 t n (ten-pos 14) l (omega arith) n40 e s)))
+    (within-≈ (≈-sym (E-is n (exponent (6250000000000 * h + d))))
+    (composed 16 256 6250000000000 h d 10 (2 ^ 40) (2 ^ 40) lo 8 t n (ten-pos 14) l (omega arith) n40 e s)))
     (omega arith)
 
 -- The result.
@@ -146,7 +149,9 @@ exponential-within x l =
     let k : d < 6250000000000 = mod-lt x (omega arith) in
     record {
       at = λ n n40.
-          rw (div-add-mod x 6250000000000) at (exponential-at n h d (getD coarse h 0) (fine d) k n40 (omega (arith, fine-size d k)) (coarse-near h (omega arith)) (fine-near d k));
+          rw (div-add-mod x 6250000000000) at
+          (exponential-at n h d (getD coarse h 0) (fine d) k n40 (omega (arith, fine-size d k))
+          (coarse-near h (omega arith)) (fine-near d k));
     }
 
 -- the error grows with the exponent

@@ -99,7 +99,8 @@ middle-climbs = climbing-at 1099780095998 (2 ^ 40) (omega arith) (lit≤ tt) 0 m
 fine-mono : {d e : ℕ} → d ≤ e → e < 6250000000000 → fine d ≤ fine e
 unfolding fine
 fine-mono l h =
-    parts-mono (2 ^ 40) 24414062500 256 middle quadratic (omega arith) (omega arith) quadratic-0 1099780095998 (λ r t l _. quadratic-mono l) quadratic-last
+    parts-mono (2 ^ 40) 24414062500 256 middle quadratic (omega arith) (omega arith) quadratic-0 1099780095998
+    (λ r t l _. quadratic-mono l) quadratic-last
     middle-climbs l (omega arith)
 
 -- its largest value,
@@ -124,4 +125,5 @@ coarse-climbs = climbing-at 1170424035278 (2 ^ 40) (omega arith) (lit≤ tt) 0 c
 pub exponential-mono : {x y : ℕ} → x ≤ y → y < exponentLimit → exponential x ≤ exponential y
 unfolding exponential
 exponential-mono l h =
-    parts-mono (2 ^ 40) 6250000000000 322 coarse fine (omega arith) (omega arith) fine-0 1170424035278 (λ r t l h. fine-mono l h) fine-last coarse-climbs l (omega arith)
+    parts-mono (2 ^ 40) 6250000000000 322 coarse fine (omega arith) (omega arith) fine-0 1170424035278
+    (λ r t l h. fine-mono l h) fine-last coarse-climbs l (omega arith)

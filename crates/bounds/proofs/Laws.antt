@@ -7,7 +7,10 @@ use Rattle.bounds.specs.Laws.{SeriesLaws, EndLaws, ExponentialLaws, Shor
 use Rattle.bounds.proofs.Exponential.{E-cong, E-mono, E-zero, E-positive}
 use Rattle.bounds.proofs.Sums.{E-most-1, E-product-above, E-product-below, one-plus}
 use Rattle.bounds.proofs.Ends.{E-to-0·44, E-to-2·255, E-to-2·8201, E-to-3, E-to-3·58, E-to-4·0096, E-at-2·78, E-at-minus-7·75}
-use Rattle.bounds.proofs.ExponentialBound.{exponential-within, exponentialError-mono, exponentialError-1·41, exponentialError-2·3, exponentialError-3·6, exponentialError-4·1, exponential-size, exponential-size-1·41, exponential-at-0, exponential-at-1·41}
+use Rattle.bounds.proofs.ExponentialBound.{exponential-within, exponentialError-mono, exponentialError-1·41}
+use Rattle.bounds.proofs.ExponentialBound.{exponentialError-2·3, exponentialError-3·6, exponentialError-4·1}
+use Rattle.bounds.proofs.ExponentialBound.{exponential-size, exponential-size-1·41, exponential-at-0}
+use Rattle.bounds.proofs.ExponentialBound.{exponential-at-1·41}
 use Rattle.bounds.proofs.ShortBound.{short-within, shortError-mono, shortError-0, shortError-3, short-size}
 use Rattle.bounds.proofs.Growth.{exponential-mono}
 use Rattle.bounds.proofs.Line.{exponential-most-1}

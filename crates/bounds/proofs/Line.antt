@@ -4,7 +4,10 @@
 use Prim.Native.Nat.{ℕ, _+_, _*_, _^_, _≤_, _<_}
 use native.Mathlib.Omega.{arith}
 use Rattle.numbers.specs.Fraction.{Fraction, _≤ᶠ_, _≈ᶠ_, _+ᶠ_, _-ᶠ_, _*ᶠ_, whole, _/10^_}
-use Rattle.numbers.proofs.Order.{NonNegative, positive→nonNegative, nonNegative-up, ≤-refl, ≤-trans, ≈-refl, ≈-sym, ≈-trans, ≈→≤, ≈→≥, ≈-by, +-mono, +-cong, +-comm, +-assoc, sub-add, sub-nonNegative, ≤-sub, regain, *-mono, *-mono-right, *-cong, *-assoc, *-distrib, ratio, ratio-mono, ratio-nonNegative}
+use Rattle.numbers.proofs.Order.{NonNegative, positive→nonNegative, nonNegative-up, ≤-refl, ≤-trans, ≈-refl, ≈-sym}
+use Rattle.numbers.proofs.Order.{≈-trans, ≈→≤, ≈→≥, ≈-by, +-mono, +-cong, +-comm, +-assoc, sub-add, sub-nonNegative}
+use Rattle.numbers.proofs.Order.{≤-sub, regain, *-mono, *-mono-right, *-cong, *-assoc, *-distrib, ratio, ratio-mono}
+use Rattle.numbers.proofs.Order.{ratio-nonNegative}
 use Rattle.bounds.specs.Series.{E}
 use Rattle.bounds.specs.Enclosure.{Within}
 use Rattle.bounds.specs.Exponential.{exponential, exponent}

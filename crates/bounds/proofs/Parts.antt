@@ -1,7 +1,8 @@
 -- Products in parts: a number n is n / k parts of k and n % k more, so that a product is cut part by part, for every width k of a part.
 use mathlib.Core.Path.{_≡_, sym, _∙_, ap}
 use Prim.Native.Nat.{ℕ, _+_, _*_, _-_, _/_, _%_, _≤_, _<_}
-use native.Mathlib.Nat.{mul-assoc, mul-comm, mul-left-comm, add-mul, mul-add, div-add-mod', mul-add-div-right, div-div-eq-div-mul, div-lt-iff-lt-mul, mul-le-mul, lt-of-le-of-lt}
+use native.Mathlib.Nat.{mul-assoc, mul-comm, mul-left-comm, add-mul, mul-add, div-add-mod', mul-add-div-right}
+use native.Mathlib.Nat.{div-div-eq-div-mul, div-lt-iff-lt-mul, mul-le-mul, lt-of-le-of-lt}
 use native.Mathlib.Omega.{arith}
 
 -- ⌊a·b/k⌋, with a in parts

@@ -6,7 +6,8 @@ use Prim.Native.Nat.{ℕ, suc, zero, _+_, _*_, _-_, _^_, _/_, _≤_, _<_}
 use native.Mathlib.Omega.{arith}
 use native.Mathlib.Decide.{decLe}
 use native.Mathlib.Numerals.{unary-clauses}
-use native.Mathlib.Nat.{sub-add-cancel, sub-eq-zero-of-le, mul-pos, mul-le-mul-right, mul-le-mul-left, mul-le-mul, le-of-mul-le-mul-right, lt-of-mul-lt-mul-right, le-trans, pow-zero, pow-suc, div-mul-le-self}
+use native.Mathlib.Nat.{sub-add-cancel, sub-eq-zero-of-le, mul-pos, mul-le-mul-right, mul-le-mul-left, mul-le-mul}
+use native.Mathlib.Nat.{le-of-mul-le-mul-right, lt-of-mul-lt-mul-right, le-trans, pow-zero, pow-suc, div-mul-le-self}
 use lib.Pow.{pow-add}
 use lib.Dec.{lit<}
 use Rattle.numbers.specs.Fraction.{Fraction, _≤ᶠ_, _*ᶠ_, _^ᶠ_, whole}

@@ -4,7 +4,8 @@
 -- n-th derivative of a product, so no binomial coefficient and no double sum is needed.
 use mathlib.Core.Path.{_≡_, refl, sym, _∙_}
 use Prim.Native.Nat.{ℕ, zero, suc, _+_, _*_, _^_, _≤_, _<_, zero-le}
-use native.Mathlib.Nat.{pow-suc, pow-succ', pow-zero, add-suc, add-zero, le-dest, mul-le-mul-left, mul-le-mul-right, mul-pos, not-suc-le-zero, le-of-suc-le-suc, le-refl, le-trans, one-le-pow, pow-le-pow-left}
+use native.Mathlib.Nat.{pow-suc, pow-succ', pow-zero, add-suc, add-zero, le-dest, mul-le-mul-left, mul-le-mul-right}
+use native.Mathlib.Nat.{mul-pos, not-suc-le-zero, le-of-suc-le-suc, le-refl, le-trans, one-le-pow, pow-le-pow-left}
 use native.Mathlib.Omega.{arith}
 use Rattle.numbers.specs.Fraction.{_≈ᶠ_, _+ᶠ_, _*ᶠ_, _^ᶠ_, _over_, whole}
 use Rattle.bounds.specs.Series.{S, term, factorial}

@@ -6,7 +6,8 @@ use Prim.Native.Nat.{ℕ, suc, zero, _+_, _*_, _-_, _^_, _/_, _≤_, _<_}
 use native.Mathlib.Omega.{arith}
 use native.Mathlib.Numerals.{unary-clauses}
 use native.Mathlib.Decide.{decLe}
-use native.Mathlib.Nat.{mul-le-mul, mul-le-mul-right, div-mul-le-self, lt-div-mul-add, le-dest, le-of-lt, lt-of-not-le, add-sub-cancel-left, le-refl, le-antisymm}
+use native.Mathlib.Nat.{mul-le-mul, mul-le-mul-right, div-mul-le-self, lt-div-mul-add, le-dest, le-of-lt, lt-of-not-le}
+use native.Mathlib.Nat.{add-sub-cancel-left, le-refl, le-antisymm}
 use lib.Dec.{leb}
 use borrow.Author.Tests.{leb-true, leb-false, le-leb, lt-leb}
 use Rattle.numbers.specs.Fraction.{Fraction, _≤ᶠ_, _<ᶠ_, _*ᶠ_, _^ᶠ_, whole, _≤?_}

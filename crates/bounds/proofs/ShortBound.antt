@@ -16,7 +16,8 @@ use Rattle.bounds.proofs.Exponential.{E-is}
 use Rattle.bounds.proofs.Entries.{from, coarse-near, coarse-mono}
 use Rattle.bounds.proofs.ExponentialBound.{fine-near}
 use Rattle.bounds.proofs.Growth.{fine-last}
-use Rattle.bounds.proofs.Composition.{Small, small-sum, small-scale, small-unscale, small-round, small-weaken, near-cut, composed, linear-small}
+use Rattle.bounds.proofs.Composition.{Small, small-sum, small-scale, small-unscale, small-round, small-weaken}
+use Rattle.bounds.proofs.Composition.{near-cut, composed, linear-small}
 
 -- Sizes.
 
@@ -99,7 +100,8 @@ short-at : (n h d t f : ℕ) → d < 2 ^ 49 → 40 ≤ n → f ≤ 2286123967 �
 short-at n h d t f l n40 k e s =
     widen
     (round-within (2 ^ 32) (omega arith)
-    (within-≈ (≈-sym (E-is n (shortExponent (2 ^ 49 * h + d)))) (composed 16 256 (2 ^ 49) h d 11 (2 ^ 27) (2 ^ 41) (f * 2 ^ 10) 7993 t n (two-pos 53) l (omega arith) n40 e s)))
+    (within-≈ (≈-sym (E-is n (shortExponent (2 ^ 49 * h + d))))
+    (composed 16 256 (2 ^ 49) h d 11 (2 ^ 27) (2 ^ 41) (f * 2 ^ 10) 7993 t n (two-pos 53) l (omega arith) n40 e s)))
     (omega arith)
 
 -- where the parts of an exponent stand
@@ -124,10 +126,13 @@ short-within x l =
     let d : ℕ = x % 2 ^ 49 in
     let j : ℕ = x / 2 ^ 39 % 2 ^ 10 in
     let p : ℕ = x / 2 ^ 21 % 2 ^ 18 in
-    let s : Small (2 ^ 53) 11 (2 ^ 41) d (shortFine j p * 2 ^ 10) 7993 = rw (parts x, rest-parts x) at (shortFine-near j (x % 2 ^ 39) (omega arith) (omega arith)) in
+    let s : Small (2 ^ 53) 11 (2 ^ 41) d (shortFine j p * 2 ^ 10) 7993 =
+    rw (parts x, rest-parts x) at (shortFine-near j (x % 2 ^ 39) (omega arith) (omega arith)) in
     record {
       at = λ n n40.
-          rw (shifted (high h) (shortFine j p), div-add-mod x (2 ^ 49)) at (short-at n h d (high h) (shortFine j p) (omega arith) n40 (shortFine-size j p (omega arith) (omega arith)) (high-near h (omega arith)) s);
+          rw (shifted (high h) (shortFine j p), div-add-mod x (2 ^ 49)) at
+          (short-at n h d (high h) (shortFine j p) (omega arith) n40
+          (shortFine-size j p (omega arith) (omega arith)) (high-near h (omega arith)) s);
     }
 
 -- the error grows with the exponent

@@ -188,11 +188,13 @@ reach-most K g h k = omega (arith, mul-le-mul (binary-most K h) k)
 abbrev pub riseWidth : ℕ → ℕ → ℕ
 riseWidth R w = (9 * 2 ^ 36 * w + R * 2 ^ 40 * 6 + 6 * w) / 2 ^ 23 + 2
 
-pub rise-held : {x u k r w : ℕ} (R : ℕ) {z κ ρ : Fraction} → k ≤ 9 * 2 ^ 36 → r ≤ R * 2 ^ 40 → Held x u z → Within (2 ^ 36) k 6 κ → Within (2 ^ 40) r w ρ
+pub rise-held : {x u k r w : ℕ} (R : ℕ) {z κ ρ : Fraction} → k ≤ 9 * 2 ^ 36 → r ≤ R * 2 ^ 40 → Held x u z
+    → Within (2 ^ 36) k 6 κ → Within (2 ^ 40) r w ρ
     → Held (x + k * r / 2 ^ 23) (u + riseWidth R w) (z +ᶠ κ *ᶠ ρ)
 rise-held {x} {u} {k} {r} {w} R {z} {κ} {ρ} h g hz hk hr =
     let wide : k * w + r * 6 + 6 * w ≤ 9 * 2 ^ 36 * w + R * 2 ^ 40 * 6 + 6 * w = omega (arith, mul-le-mul-right w h) in
-    let part = widen {v = riseWidth R w} (round-within {s = 2 ^ 53} (2 ^ 23) (omega arith) (*-within hk hr)) (omega (arith, div-mono (2 ^ 23) (omega arith) wide)) in
+    let part = widen {v = riseWidth R w} (round-within {s = 2 ^ 53} (2 ^ 23) (omega arith) (*-within hk hr))
+    (omega (arith, div-mono (2 ^ 23) (omega arith) wide)) in
     record { raised = within-≈ (last-term z (κ *ᶠ ρ) (whole 16)) (+-within (hz .raised) part) }
 
 -- the held exponent grows with m

@@ -6,7 +6,9 @@ use Prim.Native.Nat.{ℕ, _+_, _<_}
 use native.Mathlib.Omega.{arith}
 use Rattle.numbers.specs.Fraction.{Fraction, _≤ᶠ_, _≈ᶠ_, _+ᶠ_, negᶠ, _*ᶠ_, whole, _^ᶠ_, _over_, inverse}
 use Rattle.bounds.specs.Series.{factorial, term, S, E}
-use Rattle.numbers.proofs.Order.{NonNegative, positive→nonNegative, nonNegative→≤, test-true, ≤-trans, ≤-by, ≈-refl, ≈-sym, ≈-trans, ≈→≤, +-nonNegative, neg-nonNegative, *-mono-left, *-mono-right, *-cong, *-comm, *-assoc, *-swap, *-cancel, ratio, ratio-positive}
+use Rattle.numbers.proofs.Order.{NonNegative, positive→nonNegative, nonNegative→≤, test-true, ≤-trans, ≤-by, ≈-refl}
+use Rattle.numbers.proofs.Order.{≈-sym, ≈-trans, ≈→≤, +-nonNegative, neg-nonNegative, *-mono-left, *-mono-right, *-cong}
+use Rattle.numbers.proofs.Order.{*-comm, *-assoc, *-swap, *-cancel, ratio, ratio-positive}
 use Rattle.bounds.proofs.Exponential.{S-product-above, S-product-below, E-is, E-mono, E-positive, E-zero}
 
 -- Eₙ(y) = Sₙ(y) for 0 ≤ y

@@ -1,7 +1,8 @@
 -- The tail of the truncated exponential: what one sum and its last term say of every longer sum, and the test that computes it.
 use mathlib.Core.Bool.{Bool}
 use Prim.Native.Nat.{ℕ, zero, suc, _+_, _*_, _^_, _-_, _≤_, _<_}
-use native.Mathlib.Nat.{pow-suc, add-suc, add-zero, add-sub-of-le, le-dest, mul-le-mul-left, mul-pos, le-of-mul-le-mul-left, le-refl, le-trans, le-of-lt, sub-pos-iff-lt}
+use native.Mathlib.Nat.{pow-suc, add-suc, add-zero, add-sub-of-le, le-dest, mul-le-mul-left, mul-pos}
+use native.Mathlib.Nat.{le-of-mul-le-mul-left, le-refl, le-trans, le-of-lt, sub-pos-iff-lt}
 use native.Mathlib.Omega.{arith}
 use lib.Dec.{T, leb, leb→le}
 use Rattle.bounds.proofs.Product.{den, acc, num, den-pos, num-grow}

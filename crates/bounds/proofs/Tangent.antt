@@ -1,11 +1,15 @@
 -- E along a straight line to the first order, up to an exponent of 0, by the short exponential. From l to an m that is at most w above it, all in
--- units of 2⁻⁴⁰, and with x the computed E at l: E(a + b·m) is x + b·(m − l)·x or more, by the chord, and at most the square of w/4 more, by the tangent.
+-- units of 2⁻⁴⁰, and with x the computed E at l: E(a + b·m) is x + b·(m − l)·x or more, by the chord, and at most the
+-- square of w/4 more, by the tangent.
 -- Assumes nothing.
 use Prim.Native.Nat.{ℕ, _+_, _*_, _^_, _/_, _≤_}
 use native.Mathlib.Omega.{arith}
 use native.Mathlib.Nat.{mul-le-mul-right}
 use Rattle.numbers.specs.Fraction.{Fraction, _≤ᶠ_, _≈ᶠ_, _+ᶠ_, _-ᶠ_, _*ᶠ_, whole}
-use Rattle.numbers.proofs.Order.{NonNegative, whole-nonNegative, ≤-refl, ≤-trans, ≈-refl, ≈-sym, ≈-trans, ≈→≤, ≈→≥, ≈-by, +-mono, +-cong, +-comm, +-assoc, +-nonNegative, sub-nonNegative, sub-≤, ≤-sub, ≤-minus, regain, *-mono-left, *-mono-right, *-comm, *-one, *-distrib, +-times, ratio, ratio-≤, ratio-product, ratio-nonNegative}
+use Rattle.numbers.proofs.Order.{NonNegative, whole-nonNegative, ≤-refl, ≤-trans, ≈-refl, ≈-sym, ≈-trans, ≈→≤, ≈→≥}
+use Rattle.numbers.proofs.Order.{≈-by, +-mono, +-cong, +-comm, +-assoc, +-nonNegative, sub-nonNegative, sub-≤, ≤-sub}
+use Rattle.numbers.proofs.Order.{≤-minus, regain, *-mono-left, *-mono-right, *-comm, *-one, *-distrib, +-times, ratio}
+use Rattle.numbers.proofs.Order.{ratio-≤, ratio-product, ratio-nonNegative}
 use Rattle.bounds.specs.Series.{E, two-pos}
 use Rattle.bounds.specs.Enclosure.{Within}
 use Rattle.bounds.specs.Short.{shortExponent, short, lineExponent}
@@ -118,7 +122,9 @@ module _ (A K : ℕ) {l w : ℕ} (m : Fraction) (a : Within (2 ^ 40) l w m) (hK 
         ≤-trans (E-mono n (≈→≥ together))
         (≤-trans (E-tangent n first rise rise-nonNegative)
         (≤-trans (≈→≤ (+-comm _ _))
-        (≤-trans (+-mono (≤-trans (*-mono-right rise-nonNegative above) (≤-trans (≈→≤ (*-distrib rise (units x) (units (w / 4 + 16765)))) (+-mono along-x square))) (within-below unit-pos (E-first n n40)))
+        (≤-trans (+-mono (≤-trans (*-mono-right rise-nonNegative above)
+        (≤-trans (≈→≤ (*-distrib rise (units x) (units (w / 4 + 16765)))) (+-mono along-x square)))
+        (within-below unit-pos (E-first n n40)))
         (≤-trans (≈→≤ (≈-trans (+-cong (units-fold _ _ _) (≈-refl _)) (units-fold _ _ _))) (+-mono (≤-refl _) (units-≤ (omega arith)))))))
       where
         -- E there: its slope is at most 1

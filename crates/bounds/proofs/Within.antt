@@ -2,7 +2,8 @@
 -- values that are enclosed themselves.
 use Prim.Native.Nat.{ℕ, suc, zero, _+_, _*_, _-_, _^_, _/_, _≤_, _<_}
 use native.Mathlib.Omega.{arith}
-use native.Mathlib.Nat.{mul-le-mul-right, mul-le-mul-left, mul-le-mul, mul-pos, le-of-mul-le-mul-right, le-dest, div-mul-le-self, lt-div-mul-add, le-div-iff-mul-le}
+use native.Mathlib.Nat.{mul-le-mul-right, mul-le-mul-left, mul-le-mul, mul-pos, le-of-mul-le-mul-right, le-dest}
+use native.Mathlib.Nat.{div-mul-le-self, lt-div-mul-add, le-div-iff-mul-le}
 use mathlib.Core.Path.{ap}
 use Rattle.numbers.specs.Fraction.{Fraction, _≤ᶠ_, _≈ᶠ_, _+ᶠ_, negᶠ, _-ᶠ_, _*ᶠ_, whole, _/10^_, ten-pos, _over_, _times_}
 use Rattle.bounds.specs.Enclosure.{Within, WithinAll}
@@ -49,7 +50,13 @@ within-from p a b = record { above = omega (arith, a .cross); below = omega (ari
 -- values in order have bounds in order
 pub within-cross : {s l w m v : ℕ} {x y : Fraction} → Within s l w x → Within s m v y → x ≤ᶠ y → l ≤ m + v
 within-cross {s} {l} {w} {m} {v} {x} {y} a b h =
-    le-of-mul-le-mul-right {k = x .den * y .den} (omega (arith, mul-le-mul-right (y .den) (a .above), mul-le-mul-right (x .den) (b .below), mul-le-mul-right s (h .cross))) (mul-pos (x .pos) (y .pos))
+    le-of-mul-le-mul-right {k = x .den * y .den}
+    (omega (
+      arith,
+      mul-le-mul-right (y .den) (a .above),
+      mul-le-mul-right (x .den) (b .below),
+      mul-le-mul-right s (h .cross),
+    )) (mul-pos (x .pos) (y .pos))
 
 -- an enclosed value is at most a decimal number that its upper bound does not pass
 pub within-≤-decimal : {s l w : ℕ} {x : Fraction} (k places : ℕ) → 0 < s → Within s l w x → (l + w) * 10 ^ places ≤ k * s
@@ -104,7 +111,13 @@ whole-within s k = omega arith
 pub +-within : {s l w m v : ℕ} {x y : Fraction} → Within s l w x → Within s m v y → Within s (l + m) (w + v) (x +ᶠ y)
 unfolding _+ᶠ_
 +-within {x = x} {y = y} a b =
-    omega (arith, mul-le-mul-right (y .den) (a .above), mul-le-mul-right (x .den) (b .above), mul-le-mul-right (y .den) (a .below), mul-le-mul-right (x .den) (b .below))
+    omega (
+      arith,
+      mul-le-mul-right (y .den) (a .above),
+      mul-le-mul-right (x .den) (b .above),
+      mul-le-mul-right (y .den) (a .below),
+      mul-le-mul-right (x .den) (b .below),
+    )
 
 -- x − y where y ≤ x: the difference of the bounds less the width of y
 pub sub-within : {s l w m v : ℕ} {x y : Fraction} → y ≤ᶠ x → Within s l w x → Within s m v y → Within s (l - m - v) (w + v) (x -ᶠ y)
@@ -132,7 +145,13 @@ round-within {s} {l} {w} k {x} p a = record {
   above =
       le-of-mul-le-mul-right {k = k} (omega (arith, a .above, mul-le-mul-right (x .den) (div-mul-le-self l k))) p;
   below =
-      le-of-mul-le-mul-right {k = k} (omega (arith, a .below, mul-le-mul-right (x .den) (lt-div-mul-add {a = l} p), mul-le-mul-right (x .den) (lt-div-mul-add {a = w} p))) p;
+      le-of-mul-le-mul-right {k = k}
+      (omega (
+        arith,
+        a .below,
+        mul-le-mul-right (x .den) (lt-div-mul-add {a = l} p),
+        mul-le-mul-right (x .den) (lt-div-mul-add {a = w} p),
+      )) p;
 }
 
 -- x/k in the scale s·k

@@ -6,7 +6,8 @@ ghost use Prim.Native.Nat.{_*_, _^_, _<_, _≤_, _/_};
 ghost use Rattle.bounds.specs.Series.{E};
 ghost use Rattle.bounds.specs.Enclosure.{WithinAll};
 ghost use lib.ListN.{getD};
-ghost use Rattle.bounds.specs.Exponential.{exponent, middle, constants, entries, rest, quadratic, fine, exponential, exponentLimit, exponentialError};
+ghost use Rattle.bounds.specs.Exponential.{exponent, middle, constants, entries, rest, quadratic, fine};
+ghost use Rattle.bounds.specs.Exponential.{exponential, exponentLimit, exponentialError};
 
 // 1 / 16, the step of the first table, in units of 10^-14
 const COARSE_STEP: u64 = 6250000000000;

@@ -81,10 +81,12 @@ module _ {season : Season} {row : Row} (s : SeasonInRange season) (r : RowInRang
   -- the exponent at m_sat is at most 3
   full-exponent : (d : ℕ) → lineOf (basesOf season row d) (growthsOf season row d) (tenthGrams (row .saturation)) ≤ 19 * 2 ^ 53
   full-exponent d =
-      rw (lineExponent-is (baseAt season row (ahead d)) (growthAt season row (ahead d)) (tenthGrams (row .saturation))) at (full-exponent-most s r (ahead d))
+      rw (lineExponent-is (baseAt season row (ahead d)) (growthAt season row (ahead d)) (tenthGrams (row .saturation)))
+      at (full-exponent-most s r (ahead d))
 
   -- the starting loads can be found
-  pub loads-ready : {bases growths : List ℕ} → bases ≡ tab (basesOf season row) 25 → growths ≡ tab (growthsOf season row) 25 → LoadsReady row bases growths
+  pub loads-ready : {bases growths : List ℕ} → bases ≡ tab (basesOf season row) 25
+      → growths ≡ tab (growthsOf season row) 25 → LoadsReady row bases growths
   loads-ready eb eg = record {
     saturation-most = saturation-most s r p;
     load-most = r .load-most;
@@ -96,7 +98,9 @@ module _ {season : Season} {row : Row} (s : SeasonInRange season) (r : RowInRang
             growth-most = small-growth d;
             saturation-below = saturation-size s r p;
             net-below = h;
-            exponent-most = rw (lineExponent-is (baseAt season row (ahead d)) (growthAt season row (ahead d)) (tenthGrams (row .saturation))) at (driven-exponent-most s r (ahead d) (omega arith));
+            exponent-most = rw
+                (lineExponent-is (baseAt season row (ahead d)) (growthAt season row (ahead d))
+                (tenthGrams (row .saturation))) at (driven-exponent-most s r (ahead d) (omega arith));
           });
     };
   }
@@ -130,7 +134,9 @@ module _ {season : Season} {row : Row} (s : SeasonInRange season) (r : RowInRang
         let σ : ℕ = tenthGrams (row .saturation) in
         let load = start-below row (r .load-most) a k in
         let exponent : at (c .exponents) d ≡ lineOf a k (startsOf season row d)
-        = ap (λ (xs : List ℕ). at xs d) (f .by .exponents-are) ∙ getD-tab (λ (i : ℕ). lineOf (basesOf season row i) (growthsOf season row i) (startsOf season row i)) 25 d h in
+        = ap (λ (xs : List ℕ). at xs d) (f .by .exponents-are) ∙
+        getD-tab (λ (i : ℕ). lineOf (basesOf season row i) (growthsOf season row i) (startsOf season row i)) 25 d h
+        in
         let last : at (c .lasts) d ≡ lineOf a k σ
         = ap (λ (xs : List ℕ). at xs d) (f .by .lasts-are) ∙ getD-tab (λ (i : ℕ). lineOf (basesOf season row i) (growthsOf season row i) σ) 25 d h in
         let by : at (c .reaches) d ≡ reachOf k (gain season row)
@@ -158,7 +164,9 @@ pub through-is : {season : Season} {row : Row} {c : Curves} → row .load ≤ ro
 unfolding through throughUnits breakUnits risenLoss loss
 through-is {season} {row} {c} l f d rise h =
     let σ : ℕ = tenthGrams (row .saturation) in
-    let first = getD-tab (λ (d : ℕ). short (lineOf (basesOf season row d) (growthsOf season row d) (startsOf season row d)) * 2 ^ 4 + lossError row) 25 d h in
+    let first = getD-tab
+    (λ (d : ℕ). short (lineOf (basesOf season row d) (growthsOf season row d) (startsOf season row d)) * 2 ^ 4 +
+    lossError row) 25 d h in
     let exponent = getD-tab (λ (d : ℕ). lineOf (basesOf season row d) (growthsOf season row d) (startsOf season row d)) 25 d h in
     let last = getD-tab (λ (d : ℕ). lineOf (basesOf season row d) (growthsOf season row d) σ) 25 d h in
     let by = getD-tab (λ (d : ℕ). reachOf (growthsOf season row d) (gain season row)) 25 d h in
@@ -167,7 +175,20 @@ through-is {season} {row} {c} l f d rise h =
     let A : ℕ = baseAt season row (ahead d) in
     let K : ℕ = growthAt season row (ahead d) in
     rw (lineExponent-is A K (startsOf season row d), lineExponent-is A K σ, reach-is K (gain season row))
-    (rw (f .by .exponents-are, f .by .lasts-are, f .by .reaches-are, f .by .rooms-are, f .by .firsts-are, f .by .gain-is, exponent, last, by, room, first, over))
+    (rw (
+      f .by .exponents-are,
+      f .by .lasts-are,
+      f .by .reaches-are,
+      f .by .rooms-are,
+      f .by .firsts-are,
+      f .by .gain-is,
+      exponent,
+      last,
+      by,
+      room,
+      first,
+      over,
+    ))
 
 -- of no rise nothing breaks through
 pub through-none : (season : Season) (row : Row) (i : ℕ) → row .load ≤ row .saturation → throughUnits season row i 0 ≡ 0
@@ -177,11 +198,13 @@ through-none season row i l =
     let K : ℕ = growthAt season row i in
     let m : ℕ = startAt season row i in
     let below = start-below row l (binary A) (binary K) in
-    let same : min (lineExponent A K m + reach K (gain season row) * 0 / 2 ^ 23) (lineExponent A K (tenthGrams (row .saturation))) ≡ lineExponent A K m
+    let same : min (lineExponent A K m + reach K (gain season row) * 0 / 2 ^ 23)
+    (lineExponent A K (tenthGrams (row .saturation))) ≡ lineExponent A K m
     = omega (arith, lineExponent-mono A K below) in
     rw same (omega (arith, below))
 
 -- and so that of each mark that is as far from it
-pub through-alike : (season : Season) (row : Row) (i rise : ℕ) → i < 48 → throughUnits season row (ahead (apart i)) rise ≡ throughUnits season row i rise
+pub through-alike : (season : Season) (row : Row) (i rise : ℕ) → i < 48
+    → throughUnits season row (ahead (apart i)) rise ≡ throughUnits season row i rise
 unfolding throughUnits
 through-alike season row i rise h = rw (warmth-alike season i h)

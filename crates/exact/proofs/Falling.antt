@@ -32,7 +32,20 @@ counts = 1 ∷ []
 
 -- 60 g in a small canister that holds 62 g
 abbrev motorcycle : Row
-motorcycle = record { class = 9; canister = Small; carburettor = 0; hot = 0; fill = 40; tank = 200; vehicles = 1; trips = 100; minutes = 0; load = 600; saturation = 620; mileage = 0 }
+motorcycle = record {
+  class = 9;
+  canister = Small;
+  carburettor = 0;
+  hot = 0;
+  fill = 40;
+  tank = 200;
+  vehicles = 1;
+  trips = 100;
+  minutes = 0;
+  load = 600;
+  saturation = 620;
+  mileage = 0;
+}
 
 falls : T (not (factor 3 counts season motorcycle F2 ≤? factor 3 counts (atPressure season 900) motorcycle F2))
 unfolding definitions

@@ -5,7 +5,8 @@ use Prim.Native.Nat.{ℕ, _*_, _^_, _/_}
 use native.Mathlib.Omega.{arith}
 use Rattle.numbers.specs.Fraction.{Fraction, _≈ᶠ_, _≤ᶠ_, _+ᶠ_, _-ᶠ_, _*ᶠ_, whole}
 use Rattle.bounds.specs.Series.{root}
-use Rattle.numbers.proofs.Order.{≈-refl, ≈-sym, ≈-trans, ≈→≤, ≈→≥, ≤-refl, ≤-trans, ≤-antisym, +-cong, +-assoc, +-comm, +-zero, *-cong, sub-cong, sub-mono, sub-self, add-sub, test-cases}
+use Rattle.numbers.proofs.Order.{≈-refl, ≈-sym, ≈-trans, ≈→≤, ≈→≥, ≤-refl, ≤-trans, ≤-antisym, +-cong, +-assoc, +-comm}
+use Rattle.numbers.proofs.Order.{+-zero, *-cong, sub-cong, sub-mono, sub-self, add-sub, test-cases}
 use Rattle.bounds.proofs.Root.{root-square, four-power}
 use Rattle.bounds.proofs.Exponential.{E-cong, E-zero}
 use Rattle.exact.specs.Canister.{a, b, curve, breakthrough}
@@ -25,7 +26,10 @@ nothing-came {m} {v} h k =
 -- l + (m + v) − m − l = v: above m_sat, what comes goes
 overflow : (l m v : Fraction) → l +ᶠ (m +ᶠ v) -ᶠ m -ᶠ l ≈ᶠ v
 overflow l m v =
-    ≈-trans (sub-cong (≈-trans (sub-cong (≈-sym (+-assoc l m v)) (≈-refl m)) (≈-trans (sub-cong (≈-trans (+-cong (+-comm l m) (≈-refl v)) (≈-trans (+-assoc m l v) (+-comm m (l +ᶠ v)))) (≈-refl m)) (add-sub (l +ᶠ v) m))) (≈-refl l))
+    ≈-trans (sub-cong
+    (≈-trans (sub-cong (≈-sym (+-assoc l m v)) (≈-refl m))
+    (≈-trans (sub-cong (≈-trans (+-cong (+-comm l m) (≈-refl v)) (≈-trans (+-assoc m l v) (+-comm m (l +ᶠ v))))
+    (≈-refl m)) (add-sub (l +ᶠ v) m))) (≈-refl l))
     (≈-trans (sub-cong (+-comm l v) (≈-refl l)) (add-sub v l))
 
 -- "breakthrough from m1 = m_sat is v"

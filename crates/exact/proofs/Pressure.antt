@@ -4,7 +4,8 @@ use mathlib.Core.Bool.{Bool, true, false}
 use Prim.Native.Nat.{ℕ, suc, zero, _≤_}
 use native.Mathlib.Omega.{arith}
 use Rattle.numbers.specs.Fraction.{Fraction, _≤ᶠ_, _-ᶠ_, _*ᶠ_, whole, _/10^_}
-use Rattle.numbers.proofs.Order.{NonNegative, ≤-refl, test-cases, decimal-nonNegative, +-mono, +-nonNegative, sub-nonNegative, *-nonNegative, *-mono-left, *-mono-right}
+use Rattle.numbers.proofs.Order.{NonNegative, ≤-refl, test-cases, decimal-nonNegative, +-mono, +-nonNegative}
+use Rattle.numbers.proofs.Order.{sub-nonNegative, *-nonNegative, *-mono-left, *-mono-right}
 use Rattle.bounds.specs.Series.{E}
 use Rattle.bounds.proofs.Exponential.{E-mono}
 use Rattle.bounds.proofs.Root.{power2·5-nonNegative}

@@ -38,13 +38,16 @@ module _ (n : ℕ) {x : Fraction} (p : NonNegative x) where
   unfolding multiple multiples
   multiple-most j l =
       elim (decLe (suc (2 ^ n * (x .up - x .down) / x .den)) j) [
-        | yes g ↦ absurd (beyond (2 ^ n) (x .up) (x .down) (x .den) j _ (lt-div-mul-add {a = 2 ^ n * (x .up - x .down)} (x .pos)) (p .nonneg) g (l .cross))
+        | yes g ↦ absurd (beyond (2 ^ n) (x .up) (x .down) (x .den) j _
+            (lt-div-mul-add {a = 2 ^ n * (x .up - x .down)} (x .pos)) (p .nonneg) g (l .cross))
         | no g ↦ omega arith
       ]
 
 module _ (n : ℕ) (vp s T : Fraction) (M : ℕ) (saturation : Fraction) where
   -- none before k reaches, nor does k: none before its successor
-  later : (k : ℕ) → ((j : ℕ) → j < k → ¬ Reaches n vp s T M saturation (multiple n j)) → ¬ Reaches n vp s T M saturation (multiple n k) → (j : ℕ) → j < suc k → ¬ Reaches n vp s T M saturation (multiple n j)
+  later : (k : ℕ) → ((j : ℕ) → j < k → ¬ Reaches n vp s T M saturation (multiple n j))
+      → ¬ Reaches n vp s T M saturation (multiple n k) → (j : ℕ) → j < suc k
+      → ¬ Reaches n vp s T M saturation (multiple n j)
   later k before here j l =
       elim (decLe (suc j) k) [
         | yes h ↦ before j h
@@ -69,5 +72,6 @@ pub startingLoad-is : StartTheorem
 unfolding startingLoad
 startingLoad-is n vp s T M saturation h =
     let p = nonNegative h in
-    from-k n vp s T M saturation (suc (multiples n saturation)) 0 (λ j l. multiple-≤ n p j (omega arith)) (λ j l. let i = multiple-most n p j l in omega arith)
+    from-k n vp s T M saturation (suc (multiples n saturation)) 0 (λ j l. multiple-≤ n p j (omega arith))
+    (λ j l. let i = multiple-most n p j l in omega arith)
     (λ j l. absurd (omega arith))

@@ -6,14 +6,18 @@ use mathlib.Core.Path.{_≡_, sym, subst}
 use Prim.Native.Nat.{ℕ, suc, _*_, _≤_}
 use lib.Dec.{leb}
 use Rattle.numbers.specs.Fraction.{Fraction, _≤ᶠ_, _+ᶠ_, whole, _/10^_}
-use Rattle.numbers.proofs.Order.{NonNegative, ≤-refl, whole-nonNegative, decimal-nonNegative, decimal-mono, +-mono, +-grows, *-mono-right, over-mono, over-nonNegative, times-mono}
+use Rattle.numbers.proofs.Order.{NonNegative, ≤-refl, whole-nonNegative, decimal-nonNegative, decimal-mono, +-mono}
+use Rattle.numbers.proofs.Order.{+-grows, *-mono-right, over-mono, over-nonNegative, times-mono}
 use Rattle.exact.specs.declared.Canister.{Canister}
 use Rattle.exact.specs.declared.Canister.the-variants.{None}
 use Rattle.exact.specs.declared.Season.{Season}
 use Rattle.exact.specs.declared.Row.{Row}
 use Rattle.exact.specs.Day.{temperature}
 use Rattle.exact.specs.Canister.{escape}
-use Rattle.exact.specs.Factors.{Factor, F1, F2, F3, F4, F5, F6, F7, vp, rowVapour, rowEscape, escapeOver, openVapour, hours, T1, T2, diurnalFactor, soakPermeation, runningPermeation, carFactor, twoWheelerFactor, parkingFactor, endHour, duration, total, weightedSum, mean, factor}
+use Rattle.exact.specs.Factors.{Factor, F1, F2, F3, F4, F5, F6, F7, vp, rowVapour, rowEscape, escapeOver}
+use Rattle.exact.specs.Factors.{openVapour, hours, T1, T2, diurnalFactor, soakPermeation, runningPermeation}
+use Rattle.exact.specs.Factors.{carFactor, twoWheelerFactor, parkingFactor, endHour, duration, total, weightedSum}
+use Rattle.exact.specs.Factors.{mean, factor}
 use Rattle.exact.specs.Masses.{Mechanism, diurnal, soak, running, blend, dayMass, mass}
 use Rattle.exact.proofs.Pressure.{rest-nonNegative, permeation-rises, parkingPermeation-rises, vapour-rises, parkingVapour-rises}
 
@@ -50,7 +54,9 @@ module _ (n : ℕ) (season : Season) (k : ℕ) (l : season .vp ≤ k) (row : Row
 
   rowVapour-rises : {T U : Fraction} → T ≤ᶠ U → rowVapour n season row T U ≤ᶠ rowVapour n volatile row T U
   unfolding rowVapour
-  rowVapour-rises h = vapour-rises n vp-rises (row .fill /10^ 2) (row .tank /10^ 1) (rest-nonNegative (o .fill-most)) (decimal-nonNegative (row .tank) 1) h
+  rowVapour-rises h =
+      vapour-rises n vp-rises (row .fill /10^ 2) (row .tank /10^ 1) (rest-nonNegative (o .fill-most))
+      (decimal-nonNegative (row .tank) 1) h
 
   escapeOver-rises : (T : Fraction) {rise : Fraction} → NonNegative rise → escapeOver n season row T rise ≤ᶠ escapeOver n volatile row T rise
   unfolding escapeOver
@@ -70,7 +76,8 @@ module _ (n : ℕ) (season : Season) (k : ℕ) (l : season .vp ≤ k) (row : Row
     diurnal-rises =
         rw (all-escapes n season row o _ _, all-escapes n volatile row o _ _)
         (+-mono
-        (parkingVapour-rises n vp-rises (row .fill /10^ 2) (row .tank /10^ 1) (rest-nonNegative (o .fill-most)) (decimal-nonNegative (row .tank) 1) (temperature season) hour d)
+        (parkingVapour-rises n vp-rises (row .fill /10^ 2) (row .tank /10^ 1) (rest-nonNegative (o .fill-most))
+        (decimal-nonNegative (row .tank) 1) (temperature season) hour d)
         (parkingPermeation-rises n vp-rises (temperature season) hour d))
 
     soak-rises : soakPermeation n season row hour d ≤ᶠ soakPermeation n volatile row hour d
@@ -93,7 +100,8 @@ module _ (n : ℕ) (season : Season) (k : ℕ) (l : season .vp ≤ k) (row : Row
     end-escape h = escapeOver-rises (T2 n season row hour d) h
 
     end-open : {rise : Fraction} → NonNegative rise
-        → openVapour n season row (row .canister) (T2 n season row hour d) rise ≤ᶠ openVapour n volatile row (row .canister) (T2 n volatile row hour d) rise
+        → openVapour n season row (row .canister) (T2 n season row hour d) rise ≤ᶠ openVapour n volatile row
+        (row .canister) (T2 n volatile row hour d) rise
     unfolding temperature T2
     end-open h = openVapour-rises (T2 n season row hour d) h
 

@@ -14,11 +14,13 @@ use Rattle.numbers.proofs.Order.{sub-cong, +-mono, +-cong, +-assoc, +-zero, +-g
 use Rattle.bounds.proofs.Exponential.{E-cong, E-mono}
 use Rattle.bounds.specs.Short.{short, lineExponent, reach}
 use Rattle.bounds.proofs.Line.{double-unit-pos, rising, along, along-is, along-risen, along-mono}
-use Rattle.bounds.proofs.ShortLine.{Held, ShortSlope, held-within, held-≈, finer, lineWidth, line-held, lineExponent-mono, reach-within, reach-most, riseWidth, rise-held}
+use Rattle.bounds.proofs.ShortLine.{Held, ShortSlope, held-within, held-≈, finer, lineWidth, line-held}
+use Rattle.bounds.proofs.ShortLine.{lineExponent-mono, reach-within, reach-most, riseWidth, rise-held}
 use Rattle.bounds.proofs.Within.{widen, weaken, within-≈, within-nonNegative, +-within, sub-within, *-within-rounded}
 use Rattle.exact.specs.Canister.{a, b, curve, B, breakthrough}
 use Rattle.factors.specs.Escape.{loss, risenLoss, breakUnits}
-use Rattle.factors.proofs.Excess.{smaller, excess, smaller-left, smaller-right, smaller-greatest, smaller-map, smaller-held, excess-mono, excess-within}
+use Rattle.factors.proofs.Excess.{smaller, excess, smaller-left, smaller-right, smaller-greatest, smaller-map}
+use Rattle.factors.proofs.Excess.{smaller-held, excess-mono, excess-within}
 
 -- B(m) in one formula.
 
@@ -127,7 +129,8 @@ module _ (sl : ShortSlope) (n A K : ℕ) {σ : ℕ} (vp s saturation T : Fractio
         unfolding risenLoss
         risen-loss-within =
             within-≈ (≈-sym (B-capped (m1 +ᶠ γ *ᶠ ρ)))
-            (weaken (+-within (capped-within (omega arith) risen-held) (excess-within (+-within load vapour-within) full)) (omega arith) (omega arith))
+            (weaken (+-within (capped-within (omega arith) risen-held)
+            (excess-within (+-within load vapour-within) full)) (omega arith) (omega arith))
 
         -- B(m1 + g·r) − B(m1) from below, where B(m1) is at most e above its loss
         pub break-within : (e : ℕ) → lossWidth sl u ≤ e

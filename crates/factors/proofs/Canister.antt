@@ -169,13 +169,15 @@ module _ {season : Season} {row : Row} (s : SeasonInRange season) (r : RowInRang
     -- from 17 km on the steps find the load
     driven-load : 17 ≤ row .mileage
         → Within (2 ^ 40)
-        (startUnits (binary (baseAt season row i)) (binary (growthAt season row i)) (halves (row .canister)) (tenthGrams (row .saturation)) (row .mileage)) startError
+        (startUnits (binary (baseAt season row i)) (binary (growthAt season row i)) (halves (row .canister))
+        (tenthGrams (row .saturation)) (row .mileage)) startError
         (rowLoad n season row T)
     driven-load km =
         rw (load-driven n season row T (λ e. omega arith))
         (mileage-within _ _ (halves (row .canister)) _ (row .mileage) (season .vp /10^ 1) (size (row .canister)) (row .saturation /10^ 1) T
         a-is (b-is (size-is (row .canister))) (size-is (row .canister)) (r .driven (omega arith) .canister-there) gentle
-        (full-most (r .driven (omega arith) .canister-there)) (unsaturated i (omega arith)) (tenthGrams-within (row .saturation)) km (r .mileage-most) .at n n40)
+        (full-most (r .driven (omega arith) .canister-there)) (unsaturated i (omega arith))
+        (tenthGrams-within (row .saturation)) km (r .mileage-most) .at n n40)
 
     -- up to 16 km it is 0, and so is the written one; without mileage it is the written one
     written-load : row .mileage < 17 → Within (2 ^ 40) (tenthGrams (row .load)) 1 (rowLoad n season row T)
@@ -190,30 +192,40 @@ module _ {season : Season} {row : Row} (s : SeasonInRange season) (r : RowInRang
         ]
 
     -- what breaks through a canister of size z of the vapour g·r, for a rise r of at most R that is known within w
-    module _ {z : Fraction} (sized : z ≈ᶠ ratio (halves (row .canister)) 2 halves-pos) (there : 0 < halves (row .canister)) {rise w : ℕ} (R : ℕ) {ρ : Fraction}
+    module _ {z : Fraction} (sized : z ≈ᶠ ratio (halves (row .canister)) 2 halves-pos)
+        (there : 0 < halves (row .canister)) {rise w : ℕ} (R : ℕ) {ρ : Fraction}
         (small : rise ≤ R * 2 ^ 40) (known : Within (2 ^ 40) rise w ρ)
       where
         through-by : (byMileage : Bool) → leb 17 (row .mileage) ≡ byMileage
             → Within (2 ^ 40)
-            (breakUnits (baseAt season row i) (growthAt season row i) (tenthGrams (row .saturation)) (lossError row) (startAt season row i) (gain season row) rise)
-            (throughWidth byMileage R w) (breakthrough n (season .vp /10^ 1) z (row .saturation /10^ 1) T (rowLoad n season row T) (exactGain season row n *ᶠ ρ))
+            (breakUnits (baseAt season row i) (growthAt season row i) (tenthGrams (row .saturation)) (lossError row)
+            (startAt season row i) (gain season row) rise)
+            (throughWidth byMileage R w)
+            (breakthrough n (season .vp /10^ 1) z (row .saturation /10^ 1) T (rowLoad n season row T)
+            (exactGain season row n *ᶠ ρ))
         through-by true e =
             let km : 17 ≤ row .mileage = leb-true 17 (row .mileage) e in
-            let below = rw (start-driven row (binary (baseAt season row i)) (binary (growthAt season row i)) km) at (start-below row (r .load-most) (binary (baseAt season row i)) (binary (growthAt season row i))) in
+            let below = rw (start-driven row (binary (baseAt season row i)) (binary (growthAt season row i)) km) at
+            (start-below row (r .load-most) (binary (baseAt season row i)) (binary (growthAt season row i))) in
             rw (error-driven row km, start-driven row (binary (baseAt season row i)) (binary (growthAt season row i)) km)
-            (break-within shortTo0 n _ _ (season .vp /10^ 1) z (row .saturation /10^ 1) T n40 a-is (b-is sized) gentle (full-most there) (unsaturated i (omega arith))
-            (tenthGrams-within (row .saturation)) R (omega arith) (omega arith) below (gain-most s r) small (driven-load km) (gain-within s r .at n n40) known
+            (break-within shortTo0 n _ _ (season .vp /10^ 1) z (row .saturation /10^ 1) T n40 a-is (b-is sized) gentle
+            (full-most there) (unsaturated i (omega arith))
+            (tenthGrams-within (row .saturation)) R (omega arith) (omega arith) below (gain-most s r) small
+            (driven-load km) (gain-within s r .at n n40) known
             drivenError (omega arith))
         through-by false e =
             let few : row .mileage < 17 = leb-false 17 (row .mileage) e in
-            let below = rw (start-written row (binary (baseAt season row i)) (binary (growthAt season row i)) few) at (start-below row (r .load-most) (binary (baseAt season row i)) (binary (growthAt season row i))) in
+            let below = rw (start-written row (binary (baseAt season row i)) (binary (growthAt season row i)) few) at
+            (start-below row (r .load-most) (binary (baseAt season row i)) (binary (growthAt season row i))) in
             rw (error-written row few, start-written row (binary (baseAt season row i)) (binary (growthAt season row i)) few)
             (break-within shortTo3 n _ _ (season .vp /10^ 1) z (row .saturation /10^ 1) T n40 a-is (b-is sized) gentle (full-most there) (saturated i)
-            (tenthGrams-within (row .saturation)) R (omega arith) (omega arith) below (gain-most s r) small (written-load few) (gain-within s r .at n n40) known
+            (tenthGrams-within (row .saturation)) R (omega arith) (omega arith) below (gain-most s r) small
+            (written-load few) (gain-within s r .at n n40) known
             writtenError (omega arith))
 
         pub through-within : Within (2 ^ 40)
-            (breakUnits (baseAt season row i) (growthAt season row i) (tenthGrams (row .saturation)) (lossError row) (startAt season row i) (gain season row) rise)
+            (breakUnits (baseAt season row i) (growthAt season row i) (tenthGrams (row .saturation)) (lossError row)
+            (startAt season row i) (gain season row) rise)
             (throughWidth (leb 17 (row .mileage)) R w)
             (breakthrough n (season .vp /10^ 1) z (row .saturation /10^ 1) T (rowLoad n season row T) (exactGain season row n *ᶠ ρ))
         through-within = through-by (leb 17 (row .mileage)) refl

@@ -59,7 +59,8 @@ module _ {season : Season} {row : Row} (s : SeasonInRange season) (r : RowInRang
       through-mean : {z : Fraction} → z ≈ᶠ ratio (halves (row .canister)) 2 halves-pos → 0 < halves (row .canister)
           → WithinAll (2 ^ 28) (meanUnits counts (λ (cell : ℕ). throughUnits season row (mark cell) (rise cell)))
           (throughWidth (leb 17 (row .mileage)) R w / 2 ^ 12 + 3)
-          (λ n. mean (λ (cell : ℕ). breakthrough n (season .vp /10^ 1) z (row .saturation /10^ 1) (T cell) (rowLoad n season row (T cell)) (y n cell)) counts)
+          (λ n. mean (λ (cell : ℕ). breakthrough n (season .vp /10^ 1) z (row .saturation /10^ 1) (T cell)
+          (rowLoad n season row (T cell)) (y n cell)) counts)
       unfolding throughUnits
       through-mean {z} e there =
           mean-within counts p _
@@ -67,7 +68,8 @@ module _ {season : Season} {row : Row} (s : SeasonInRange season) (r : RowInRang
           (λ cell.
           record {
             at = λ n n40.
-                within-≈ (breakthrough-cong n (season .vp /10^ 1) z (row .saturation /10^ 1) (T cell) (rowLoad n season row (T cell)) (b-nonNegative s r n (mark cell) n40 (here cell) e)
+                within-≈ (breakthrough-cong n (season .vp /10^ 1) z (row .saturation /10^ 1) (T cell)
+                (rowLoad n season row (T cell)) (b-nonNegative s r n (mark cell) n40 (here cell) e)
                 (≈-sym (driven n cell)))
                 (through-within s r n (mark cell) n40 (here cell) e there R (small cell) (known cell .at n n40));
           })
@@ -77,7 +79,8 @@ module _ {season : Season} {row : Row} (s : SeasonInRange season) (r : RowInRang
           → (R * 2 ^ 28 * 313 + 36 * 2 ^ 40 * (w / 2 ^ 12 + 3) + (w / 2 ^ 12 + 3) * 313) / 2 ^ 40 + 2 ≤ W
           → ((byMileage : Bool) → throughWidth byMileage R w / 2 ^ 12 + 3 ≤ W)
           → WithinAll (2 ^ 28) (escapeUnits season row counts c mark rise) W
-          (λ n. mean (λ (cell : ℕ). escape n (season .vp /10^ 1) (row .saturation /10^ 1) (rowLoad n season row (T cell)) (T cell) c (y n cell)) counts)
+          (λ n. mean (λ (cell : ℕ). escape n (season .vp /10^ 1) (row .saturation /10^ 1)
+          (rowLoad n season row (T cell)) (T cell) c (y n cell)) counts)
       unfolding escapeUnits escape halves
       escape-within None e W o t = all-map (λ n a. widen a o) open-within
       escape-within Small e W o t = all-map (λ n a. widen a (t (leb 17 (row .mileage)))) (through-mean (rw e (size-is Small)) (rw e (omega arith)))

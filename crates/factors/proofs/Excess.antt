@@ -7,7 +7,8 @@ use native.Mathlib.Decide.{decLe}
 use native.Mathlib.Nat.{mul-le-mul-right}
 use Rattle.numbers.specs.Fraction.{Fraction, _≤ᶠ_, _≈ᶠ_, _≤?_, _+ᶠ_, _-ᶠ_, whole}
 use Rattle.bounds.specs.Enclosure.{Within}
-use Rattle.numbers.proofs.Order.{nonNegative→≤, test-cases, not-≤→<, <→≤, ≤-refl, ≤-trans, ≤-antisym, ≈→≥, +-mono, +-zero, sub-mono, sub-nonNegative, ≤-sub, ratio-≤}
+use Rattle.numbers.proofs.Order.{nonNegative→≤, test-cases, not-≤→<, <→≤, ≤-refl, ≤-trans, ≤-antisym, ≈→≥, +-mono}
+use Rattle.numbers.proofs.Order.{+-zero, sub-mono, sub-nonNegative, ≤-sub, ratio-≤}
 use Rattle.bounds.proofs.ShortLine.{Held}
 use Rattle.bounds.proofs.Within.{weaken, within-≈, within-above, within-below, within-from, within-cross, whole-within, sub-within}
 
@@ -74,7 +75,8 @@ pub smaller-map : (f : Fraction → Fraction) (x y : Fraction) → ((u v : Fract
 unfolding smaller
 smaller-map f x y grows =
     ≤-antisym (smaller-greatest (grows (smaller x y) x (smaller-left x y)) (grows (smaller x y) y (smaller-right x y)))
-    (test-cases (λ (c : Bool). smaller (f x) (f y) ≤ᶠ f (elim c [ true ↦ x | false ↦ y ])) x y (λ _. smaller-left (f x) (f y)) (λ _. smaller-right (f x) (f y)))
+    (test-cases (λ (c : Bool). smaller (f x) (f y) ≤ᶠ f (elim c [ true ↦ x | false ↦ y ])) x y
+    (λ _. smaller-left (f x) (f y)) (λ _. smaller-right (f x) (f y)))
 
 -- Enclosures.
 

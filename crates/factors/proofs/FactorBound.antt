@@ -13,18 +13,24 @@ use Rattle.bounds.proofs.Within.{widen, within-≈, +-within, within-≤-decima
 use Rattle.exact.specs.declared.Season.{Season}
 use Rattle.exact.specs.declared.Row.{Row}
 use Rattle.exact.specs.Day.{temperature}
-use Rattle.exact.specs.Factors.{escapeOver, openVapour, Factor, F1, F2, F3, F4, F5, F6, F7, T1, T2, diurnalFactor, soakPermeation, runningPermeation, carFactor, twoWheelerFactor, parkingFactor, endHour, duration, total, mean, factor}
+use Rattle.exact.specs.Factors.{escapeOver, openVapour, Factor, F1, F2, F3, F4, F5, F6, F7, T1, T2, diurnalFactor}
+use Rattle.exact.specs.Factors.{soakPermeation, runningPermeation, carFactor, twoWheelerFactor, parkingFactor, endHour}
+use Rattle.exact.specs.Factors.{duration, total, mean, factor}
 use Rattle.sheet.specs.Range.{SeasonInRange}
 use Rattle.marks.specs.Marks.{tenths}
 use Rattle.marks.proofs.MarkTemperatures.{temperature-tenths, temperature-whole}
 use Rattle.sheet.specs.Range.{RowInRange}
-use Rattle.factors.specs.Units.{startOf, endOf, escapeOverUnits, openUnits, diurnalUnits, soakUnits, runningUnits, carUnits, twoWheelerUnits, factorUnits, factorError, lowMicrograms, highMicrograms}
+use Rattle.factors.specs.Units.{startOf, endOf, escapeOverUnits, openUnits, diurnalUnits, soakUnits, runningUnits}
+use Rattle.factors.specs.Units.{carUnits, twoWheelerUnits, factorUnits, factorError, lowMicrograms}
+use Rattle.factors.specs.Units.{highMicrograms}
 use Rattle.factors.proofs.Mean.{mean-+}
-use Rattle.factors.proofs.Losses.{raiseError, openError, parking-escape-within, over-within, opened-within, rate-mean, parking-permeation-within, hourly-within}
+use Rattle.factors.proofs.Losses.{raiseError, openError, parking-escape-within, over-within, opened-within}
+use Rattle.factors.proofs.Losses.{rate-mean, parking-permeation-within, hourly-within}
 
 -- the mean of a sum from the means of its parts
 sum-within : {u w v z : ℕ} {W : ℕ} (counts : List ℕ) (f g : ℕ → ℕ → Fraction) → WithinAll (2 ^ 28) u w (λ n. mean (f n) counts)
-    → WithinAll (2 ^ 28) v z (λ n. mean (g n) counts) → w + z ≤ W → WithinAll (2 ^ 28) (u + v) W (λ n. mean (λ (cell : ℕ). f n cell +ᶠ g n cell) counts)
+    → WithinAll (2 ^ 28) v z (λ n. mean (g n) counts) → w + z ≤ W
+    → WithinAll (2 ^ 28) (u + v) W (λ n. mean (λ (cell : ℕ). f n cell +ᶠ g n cell) counts)
 sum-within counts f g a b h =
     all-map₂ (λ n c d. within-≈ (≈-sym (mean-+ (f n) (g n) counts)) (widen (+-within c d) h)) a b
 

@@ -128,7 +128,8 @@ module _ {season : Season} {row : Row} (s : SeasonInRange season) (r : RowInRang
           (λ n. mean (λ (cell : ℕ). escapeOver n season row (temperature season (mark cell)) amount) counts)
       unfolding escapeOverUnits escapeOver rowEscape vp
       over-within =
-          escape-within s r counts p 56 mark (λ (cell : ℕ). raise (tenths k) (markWarmth season (mark cell))) (λ (cell : ℕ). temperature season (mark cell))
+          escape-within s r counts p 56 mark (λ (cell : ℕ). raise (tenths k) (markWarmth season (mark cell)))
+          (λ (cell : ℕ). temperature season (mark cell))
           exactRise (λ n cell. rowVapour n season row (temperature season (mark cell)) (temperature season (mark cell) +ᶠ amount))
           (λ cell. temperature-is (mark cell) s) raise-small raise-known raise-driven (row .canister) refl raiseError (omega arith) raise-fits
 
@@ -140,8 +141,11 @@ module _ {season : Season} {row : Row} (s : SeasonInRange season) (r : RowInRang
   unfolding openUnits openVapour
   opened-within amount k h raised None =
       all-map (λ n a. widen a (omega arith))
-      (open-within s r counts p 56 endOf (λ (cell : ℕ). raise (tenths k) (markWarmth season (endOf cell))) (λ (cell : ℕ). temperature season (endOf cell))
-      (exactRise endOf amount k h raised) (λ n cell. rowVapour n season row (temperature season (endOf cell)) (temperature season (endOf cell) +ᶠ amount))
+      (open-within s r counts p 56 endOf (λ (cell : ℕ). raise (tenths k) (markWarmth season (endOf cell)))
+      (λ (cell : ℕ). temperature season (endOf cell))
+      (exactRise endOf amount k h raised)
+      (λ n cell. rowVapour n season row (temperature season (endOf cell))
+      (temperature season (endOf cell) +ᶠ amount))
       (λ cell. temperature-is (endOf cell) s) (raise-small endOf amount k h raised) (raise-known endOf amount k h raised)
       (raise-driven endOf amount k h raised))
   opened-within amount k h raised Small = nothing counts

@@ -102,7 +102,12 @@ module _ {season : Season} {row : Row} (s : SeasonInRange season) (r : RowInRang
   pub parking-permeation-most : (cell : ℕ) → parkingRates season cell / 2 ≤ 12 * 2 ^ 40
   unfolding parkingRates
   parking-permeation-most cell =
-      omega (arith, rates-most (season .vp) (markWarmth season) (s .vp-most) (λ i. omega (arith, warmth-most i s)) (endHour cell) (duration cell), duration-most cell)
+      omega (
+        arith,
+        rates-most (season .vp) (markWarmth season) (s .vp-most) (λ i. omega (arith, warmth-most i s))
+            (endHour cell) (duration cell),
+        duration-most cell,
+      )
 
   -- permeation per hour up to 15 °C above mark i
   pub raised-rate-most : (k i : ℕ) → k ≤ 150 → rate (season .vp) (markWarmth season i + tenths k) ≤ 2 ^ 40
@@ -130,7 +135,12 @@ module _ {season : Season} {row : Row} (s : SeasonInRange season) (r : RowInRang
     diurnal-most : diurnalUnits season row counts ≤ 2625 * 2 ^ 28
     unfolding diurnalUnits
     diurnal-most =
-        omega (arith, escape-most 72 startOf (parkingRise season) parking-rise-most (row .canister), meanUnits-most counts (λ (cell : ℕ). parkingRates season cell / 2) (12 * 2 ^ 28) (λ cell. omega (arith, parking-permeation-most cell)))
+        omega (
+          arith,
+          escape-most 72 startOf (parkingRise season) parking-rise-most (row .canister),
+          meanUnits-most counts (λ (cell : ℕ). parkingRates season cell / 2) (12 * 2 ^ 28)
+              (λ cell. omega (arith, parking-permeation-most cell)),
+        )
 
     -- the mean escape over a raise
     over-most : (mark : ℕ → ℕ) (k : ℕ) → k ≤ 60 → escapeOverUnits season row counts mark (tenths k) ≤ 2037 * 2 ^ 28
@@ -139,7 +149,8 @@ module _ {season : Season} {row : Row} (s : SeasonInRange season) (r : RowInRang
         escape-most 56 mark (λ (cell : ℕ). raise (tenths k) (markWarmth season (mark cell))) (λ cell. raise-rise-most k (mark cell) h) (row .canister)
 
     -- the mean permeation per hour
-    rate-mean-most : (mark : ℕ → ℕ) (k : ℕ) → k ≤ 150 → meanUnits counts (λ (cell : ℕ). rate (season .vp) (markWarmth season (mark cell) + tenths k)) ≤ 2 ^ 28
+    rate-mean-most : (mark : ℕ → ℕ) (k : ℕ) → k ≤ 150
+        → meanUnits counts (λ (cell : ℕ). rate (season .vp) (markWarmth season (mark cell) + tenths k)) ≤ 2 ^ 28
     rate-mean-most mark k h = meanUnits-most counts _ (2 ^ 28) (λ cell. omega (arith, raised-rate-most k (mark cell) h))
 
     -- the mean vapour over a raise, without canister
@@ -147,7 +158,8 @@ module _ {season : Season} {row : Row} (s : SeasonInRange season) (r : RowInRang
     unfolding openUnits
     open-most k h None =
         vapourUnits-most (56 * 2 ^ 28)
-        (meanUnits-most counts (λ (cell : ℕ). raise (tenths k) (markWarmth season (endOf cell))) (56 * 2 ^ 28) (λ cell. omega (arith, raise-rise-most k (endOf cell) h)))
+        (meanUnits-most counts (λ (cell : ℕ). raise (tenths k) (markWarmth season (endOf cell))) (56 * 2 ^ 28)
+        (λ cell. omega (arith, raise-rise-most k (endOf cell) h)))
     open-most k h Small = omega arith
     open-most k h Medium = omega arith
     open-most k h Large = omega arith

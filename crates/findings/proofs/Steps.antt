@@ -30,7 +30,8 @@ pub each-none : (find : ℕ → Finding) {r : Finding} → r ≡ nothing → r �
 unfolding eachFinding
 each-none find e = e
 
-pub each-more : (find : ℕ → Finding) (i : ℕ) {found one r : Finding} → found ≡ eachFinding find i → one ≡ find i → r ≡ (found orElse one) → r ≡ eachFinding find (i + 1)
+pub each-more : (find : ℕ → Finding) (i : ℕ) {found one r : Finding} → found ≡ eachFinding find i → one ≡ find i
+    → r ≡ (found orElse one) → r ≡ eachFinding find (i + 1)
 unfolding eachFinding
 each-more find i e h g = rw (add-one, g, e, h)
 

@@ -50,7 +50,8 @@ pub factor-says : (s : List ℕ) (season row k : ℕ)
 factor-says s season row k = says (factorCheck s season row k) (factor-judged s season row k) (λ p. last-no-zero s p (omega arith))
 
 -- so a call with number 0 has passed every check
-pub number-zero : (s : List ℕ) (c : Check) {number place : ℕ} {A : Type 0} → Judges c (demands s next demand number place A) → 0 < number → numberOf c ≡ 0 → c ≡ Pass
+pub number-zero : (s : List ℕ) (c : Check) {number place : ℕ} {A : Type 0}
+    → Judges c (demands s next demand number place A) → 0 < number → numberOf c ≡ 0 → c ≡ Pass
 unfolding numberOf
 number-zero s Pass j positive h = refl
 number-zero s (Refused number place) j positive h = absurd (last-no-zero s place positive (rw h at (j .refuses number place refl)))

@@ -74,7 +74,13 @@ module _ {s s' : List ℕ} (a : Alike s s') where
   -- the grand total
   grandTotal-same : (j : ℕ) → grandTotal s' j ≡ grandTotal s j
   unfolding grandTotal
-  grandTotal-same j = rw (a .rows-same, subtotal-same _ (rowsOf s) j (omega arith), subtotal-same _ (rowsOf s) (2 + j) (omega arith), subtotal-same _ (rowsOf s) (4 + j) (omega arith))
+  grandTotal-same j =
+      rw (
+        a .rows-same,
+        subtotal-same _ (rowsOf s) j (omega arith),
+        subtotal-same _ (rowsOf s) (2 + j) (omega arith),
+        subtotal-same _ (rowsOf s) (4 + j) (omega arith),
+      )
 
   -- all words of the report
   pub report-alike : report s' ≡ report s

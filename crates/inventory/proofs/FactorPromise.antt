@@ -13,7 +13,9 @@ use Rattle.sheet.specs.Demands.{Says}
 use Rattle.sheet.proofs.Accepted.{Bytes}
 use Rattle.inventory.specs.declared.FactorAnswer.{FactorAnswer}
 use Rattle.inventory.specs.declared.FactorAnswer.the-variants as answer
-use Rattle.inventory.specs.FactorCall.{numbered, factorCheck, unitsAt, factorAnswered, factorAnswer, FactorBand, answerNumber, answerPlace, answerLow, answerHigh, factorDemands, FactorCall}
+use Rattle.inventory.specs.FactorCall.{numbered, factorCheck, unitsAt, factorAnswered, factorAnswer, FactorBand}
+use Rattle.inventory.specs.FactorCall.{answerNumber, answerPlace, answerLow, answerHigh, factorDemands}
+use Rattle.inventory.specs.FactorCall.{FactorCall}
 use Rattle.sheet_factors.proofs.AcceptedRange.{enclosed}
 use Rattle.inventory.proofs.CallConditions.{factor-accepted, factor-judged, factor-says, number-zero}
 
@@ -33,14 +35,16 @@ module _ (s : List ℕ) (season row k : ℕ) (bytes : Bytes s) where
 
   -- for either outcome of the checks
   reply-kept : (c : Check) → factorCheck s season row k ≡ c → {r : FactorAnswer} → r ≡ factorAnswered c (unitsAt s season row k)
-      → Says (factorDemands s season row k) (answerNumber r) (answerPlace r) × (answerNumber r ≡ 0 → FactorBand s season row k (answerLow r) (answerHigh r))
+      → Says (factorDemands s season row k) (answerNumber r) (answerPlace r)
+      × (answerNumber r ≡ 0 → FactorBand s season row k (answerLow r) (answerHigh r))
   unfolding factorAnswered answerNumber answerPlace answerLow answerHigh numberOf placeOf
   reply-kept Pass h e = rw e (rw h at (factor-says s season row k), λ _. factor-band h)
   reply-kept (Refused number place) h e =
       rw e (
         rw h at (factor-says s season row k),
         λ zero.
-            let passed : factorCheck s season row k ≡ Pass = number-zero s (factorCheck s season row k) (factor-judged s season row k) (omega arith) (rw h zero) in
+            let passed : factorCheck s season row k ≡ Pass =
+            number-zero s (factorCheck s season row k) (factor-judged s season row k) (omega arith) (rw h zero) in
             let clash : _≡_ {A = ℕ} 0 1 = cc in
             absurd (omega arith),
       )
@@ -50,7 +54,8 @@ module _ (s : List ℕ) (season row k : ℕ) (bytes : Bytes s) where
   unfolding factorAnswer factorAnswered
   refusal-is h = rw h
 
-  pub band-is : {low high units : ℕ} → factorCheck s season row k ≡ Pass → units ≡ unitsAt s season row k → low ≡ lowMicrograms units → high ≡ highMicrograms units
+  pub band-is : {low high units : ℕ} → factorCheck s season row k ≡ Pass → units ≡ unitsAt s season row k
+      → low ≡ lowMicrograms units → high ≡ highMicrograms units
       → answer.Band low high ≡ factorAnswer s season row k
   unfolding factorAnswer factorAnswered
   band-is h u l g = rw (h, l, g, u)

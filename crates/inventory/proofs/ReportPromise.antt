@@ -20,7 +20,8 @@ use Rattle.inventory.proofs.CallConditions.{report-judged, report-says,
 use Rattle.inventory.proofs.Written.{written-first}
 
 -- What holds after the call.
-pub report-answer : {s old words : List ℕ} {r : Check} → Bytes s → r ≡ reportCheck s (length old) → words ≡ written r (report s) old → ReportCall s old words r
+pub report-answer : {s old words : List ℕ} {r : Check} → Bytes s → r ≡ reportCheck s (length old)
+    → words ≡ written r (report s) old → ReportCall s old words r
 unfolding reportCheck reportLength
 report-answer {s} {old} {words} {r} bytes e w =
     record {
@@ -28,7 +29,8 @@ report-answer {s} {old} {words} {r} bytes e w =
       words-are = w;
       says = rw e (report-says s (length old));
       promise = λ zero.
-          let passed : reportCheck s (length old) ≡ Pass = number-zero s (reportCheck s (length old)) (report-judged s (length old)) (omega arith) (rw e at zero) in
+          let passed : reportCheck s (length old) ≡ Pass =
+          number-zero s (reportCheck s (length old)) (report-judged s (length old)) (omega arith) (rw e at zero) in
           promise bytes (accepted s (then-pass _ _ passed .0))
           (record { word = λ k l. rw (w, e, passed) (written-first (report s) old k (omega (arith, report-length s))) });
     }

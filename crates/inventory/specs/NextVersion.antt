@@ -21,7 +21,8 @@ pub record SameCount (s t : List ℕ) (i j : ℕ) : Type 0 where
   pub no-mileage : (rowAt t j) .mileage ≡ 0
   pub factors : (n season : ℕ) (k : Factor) → season < seasonsOf s
       → factor n (cellsOf t) (seasonAt t season) (rowAt t j) k ≡ factor n (cellsOf s) (seasonAt s season) (rowAt s i) k
-  pub masses : (n : ℕ) (mechanism : Mechanism) → mass n (cellsOf t) (seasonList t) (rowAt t j) mechanism ≡ mass n (cellsOf s) (seasonList s) (rowAt s i) mechanism
+  pub masses : (n : ℕ) (mechanism : Mechanism) → mass n (cellsOf t) (seasonList t) (rowAt t j) mechanism ≡ mass n
+      (cellsOf s) (seasonList s) (rowAt s i) mechanism
   pub words : (k : ℕ) → k < 6 → getD (report t) (6 * j + k) 0 ≡ getD (report s) (6 * i + k) 0
   pub factor-answers : (season k : ℕ) → factorAnswer t season j k ≡ factorAnswer s season i k
 

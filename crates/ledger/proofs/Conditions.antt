@@ -50,5 +50,6 @@ change-judged s room call = judges-then (report-judged s room) (judges-refuse (c
 never-zero : (s : List ℕ) (room : ℕ) (call : Call) (p : ℕ) → FirstUnmet 0 p (changeDemands s room call) → ⊥
 never-zero s room call p u = ⊎-elim (λ r. ⊎-elim (no-zero s p) (λ m. omega (arith, m .1 .0)) r) (λ m. omega (arith, m .1 .0)) u
 
-pub change-says : (s : List ℕ) (room : ℕ) (call : Call) → Says (changeDemands s room call) (numberOf (changeCheck s room call)) (placeOf (changeCheck s room call))
+pub change-says : (s : List ℕ) (room : ℕ) (call : Call)
+    → Says (changeDemands s room call) (numberOf (changeCheck s room call)) (placeOf (changeCheck s room call))
 change-says s room call = says (changeCheck s room call) (change-judged s room call) (never-zero s room call)

@@ -44,17 +44,21 @@ total-more (y ∷ xs) x = omega (arith, total-more xs x)
 total-first : (s : List ℕ) (n : ℕ) → total (tab (λ (i : ℕ). (rowAt s i) .vehicles) n) ≡ vehiclesBefore s n
 unfolding tab total vehiclesBefore
 total-first s zero = refl
-total-first s (suc n) = total-more (tab (λ (i : ℕ). (rowAt s i) .vehicles) n) ((rowAt s n) .vehicles) ∙ ap (λ (k : ℕ). k + (rowAt s n) .vehicles) (total-first s n)
+total-first s (suc n) =
+    total-more (tab (λ (i : ℕ). (rowAt s i) .vehicles) n) ((rowAt s n) .vehicles) ∙
+    ap (λ (k : ℕ). k + (rowAt s n) .vehicles) (total-first s n)
 
 pub total-counts : (s : List ℕ) → total (countsOf s) ≡ vehiclesBefore s (rowsOf s)
 unfolding countsOf
 total-counts s = total-first s (rowsOf s)
 
 -- with another count in one row one entry is another
-pub counts-changed : (s : List ℕ) (i v : ℕ) → v < 2 ^ 32 → rowPlace s i + 24 ≤ length s → i < rowsOf s → countsOf (withCount s i v) ≡ set (countsOf s) i v
+pub counts-changed : (s : List ℕ) (i v : ℕ) → v < 2 ^ 32 → rowPlace s i + 24 ≤ length s → i < rowsOf s
+    → countsOf (withCount s i v) ≡ set (countsOf s) i v
 counts-changed s i v bits room there =
     let same : rowsOf (withCount s i v) ≡ rowsOf s = rows (before-rows s i v bits room) in
-    let long : length (countsOf (withCount s i v)) ≡ length (set (countsOf s) i v) = counts-length (withCount s i v) ∙ same ∙ sym (length-set (countsOf s) i v ∙ counts-length s) in
+    let long : length (countsOf (withCount s i v)) ≡ length (set (countsOf s) i v) =
+    counts-length (withCount s i v) ∙ same ∙ sym (length-set (countsOf s) i v ∙ counts-length s) in
     ext-getD 0 (countsOf (withCount s i v)) (set (countsOf s) i v) long
     (λ j l.
     let inside : j < rowsOf (withCount s i v) = rw (counts-length (withCount s i v)) at l in
@@ -110,7 +114,14 @@ allowed s call a h =
     record {
       there = there;
       within = within;
-      most = moved-most (hasManyRows s) (total (countsOf s)) (at (countsOf s) (rowOf call)) call (rw count (a .row (rowOf call) there .vehicles-most)) within;
+      most = moved-most (hasManyRows s) (total (countsOf s)) (at (countsOf s) (rowOf call)) call
+          (rw count (a .row (rowOf call) there .vehicles-most)) within;
       together = λ many.
-          omega (arith, count, total-counts s, moved-together (hasManyRows s) (total (countsOf s)) (at (countsOf s) (rowOf call)) call (rw (total-counts s) (fleet-most a many)) (le-leb 4 (versionOf s) many) within);
+          omega (
+            arith,
+            count,
+            total-counts s,
+            moved-together (hasManyRows s) (total (countsOf s)) (at (countsOf s) (rowOf call)) call
+                (rw (total-counts s) (fleet-most a many)) (le-leb 4 (versionOf s) many) within,
+          );
     }

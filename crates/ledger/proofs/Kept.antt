@@ -97,7 +97,8 @@ module _ (t : List ℕ) (room : ℕ) (call : Call) (opens : reportCheck t room �
   unfolding reportCheck reportLength _then_
   still-opens =
       let a = change-allowed in
-      let sheet = still-accepted t (rowOf call) (newCount (countsOf t) call) count-bits row-inside (a .there) (a .most) (a .together) (report-sheet t room opens) in
+      let sheet = still-accepted t (rowOf call) (newCount (countsOf t) call) count-bits row-inside (a .there) (a .most)
+      (a .together) (report-sheet t room opens) in
       rw (sheet, rows-kept) (room-passes t room opens)
 
 -- What holds of a ledger after any list of calls.
@@ -124,7 +125,8 @@ module _ (s w : List ℕ) (x : Ledger) (inv : Inv s w x) where
   answer-is call = rw (room, ← many) (answer-open t (length w) call (inv .opens))
 
   -- a refused call does nothing
-  refused : (call : Call) → wrong (hasManyRows s) (countsOf t) call ≡ true → Inv s w (after x call) × (countsOf (after x call .sheet) ≡ step (hasManyRows s) (countsOf t) call)
+  refused : (call : Call) → wrong (hasManyRows s) (countsOf t) call ≡ true → Inv s w (after x call)
+      × (countsOf (after x call .sheet) ≡ step (hasManyRows s) (countsOf t) call)
   unfolding after step sheetAfter wordsAfter refuse
   refused call h =
       let c : answer x call ≡ Refused 29 0 = answer-is call ∙ rw h refl in (
@@ -139,7 +141,8 @@ module _ (s w : List ℕ) (x : Ledger) (inv : Inv s w x) where
       )
 
   -- an allowed one changes one count, and makes one row's words and the sums anew
-  done : (call : Call) → wrong (hasManyRows s) (countsOf t) call ≡ false → Inv s w (after x call) × (countsOf (after x call .sheet) ≡ step (hasManyRows s) (countsOf t) call)
+  done : (call : Call) → wrong (hasManyRows s) (countsOf t) call ≡ false → Inv s w (after x call)
+      × (countsOf (after x call .sheet) ≡ step (hasManyRows s) (countsOf t) call)
   unfolding after step sheetAfter wordsAfter refuse reportLength
   done call h =
       let right : wrong (hasManyRows t) (countsOf t) call ≡ false = rw many h in
@@ -165,12 +168,16 @@ module _ (s w : List ℕ) (x : Ledger) (inv : Inv s w x) where
           same = rw c (record {
             length-same = early .same-length ∙ inv .same .length-same;
             elsewhere = λ k away.
-                ⊎-elim (λ l. before t i v bits inside k (omega (arith, place))) (λ l. beyond t i v bits inside k (omega (arith, place))) (away i (omega (arith, rows (inv .alike)))) ∙
+                ⊎-elim (λ l. before t i v bits inside k (omega (arith, place)))
+                (λ l. beyond t i v bits inside k (omega (arith, place))) (away i (omega (arith, rows (inv .alike))))
+                ∙
                 inv .same .elsewhere k away;
           });
           opens = rw c opens;
           words = rw c (rw (inv .words)
-              (renewed-is (bytes-kept t i v bits inside (inv .bytes)) (report-accepted (withCount t i v) (length w) opens .0) (written Pass (report t) w) i (rw kept there) (omega (arith, kept)) (others-hold t i v bits inside w there) ∙
+              (renewed-is (bytes-kept t i v bits inside (inv .bytes))
+              (report-accepted (withCount t i v) (length w) opens .0) (written Pass (report t) w) i (rw kept there)
+              (omega (arith, kept)) (others-hold t i v bits inside w there) ∙
               report-written (withCount t i v) (written Pass (report t) w) ∙ written-twice _ _ w new-long));
         },
         rw (c, step, h) (counts-changed t i v bits inside there),
@@ -180,7 +187,8 @@ module _ (s w : List ℕ) (x : Ledger) (inv : Inv s w x) where
   pub stepped : (call : Call) → Inv s w (after x call) × (countsOf (after x call .sheet) ≡ step (hasManyRows s) (countsOf t) call)
   stepped call = go (wrong (hasManyRows s) (countsOf t) call) refl
     where
-      go : (b : Bool) → wrong (hasManyRows s) (countsOf t) call ≡ b → Inv s w (after x call) × (countsOf (after x call .sheet) ≡ step (hasManyRows s) (countsOf t) call)
+      go : (b : Bool) → wrong (hasManyRows s) (countsOf t) call ≡ b → Inv s w (after x call)
+          × (countsOf (after x call .sheet) ≡ step (hasManyRows s) (countsOf t) call)
       go true h = refused call h
       go false h = done call h
 

@@ -106,9 +106,13 @@ module _ (s w : List ℕ) (call : Call) where
 
   -- what the code relies on then
   pub right-room : reportCheck s (length w) ≡ Pass → wrong (hasManyRows s) (countsOf s) call ≡ false
-      → let t = withCount s (rowOf call) (newCount (countsOf s) call) in (sheetCheck t ≡ Pass) × (rowOf call < rowsOf t) × (6 * rowsOf t + 26 ≤ length w)
+      → let t = withCount s (rowOf call) (newCount (countsOf s) call) in (sheetCheck t ≡ Pass) × (rowOf call < rowsOf t)
+      × (6 * rowsOf t + 26 ≤ length w)
   unfolding reportLength
   right-room opens h =
       let t = withCount s (rowOf call) (newCount (countsOf s) call) in
-      let again = still-opens s (length w) call opens h in
-      (report-sheet t (length w) again, rw (rows-kept s (length w) call opens h) (change-allowed s (length w) call opens h .there), report-accepted t (length w) again .1)
+      let again = still-opens s (length w) call opens h in (
+        report-sheet t (length w) again,
+        rw (rows-kept s (length w) call opens h) (change-allowed s (length w) call opens h .there),
+        report-accepted t (length w) again .1,
+      )

@@ -64,7 +64,8 @@ unfoldable threeSum : Masses → Masses → Masses → CellAnswer
 threeSum Wrong n k = Refused 27 0
 threeSum (Between l h) Wrong k = Refused 27 0
 threeSum (Between l h) (Between l' h') Wrong = Refused 27 0
-threeSum (Between l h) (Between l' h') (Between l'' h'') = cond (leb (h + h' + h'') massLimit) (Sum (cellOf (l + l' + l'') (h + h' + h''))) (Refused 27 0)
+threeSum (Between l h) (Between l' h') (Between l'' h'') =
+    cond (leb (h + h' + h'') massLimit) (Sum (cellOf (l + l' + l'') (h + h' + h''))) (Refused 27 0)
 
 three : (a b c : Cell) → addTo (cellSum a b) c ≡ threeSum (massesOf a) (massesOf b) (massesOf c)
 unfolding cellSum addTo massesSum threeSum

@@ -23,7 +23,9 @@ use Rattle.map_cells.proofs.WholeDoubles.{double-value, same-value, dou
 -- a whole double compared with 0
 zero-eq : (n : ℕ) → n ≤ massLimit → eq (double n) (fin false 0 (pos 0)) ≡ eqb n 0
 zero-eq zero h = same-value (double 0) 0 false 0 (pos 0) (double-value 0 h)
-zero-eq (suc n) h = same-value (double (suc n)) (suc n) false 0 (pos 0) (double-value (suc n) h) ∙ ap (λ (t : Bool). t && true) (ne-eqb 0 (suc n * 1) (λ e. no-zero n e)) ∙ sym (ne-eqb (suc n) 0 (λ e. no-zero' n e))
+zero-eq (suc n) h =
+    same-value (double (suc n)) (suc n) false 0 (pos 0) (double-value (suc n) h) ∙
+    ap (λ (t : Bool). t && true) (ne-eqb 0 (suc n * 1) (λ e. no-zero n e)) ∙ sym (ne-eqb (suc n) 0 (λ e. no-zero' n e))
   where
     no-zero : (n : ℕ) → 0 ≡ suc n * 1 → ⊥
     no-zero n e = omega arith
@@ -131,7 +133,8 @@ module _ (low high low' high' : ℕ) where
   unfolding massesSum
   sum-over h = rw (lt-leb (high + high') massLimit h)
 
-  pub sum-within : (x y : Float) (r : Cell) → low ≤ high → low' ≤ high' → high + high' ≤ massLimit → x ≡ double (low + low') → y ≡ double (high + high')
+  pub sum-within : (x y : Float) (r : Cell) → low ≤ high → low' ≤ high' → high + high' ≤ massLimit
+      → x ≡ double (low + low') → y ≡ double (high + high')
       → r ≡ cellBetween x y → Sum r ≡ massesSum (Between low high) (Between low' high')
   unfolding massesSum
   sum-within x y r g g' h e f k =
@@ -147,6 +150,7 @@ module _ (a b : Cell) {first : Masses} (e : first ≡ massesOf a) where
   unfolding cellSum massesSum
   sum-second l h f g k = rw (← e, f, ← g, k)
 
-  pub sum-both : {second : Masses} (l h l' h' : ℕ) → first ≡ Between l h → second ≡ massesOf b → second ≡ Between l' h' → cellSum a b ≡ massesSum (Between l h) (Between l' h')
+  pub sum-both : {second : Masses} (l h l' h' : ℕ) → first ≡ Between l h → second ≡ massesOf b → second ≡ Between l' h'
+      → cellSum a b ≡ massesSum (Between l h) (Between l' h')
   unfolding cellSum
   sum-both l h l' h' f g k = rw (← e, f, ← g, k)

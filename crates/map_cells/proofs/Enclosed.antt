@@ -77,7 +77,8 @@ between-whole (Exact m) low high x e h = exact (wholeOf m) (λ n k. value-of m n
             record { above = subst (λ (k : ℕ). whole k ≤ᶠ x) a (≈→≥ v); below = subst (λ (k : ℕ). x ≤ᶠ whole k) b (≈→≤ v) }
 between-whole (Band l u) low high x e h = band (wholeOf l) (wholeOf u) (λ n k. value-of l n (whole-is l n k)) (λ n k. value-of u n (whole-is u n k)) e
   where
-    band : (v w : Whole) → ((n : ℕ) → v ≡ Mass n → valueOf l ≈ᶠ whole n) → ((n : ℕ) → w ≡ Mass n → valueOf u ≈ᶠ whole n) → bandMasses v w ≡ Between low high
+    band : (v w : Whole) → ((n : ℕ) → v ≡ Mass n → valueOf l ≈ᶠ whole n) → ((n : ℕ) → w ≡ Mass n → valueOf u ≈ᶠ whole n)
+        → bandMasses v w ≡ Between low high
         → BetweenWhole low high x
     band Other w f g e = absurd (wrong-between low high e)
     band (Mass m) Other f g e = absurd (wrong-between low high e)

@@ -38,7 +38,8 @@ says a b = go (massesOf a) (massesOf b) refl refl
             omega arith
 
         tests : (t : Bool) → (t ≡ true → h + h' ≤ massLimit) → (t ≡ false → massLimit < h + h')
-            → SumSays a b (sumNumberOf (cond t (Sum (cellOf (l + l') (h + h'))) (Refused 27 0))) (sumPlaceOf (cond t (Sum (cellOf (l + l') (h + h'))) (Refused 27 0)))
+            → SumSays a b (sumNumberOf (cond t (Sum (cellOf (l + l') (h + h'))) (Refused 27 0)))
+            (sumPlaceOf (cond t (Sum (cellOf (l + l') (h + h'))) (Refused 27 0)))
         tests true p q = record {
           place-is = refl;
           meaning = inl (refl, record { low = l; high = h; low' = l'; high' = h'; first = f; second = g; room = p refl });

@@ -61,7 +61,8 @@ pub mass-of : (x : Float) (n : ℕ) → IsWhole x n → wholeOf x ≡ Mass n
 unfolding wholeOf
 mass-of (fin s m e) n h =
     let q : m * up e / down e ≡ n = quotient-is (m * up e) n (down e) (down-pos e) (h .0) in
-    rw q (tests (eqb (m * up e) (n * down e)) (leb n massLimit) (not s || eqb n 0) (subst (λ (y : ℕ). T (eqb (m * up e) y)) (h .0) (eqb-refl (m * up e))) (le→leb n massLimit (h .1)) (h .2))
+    rw q (tests (eqb (m * up e) (n * down e)) (leb n massLimit) (not s || eqb n 0)
+    (subst (λ (y : ℕ). T (eqb (m * up e) y)) (h .0) (eqb-refl (m * up e))) (le→leb n massLimit (h .1)) (h .2))
   where
     tests : (a b c : Bool) → T a → T b → T c → cond (a && b && c) (Mass n) Other ≡ Mass n
     tests true true true x y z = refl
@@ -77,7 +78,8 @@ none-of (fin s m e) h =
     let n : ℕ = m * up e / down e in
     tests n (eqb (m * up e) (n * down e)) (leb n massLimit) (not s || eqb n 0) (eqb→eq (m * up e) (n * down e)) (leb→le n massLimit) (h n)
   where
-    tests : (n : ℕ) (a b c : Bool) → (T a → m * up e ≡ n * down e) → (T b → n ≤ massLimit) → ((m * up e ≡ n * down e) × (n ≤ massLimit) × T c → ⊥) → cond (a && b && c) (Mass n) Other ≡ Other
+    tests : (n : ℕ) (a b c : Bool) → (T a → m * up e ≡ n * down e) → (T b → n ≤ massLimit)
+        → ((m * up e ≡ n * down e) × (n ≤ massLimit) × T c → ⊥) → cond (a && b && c) (Mass n) Other ≡ Other
     tests n true true true x y z = absurd (z (x tt, y tt, tt))
     tests n true true false x y z = refl
     tests n true false c x y z = refl
@@ -125,7 +127,8 @@ same-value (fin false a g) n s m e h =
     let r : ℕ = a * up g in
     let q : r ≡ n * down g = omega (arith, h .1) in
     both s (eqb (r * down e) (m * up e * down g)) (eqb (m * up e) (n * down e)) (eqb (r * down e) 0) (eqb n 0)
-    (tests (r * down e) (m * up e * down g) (m * up e) (n * down e) (λ k. cancel n (down g) (m * up e) (down e) r (down-pos g) q k) (λ k. rw (q, k) (omega arith)))
+    (tests (r * down e) (m * up e * down g) (m * up e) (n * down e)
+    (λ k. cancel n (down g) (m * up e) (down e) r (down-pos g) q k) (λ k. rw (q, k) (omega arith)))
     (tests (r * down e) 0 n 0 (λ k. zero-first n (down g) (down e) r (down-pos g) (down-pos e) q k) (λ k. rw (q, k) (omega arith)))
   where
     no-product : (p : ℕ) → 0 < p → p ≡ 0 → ⊥
@@ -152,7 +155,9 @@ same-value (fin false a g) n s m e h =
 -- the double of n equals a double that is n
 pub whole-eq : (x : Float) (n : ℕ) → IsWhole x n → eq (double n) x ≡ true
 whole-eq (fin s m e) n h =
-    same-value (double n) n s m e (double-value n (h .1)) ∙ go (eqb (m * up e) (n * down e)) (not s || eqb n 0) (subst (λ (y : ℕ). T (eqb (m * up e) y)) (h .0) (eqb-refl (m * up e))) (h .2)
+    same-value (double n) n s m e (double-value n (h .1)) ∙
+    go (eqb (m * up e) (n * down e)) (not s || eqb n 0)
+    (subst (λ (y : ℕ). T (eqb (m * up e) y)) (h .0) (eqb-refl (m * up e))) (h .2)
   where
     go : (a b : Bool) → T a → T b → (a && b) ≡ true
     go true true x y = refl
@@ -175,8 +180,11 @@ eq-whole nan n h t = absurd (no-eq-nan (double n) t)
 eq-whole (inf s) n h t = absurd (no-eq-inf (double n) s n (double-value n h) t)
 eq-whole (fin s m e) n h t =
     let k : (eqb (m * up e) (n * down e) && (not s || eqb n 0)) ≡ true = sym (same-value (double n) n s m e (double-value n h)) ∙ t in
-    let b : T (eqb (m * up e) (n * down e) && (not s || eqb n 0)) = subst T (sym k) tt in
-    (eqb→eq (m * up e) (n * down e) (and-l (eqb (m * up e) (n * down e)) (not s || eqb n 0) b), h, and-r (eqb (m * up e) (n * down e)) (not s || eqb n 0) b)
+    let b : T (eqb (m * up e) (n * down e) && (not s || eqb n 0)) = subst T (sym k) tt in (
+      eqb→eq (m * up e) (n * down e) (and-l (eqb (m * up e) (n * down e)) (not s || eqb n 0) b),
+      h,
+      and-r (eqb (m * up e) (n * down e)) (not s || eqb n 0) b,
+    )
 
 other-mass : (n : ℕ) → Other ≡ Mass n → ⊥
 other-mass n e = let z : _≡_ {A = ℕ} 0 1 = cc in omega arith
@@ -245,7 +253,8 @@ whole-is (fin s m e) n h =
     same : (k : ℕ) → Mass k ≡ Mass n → k ≡ n
     same k e' = cc
 
-    tests : (k : ℕ) (a b c : Bool) → (T a → m * up e ≡ k * down e) → (T b → k ≤ massLimit) → (T c → T (not s || eqb k 0)) → cond (a && b && c) (Mass k) Other ≡ Mass n → IsWhole (fin s m e) n
+    tests : (k : ℕ) (a b c : Bool) → (T a → m * up e ≡ k * down e) → (T b → k ≤ massLimit)
+        → (T c → T (not s || eqb k 0)) → cond (a && b && c) (Mass k) Other ≡ Mass n → IsWhole (fin s m e) n
     tests k true true true f g j e' = subst (λ (t : ℕ). IsWhole (fin s m e) t) (same k e') (f tt, g tt, j tt)
     tests k true true false f g j e' = absurd (other-mass n e')
     tests k true false c f g j e' = absurd (other-mass n e')

@@ -90,4 +90,8 @@ pub room-unmet : (s : RowShares) → (over (s .urban) || over (s .rural) || over
 unfolding over
 room-unmet s e d =
     true≢false
-    (sym e ∙ rw (le-ltb massLimit (total (s .urban .high)) (d .urban-room), le-ltb massLimit (total (s .rural .high)) (d .rural-room), le-ltb massLimit (total (s .highway .high)) (d .highway-room)))
+    (sym e ∙ rw (
+      le-ltb massLimit (total (s .urban .high)) (d .urban-room),
+      le-ltb massLimit (total (s .rural .high)) (d .rural-room),
+      le-ltb massLimit (total (s .highway .high)) (d .highway-room),
+    ))

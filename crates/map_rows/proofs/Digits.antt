@@ -1,7 +1,8 @@
 -- A product over a divisor, taken digit by digit of its first factor, for every base B of the digits.
 use mathlib.Core.Path.{_≡_, sym, _∙_, ap}
 use Prim.Native.Nat.{ℕ, _+_, _*_, _-_, _/_, _%_, _^_, _≤_, _<_}
-use native.Mathlib.Nat.{mul-le-mul, mul-le-mul-left, div-add-mod', mul-add-div-right, div-lt-iff-lt-mul, mod-lt, div-mul-le-self, le-of-mul-le-mul-right}
+use native.Mathlib.Nat.{mul-le-mul, mul-le-mul-left, div-add-mod', mul-add-div-right, div-lt-iff-lt-mul, mod-lt}
+use native.Mathlib.Nat.{div-mul-le-self, le-of-mul-le-mul-right}
 use native.Mathlib.Omega.{arith}
 use Rattle.map_shares.specs.Range.{partsLimit}
 use Rattle.map_shares.proofs.Ranges.{cut-up-below}
@@ -32,7 +33,8 @@ pub cut-up-some : (x d : ℕ) → 0 < d → 0 < x % d → x / d + 1 ≡ (x + (d 
 cut-up-some x d pos h =
     let l = mod-lt x pos in
     let e : x + (d - 1) ≡ (x / d + 1) * d + (x % d - 1) = omega (arith, div-add-mod' x d) in
-    sym (ap (λ (t : ℕ). t / d) e ∙ mul-add-div-right pos (x / d + 1) (x % d - 1) ∙ ap (λ (t : ℕ). x / d + 1 + t) (small (x % d - 1) (omega arith)) ∙ omega arith)
+    sym (ap (λ (t : ℕ). t / d) e ∙ mul-add-div-right pos (x / d + 1) (x % d - 1) ∙
+    ap (λ (t : ℕ). x / d + 1 + t) (small (x % d - 1) (omega arith)) ∙ omega arith)
   where
     small : (y : ℕ) → y < d → y / d ≡ 0
     small y h = let q : y / d < 1 = div-lt-iff-lt-mul pos .1 (omega arith) in omega arith

@@ -40,7 +40,11 @@ no-cells v e = let z : _≡_ {A = ℕ} 0 1 = cc in omega arith
 module _ (w : Words) (t : Travel) where
   -- the three cells of a row of which nothing is refused
   abbrev given : RowCells
-  given = record { urban = roadCell (roadShares w (urbanRoad t)); rural = roadCell (roadShares w (ruralRoad t)); highway = roadCell (roadShares w (highwayRoad t)) }
+  given = record {
+    urban = roadCell (roadShares w (urbanRoad t));
+    rural = roadCell (roadShares w (ruralRoad t));
+    highway = roadCell (roadShares w (highwayRoad t));
+  }
 
   cells-kept : TravelIn t → WordsIn w → RoomIn (rowShares w t) → CellsPromise w t given
   unfolding rowShares roadShares
@@ -70,8 +74,13 @@ module _ (w : Words) (t : Travel) where
   answer-kept = travel (travelWrong t) refl
     where
       room : travelWrong t ≡ false → wordsWrong w ≡ false → (c : Bool)
-          → (over (roadShares w (urbanRoad t)) || over (roadShares w (ruralRoad t)) || over (roadShares w (highwayRoad t))) ≡ c → RowCellsPromise w t (rowCellsAnswer w t)
-      room e f true g = rw (e, f, g) (refusal (record { place-is = refl; meaning = inr (inr (refl, travel-met t e, λ m. room-unmet (rowShares w t) g (m .1))) }))
+          → (over (roadShares w (urbanRoad t)) || over (roadShares w (ruralRoad t)) || over
+          (roadShares w (highwayRoad t))) ≡ c → RowCellsPromise w t (rowCellsAnswer w t)
+      room e f true g =
+          rw (e, f, g) (refusal (record {
+            place-is = refl;
+            meaning = inr (inr (refl, travel-met t e, λ m. room-unmet (rowShares w t) g (m .1)));
+          }))
       room e f false g = rw (e, f, g) (answer (travel-met t e) (words-met w f) (room-met (rowShares w t) g))
 
       words : travelWrong t ≡ false → (b : Bool) → wordsWrong w ≡ b → RowCellsPromise w t (rowCellsAnswer w t)

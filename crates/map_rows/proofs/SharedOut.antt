@@ -70,6 +70,7 @@ module _ (w : Words) (t : Travel) {a : Bool} (e : a ≡ travelWrong t) where
   unfolding rowCellsAnswer
   answer-words f g h = rw (← e, f, ← g, h)
 
-  pub answer-cells : {b : Bool} {s : RowShares} (v : RowCellsAnswer) → a ≡ false → b ≡ wordsWrong w → b ≡ false → s ≡ rowShares w t → v ≡ sharedOut s → v ≡ rowCellsAnswer w t
+  pub answer-cells : {b : Bool} {s : RowShares} (v : RowCellsAnswer) → a ≡ false → b ≡ wordsWrong w → b ≡ false
+      → s ≡ rowShares w t → v ≡ sharedOut s → v ≡ rowCellsAnswer w t
   unfolding rowCellsAnswer
   answer-cells v f g h i k = rw (← e, f, ← g, h, ← i) k

@@ -21,7 +21,8 @@ amiss x = ltb x 1 || ltb travelLimit x
 
 -- "28, a mileage or speed not from 1 to 1,000,000"
 unfoldable pub travelWrong : Travel → Bool
-travelWrong t = amiss (t .mileage .urban) || amiss (t .mileage .rural) || amiss (t .mileage .highway) || amiss (t .speed .rural) || amiss (t .speed .highway)
+travelWrong t = amiss (t .mileage .urban) || amiss (t .mileage .rural) || amiss (t .mileage .highway) || amiss
+    (t .speed .rural) || amiss (t .speed .highway)
 
 -- "27, a low above its high .. or a word .. above 2⁵³"
 unfoldable pub spanWrong : Span → Bool

@@ -45,13 +45,15 @@ module _ (w : Words) (k : Road) (j : RoadIn k) (x : ExactMasses) (h : InWords w 
   unfolding lowShares exactSum
   sum-above =
       ≤-trans (≈→≥ (whole-sum _ _ _))
-      (+-mono (+-mono (share-above _ (x .diurnal) (k .diurnal) (j .diurnal-in) (h .diurnal-in .above)) (share-above _ (x .soak) (k .soak) (j .soak-in) (h .soak-in .above)))
+      (+-mono (+-mono (share-above _ (x .diurnal) (k .diurnal) (j .diurnal-in) (h .diurnal-in .above))
+      (share-above _ (x .soak) (k .soak) (j .soak-in) (h .soak-in .above)))
       (share-above _ (x .running) (k .running) (j .running-in) (h .running-in .above)))
 
   pub sum-below : exactSum x k ≤ᶠ whole (total (highShares w k))
   unfolding highShares exactSum
   sum-below =
       ≤-trans
-      (+-mono (+-mono (share-below _ (x .diurnal) (k .diurnal) (j .diurnal-in) (h .diurnal-in .below)) (share-below _ (x .soak) (k .soak) (j .soak-in) (h .soak-in .below)))
+      (+-mono (+-mono (share-below _ (x .diurnal) (k .diurnal) (j .diurnal-in) (h .diurnal-in .below))
+      (share-below _ (x .soak) (k .soak) (j .soak-in) (h .soak-in .below)))
       (share-below _ (x .running) (k .running) (j .running-in) (h .running-in .below)))
       (≈→≤ (whole-sum _ _ _))

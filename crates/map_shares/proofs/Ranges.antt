@@ -41,10 +41,18 @@ module _ (t : Travel) (h : TravelIn t) where
       go false = times-some
 
   times-most : bothTimes t ≤ 2 * 10 ^ 12
-  times-most = omega (arith, mul-le-mul (h .rural-mileage .most) (h .highway-speed .most), mul-le-mul (h .highway-mileage .most) (h .rural-speed .most))
+  times-most = omega (
+    arith,
+    mul-le-mul (h .rural-mileage .most) (h .highway-speed .most),
+    mul-le-mul (h .highway-mileage .most) (h .rural-speed .most),
+  )
 
   drive-in : (z : ℕ) → z ≤ allMileage t → PartIn (record { part = z; all = allMileage t })
-  drive-in z l = record { some = omega (arith, h .urban-mileage .least); within = l; small = omega (arith, h .urban-mileage .most, h .rural-mileage .most, h .highway-mileage .most) }
+  drive-in z l = record {
+    some = omega (arith, h .urban-mileage .least);
+    within = l;
+    small = omega (arith, h .urban-mileage .most, h .rural-mileage .most, h .highway-mileage .most);
+  }
 
   pub urban-in : RoadIn (urbanRoad t)
   unfolding urbanRoad

@@ -30,14 +30,16 @@ plain-whole x p q r a b c A B C e = record { cross = rw (part (x .up) (x .den), 
     part : (u d : ℕ) → (p * u * (d * b) + q * u * (d * a)) * (d * c) + r * u * (d * a * (d * b)) ≡ u * (d * d * (a * b * c))
     part u d = regroup u d ∙ ap (λ (t : ℕ). u * (d * d * t)) e
       where
-        regroup : (u d : ℕ) → (p * u * (d * b) + q * u * (d * a)) * (d * c) + r * u * (d * a * (d * b)) ≡ u * (d * d * (p * b * c + q * a * c + r * a * b))
+        regroup : (u d : ℕ) → (p * u * (d * b) + q * u * (d * a)) * (d * c) + r * u * (d * a * (d * b)) ≡ u *
+            (d * d * (p * b * c + q * a * c + r * a * b))
         regroup u d = omega arith
 
 plain-turned : (x : Fraction) (y z a : ℕ) (pos : 0 < a) → whole z *ᶠ plain x y a pos ≈ᶠ whole y *ᶠ plain x z a pos
 unfolding whole _*ᶠ_
 plain-turned x y z a pos = record { cross = go (x .up) (x .down) (x .den) }
   where
-    go : (u w d : ℕ) → (z * (y * u) + 0 * (y * w)) * (1 * (d * a)) + (y * (z * w) + 0 * (z * u)) * (1 * (d * a)) ≡ (y * (z * u) + 0 * (z * w)) * (1 * (d * a)) + (z * (y * w) + 0 * (y * u)) * (1 * (d * a))
+    go : (u w d : ℕ) → (z * (y * u) + 0 * (y * w)) * (1 * (d * a)) + (y * (z * w) + 0 * (z * u)) * (1 * (d * a)) ≡
+        (y * (z * u) + 0 * (z * w)) * (1 * (d * a)) + (z * (y * w) + 0 * (y * u)) * (1 * (d * a))
     go u w d = omega arith
 
 -- three fractions that add up to 1 share a mass out whole
@@ -49,8 +51,11 @@ shares-whole x p q r A B C e =
     (plain-whole x (p .part) (q .part) (r .part) (p .all) (q .all) (r .all) A B C e)
 
 -- two shares out of one whole, multiplied crosswise
-ratio : (x : Fraction) (y z a : ℕ) → 0 < a → whole z *ᶠ exactShare x (record { part = y; all = a }) ≈ᶠ whole y *ᶠ exactShare x (record { part = z; all = a })
-ratio x y z a pos = ≈-trans (*-cong (≈-refl _) (share-is x y a pos)) (≈-trans (plain-turned x y z a pos) (*-cong (≈-refl _) (≈-sym (share-is x z a pos))))
+ratio : (x : Fraction) (y z a : ℕ) → 0 < a → whole z *ᶠ exactShare x (record { part = y; all = a }) ≈ᶠ whole y *ᶠ
+    exactShare x (record { part = z; all = a })
+ratio x y z a pos =
+    ≈-trans (*-cong (≈-refl _) (share-is x y a pos))
+    (≈-trans (plain-turned x y z a pos) (*-cong (≈-refl _) (≈-sym (share-is x z a pos))))
 
 module _ (t : Travel) (h : TravelIn t) (x : Fraction) where
   -- no running mass is lost, and none counts twice
@@ -68,7 +73,8 @@ module _ (t : Travel) (h : TravelIn t) (x : Fraction) where
   unfolding urbanRoad ruralRoad highwayRoad
   soak-whole = go (t .town) refl
     where
-      go : (b : Bool) → t .town ≡ b → exactShare x ((urbanRoad t) .soak) +ᶠ exactShare x ((ruralRoad t) .soak) +ᶠ exactShare x ((highwayRoad t) .soak) ≈ᶠ x
+      go : (b : Bool) → t .town ≡ b → exactShare x ((urbanRoad t) .soak) +ᶠ exactShare x ((ruralRoad t) .soak) +ᶠ
+          exactShare x ((highwayRoad t) .soak) ≈ᶠ x
       go true e = shares-whole x _ _ _ (omega arith) (omega arith) (omega arith) (rw e (omega arith))
       go false e = shares-whole x _ _ _ (omega arith) (omega arith) (omega arith) (rw e (omega arith))
 
@@ -80,13 +86,15 @@ module _ (t : Travel) (h : TravelIn t) (x : Fraction) where
       some : 0 < bothTimes t
       some = times-some t h
 
-      in-town : (y z : ℕ) → 11 * (12 * (y + z)) * (12 * (y + z)) + y * 12 * (12 * (y + z)) + z * 12 * (12 * (y + z)) ≡ 12 * (12 * (y + z)) * (12 * (y + z))
+      in-town : (y z : ℕ) → 11 * (12 * (y + z)) * (12 * (y + z)) + y * 12 * (12 * (y + z)) + z * 12 * (12 * (y + z)) ≡
+          12 * (12 * (y + z)) * (12 * (y + z))
       in-town y z = omega arith
 
       elsewhere : (y z : ℕ) → 0 * (y + z) * (y + z) + y * 12 * (y + z) + z * 12 * (y + z) ≡ 12 * (y + z) * (y + z)
       elsewhere y z = omega arith
 
-      go : (b : Bool) → t .town ≡ b → exactShare x ((urbanRoad t) .diurnal) +ᶠ exactShare x ((ruralRoad t) .diurnal) +ᶠ exactShare x ((highwayRoad t) .diurnal) ≈ᶠ x
+      go : (b : Bool) → t .town ≡ b → exactShare x ((urbanRoad t) .diurnal) +ᶠ exactShare x ((ruralRoad t) .diurnal) +ᶠ
+          exactShare x ((highwayRoad t) .diurnal) ≈ᶠ x
       go true e =
           let more : 0 < 12 * bothTimes t = omega (arith, times-some t h) in
           shares-whole x _ _ _ (omega arith) (rw e more) (rw e more) (rw e (in-town (ruralTime t) (highwayTime t)))

@@ -103,12 +103,14 @@ runs-most : (hour d : ℕ) → d ≤ 24 → runs false (rising w) hour d ≤ run
 unfolding fewRuns
 runs-most hour d l =
     rw (day-runs hour d l)
-    (leb→le _ _ (below-at (fewRuns (hour % 24)) 25 (below-at (λ (h : ℕ). allBelow (fewRuns h) 25) 24 all-pass (hour % 24) (omega arith)) d (omega arith)))
+    (leb→le _ _ (below-at (fewRuns (hour % 24)) 25
+    (below-at (λ (h : ℕ). allBelow (fewRuns h) 25) 24 all-pass (hour % 24) (omega arith)) d (omega arith)))
 
 module _ {season : Season} (s : SeasonInRange season) (hour d : ℕ) (l : d ≤ 24) where
   -- the rise of a parking of at most 12 hours in a season's day
   pub season-rise-within :
-      WithinAll (2 ^ 40) (passed (stepAt (markWarmth season)) hour d - riseError) (2 * riseError) (λ n. rises n (λ i. degrees (markWarmth season i)) hour d)
+      WithinAll (2 ^ 40) (passed (stepAt (markWarmth season)) hour d - riseError) (2 * riseError)
+      (λ n. rises n (λ i. degrees (markWarmth season i)) hour d)
   season-rise-within = rise-within (λ i. warmth-most i s) (season-shape season) hour d runsMost (omega arith) (runs-most hour d l)
 
   -- it is at most that of two runs, each up to E(0.0716·50)

@@ -12,7 +12,8 @@ use Rattle.bounds.specs.Enclosure.{WithinAll}
 use Rattle.bounds.specs.Exponential.{exponent}
 use Rattle.bounds.specs.Power.{degrees, power}
 use Rattle.numbers.proofs.Order.{≈-refl, ≈-sym, ≤-by, test-cases, not-≤→<, +-cong, *-cong, ^-cong, ^-nonNegative, nonNegative, nonNegative→≤, ratio}
-use Rattle.bounds.proofs.Within.{widen, weaken, within-≈, round-within, decimal-within, whole-within, +-within, *-within, *-within-rounded, scaled-within, all-map, all-map₂}
+use Rattle.bounds.proofs.Within.{widen, weaken, within-≈, round-within, decimal-within, whole-within, +-within}
+use Rattle.bounds.proofs.Within.{*-within, *-within-rounded, scaled-within, all-map, all-map₂}
 use Rattle.bounds.proofs.Exponential.{E-cong}
 use Rattle.bounds.proofs.ExponentialBound.{exponential-within, exponentialError-2·3}
 use Rattle.bounds.proofs.PowerBound.{power-within, power-size}
@@ -44,7 +45,8 @@ power2·5-cong : (n : ℕ) {T U : Fraction} → T ≈ᶠ U → power2·5 n T ≡
 power2·5-cong n {T} {U} e =
     test-cases (λ (c : Bool). power2·5 n T ≡ power2·5 n U) (whole 0) T
     (λ h.
-    power2·5-above n h ∙ cutRoot-cong n (nonNegative→≤ (^-nonNegative 5 (nonNegative h))) (^-cong 5 e) ∙ sym (power2·5-above n (≤-by (≈-refl (whole 0)) (≈-sym e) h)))
+    power2·5-above n h ∙ cutRoot-cong n (nonNegative→≤ (^-nonNegative 5 (nonNegative h))) (^-cong 5 e) ∙
+    sym (power2·5-above n (≤-by (≈-refl (whole 0)) (≈-sym e) h)))
     (λ h.
     power2·5-below n (not-≤→< h) ∙ sym (power2·5-below n (not-≤→< {x = whole 0} {y = U} (λ g. h (≤-by (≈-refl (whole 0)) e g)))))
 
@@ -97,7 +99,9 @@ module _ (θ : ℕ) (h : θ ≤ 95 * 10 ^ 10) where
   power-part = record {
     at = λ n l.
         rw (mul-comm (power θ) 444278301800)
-        (widen (round-within (2 ^ 40) (omega arith) (*-within {s = 2 ^ 56} {l = 444278301800} {w = 1} (decimal-within 61656 10 (omega arith) (omega arith)) (power-within θ h .at n l)))
+        (widen (round-within (2 ^ 40) (omega arith)
+        (*-within {s = 2 ^ 56} {l = 444278301800} {w = 1} (decimal-within 61656 10 (omega arith) (omega arith))
+        (power-within θ h .at n l)))
         (omega (arith, power-size θ h)));
   }
 
@@ -118,7 +122,8 @@ module _ (vp θ : ℕ) (h : vp ≤ vpLimit) (warm : θ ≤ 95 * 10 ^ 10) where
   unfolding rate permeation
   rate-within =
       all-map₂
-      (λ n a b. widen (*-within-rounded (156 * 2 ^ 40 / 100) (43 * 2 ^ 40 / 100) (omega arith) (pressure-most vp h) (bracket-most θ warm) a b) (omega arith))
+      (λ n a b. widen (*-within-rounded (156 * 2 ^ 40 / 100) (43 * 2 ^ 40 / 100) (omega arith) (pressure-most vp h)
+      (bracket-most θ warm) a b) (omega arith))
       (pressure-within vp h) (bracket-within θ warm)
 
   -- is below a gram
@@ -144,7 +149,8 @@ half-is = omega arith
 
 module _ (vp : ℕ) (θ : ℕ → ℕ) (h : vp ≤ vpLimit) (warm : (i : ℕ) → θ i ≤ 95 * 10 ^ 10) where
   -- the hourly rates summed over its marks
-  rates-within : (hour d : ℕ) → WithinAll (2 ^ 40) (passed (λ i. rate vp (θ i)) hour d) (d * rateError) (λ n. markRates n (vp /10^ 1) (λ i. degrees (θ i)) hour d)
+  rates-within : (hour d : ℕ) → WithinAll (2 ^ 40) (passed (λ i. rate vp (θ i)) hour d) (d * rateError)
+      (λ n. markRates n (vp /10^ 1) (λ i. degrees (θ i)) hour d)
   unfolding passed markRates
   rates-within hour zero = record { at = λ n l. weaken (whole-within (2 ^ 40) 0) (omega arith) (omega arith) }
   rates-within hour (suc d) =
@@ -153,7 +159,8 @@ module _ (vp : ℕ) (θ : ℕ → ℕ) (h : vp ≤ vpLimit) (warm : (i : ℕ) �
 
   -- "half the rate summed over its marks"
   pub permeation-within : (hour d : ℕ)
-      → WithinAll (2 ^ 40) (passed (λ i. rate vp (θ i)) hour d / 2) (d * rateError / 2 + 2) (λ n. parkingPermeation n (vp /10^ 1) (λ i. degrees (θ i)) hour d)
+      → WithinAll (2 ^ 40) (passed (λ i. rate vp (θ i)) hour d / 2) (d * rateError / 2 + 2)
+      (λ n. parkingPermeation n (vp /10^ 1) (λ i. degrees (θ i)) hour d)
   unfolding parkingPermeation
   permeation-within hour d =
       all-map (λ n a. weaken (scaled-within 1 2 _ half-is a) (omega arith) (omega arith)) (rates-within hour d)

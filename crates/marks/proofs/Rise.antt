@@ -6,7 +6,9 @@ use Prim.Native.Nat.{ℕ, suc, zero, _+_, _*_, _^_, _%_, _≤_, _<_}
 use native.Mathlib.Omega.{arith}
 use Rattle.numbers.specs.Fraction.{Fraction, _≤ᶠ_, _≈ᶠ_, _-ᶠ_, _*ᶠ_, whole, _/10^_}
 use Rattle.bounds.specs.Series.{E}
-use Rattle.numbers.proofs.Order.{NonNegative, nonNegative-up, whole-nonNegative, either, ≤-antisym, ≈→≥, ≈-refl, ≈-sym, ≈-trans, test-cases, test-true, test-cong, +-cong, sub-cong, sub-self, sub-nonNegative, *-cong, *-zero, *-distrib}
+use Rattle.numbers.proofs.Order.{NonNegative, nonNegative-up, whole-nonNegative, either, ≤-antisym, ≈→≥, ≈-refl, ≈-sym}
+use Rattle.numbers.proofs.Order.{≈-trans, test-cases, test-true, test-cong, +-cong, sub-cong, sub-self, sub-nonNegative}
+use Rattle.numbers.proofs.Order.{*-cong, *-zero, *-distrib}
 use Rattle.bounds.proofs.Exponential.{E-cong}
 use Rattle.exact.specs.Day.{startMark}
 use Rattle.exact.specs.Rise.{stepRise, rises, gain}
@@ -20,7 +22,8 @@ module _ (n : ℕ) where
   unfolding stepRise
   step-rises {T} {U} h =
       subst
-      (λ (c : Bool). elim c [ true ↦ E n (716 /10^ 4 *ᶠ U) -ᶠ E n (716 /10^ 4 *ᶠ T) | false ↦ whole 0 ] ≈ᶠ E n (716 /10^ 4 *ᶠ U) -ᶠ E n (716 /10^ 4 *ᶠ T))
+      (λ (c : Bool). elim c [ true ↦ E n (716 /10^ 4 *ᶠ U) -ᶠ E n (716 /10^ 4 *ᶠ T) | false ↦ whole 0 ] ≈ᶠ E n
+      (716 /10^ 4 *ᶠ U) -ᶠ E n (716 /10^ 4 *ᶠ T))
       (sym (test-true h)) (≈-refl _)
 
   -- and where it does not rise nothing

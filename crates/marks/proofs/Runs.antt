@@ -42,7 +42,13 @@ around-zero s = omega arith
 around-+ : {s c a b h e : ℕ} {x y : Fraction} → Around s c a b x → Within s h e y → Around s (c + h) a (b + e) (x +ᶠ y)
 unfolding _+ᶠ_
 around-+ {x = x} {y = y} r k =
-    omega (arith, mul-le-mul-right (y .den) (r .above), mul-le-mul-right (x .den) (k .above), mul-le-mul-right (y .den) (r .below), mul-le-mul-right (x .den) (k .below))
+    omega (
+      arith,
+      mul-le-mul-right (y .den) (r .above),
+      mul-le-mul-right (x .den) (k .above),
+      mul-le-mul-right (y .den) (r .below),
+      mul-le-mul-right (x .den) (k .below),
+    )
 
 -- and taken away again
 around-less : {s c a b h e : ℕ} {x y : Fraction} → Around s (c + h) a b (x +ᶠ y) → Within s h e y → Around s c (a + e) b x

@@ -15,7 +15,8 @@ module _ (θ : ℕ → ℕ) {warmths : List ℕ} (e : warmths ≡ tab θ 48) whe
   warmth-at k h = rw e (getD-tab θ 48 k h)
 
   -- permeation per hour, each temperature raised by r
-  pub rates-are : (m vp r : ℕ) → m ≡ pressureFactor vp → tab (λ (i : ℕ). m * bracketUnits (getD warmths i 0 + r) / 2 ^ 40) 48 ≡ tab (λ (i : ℕ). rate vp (θ i + r)) 48
+  pub rates-are : (m vp r : ℕ) → m ≡ pressureFactor vp
+      → tab (λ (i : ℕ). m * bracketUnits (getD warmths i 0 + r) / 2 ^ 40) 48 ≡ tab (λ (i : ℕ). rate vp (θ i + r)) 48
   unfolding rate
   rates-are m vp r f = tab-ext 48 (λ k h. rw (f, warmth-at k h))
 

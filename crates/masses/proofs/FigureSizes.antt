@@ -23,7 +23,8 @@ use Rattle.masses.specs.Day.{tripLimit, UnitsInRange, MicrogramsInRange,
 use Rattle.masses.proofs.MassSizes.{mixed-most, blend-most}
 
 -- the seven factors are within their limits
-pub units-in-range : {season : Season} {row : Row} → SeasonInRange season → RowInRange season row → (counts : List ℕ) → UnitsInRange (sevenUnits season row counts)
+pub units-in-range : {season : Season} {row : Row} → SeasonInRange season → RowInRange season row → (counts : List ℕ)
+    → UnitsInRange (sevenUnits season row counts)
 unfolding sevenUnits highMicrograms
 units-in-range {season} {row} in-season in-row counts = record { diurnal-most = most F1; trip-most = go }
   where

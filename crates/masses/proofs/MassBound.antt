@@ -6,7 +6,9 @@ use Prim.Native.Nat.{ℕ, _+_, _*_, _-_, _/_, _^_, _≤_}
 use native.Mathlib.Nat.{mul-comm, zero-mul}
 use native.Mathlib.Omega.{arith}
 use Rattle.numbers.specs.Fraction.{Fraction, _≤ᶠ_, _≈ᶠ_, _+ᶠ_, _-ᶠ_, _*ᶠ_, whole, _/10^_, _times_}
-use Rattle.numbers.proofs.Order.{≤-trans, ≈→≤, ≈→≥, ≈-refl, ≈-trans, nonNegative-up, decimal-nonNegative, whole-nonNegative, +-mono, +-cong, *-mono-left, *-mono-right, *-cong, times-mono, whole-mono}
+use Rattle.numbers.proofs.Order.{≤-trans, ≈→≤, ≈→≥, ≈-refl, ≈-trans, nonNegative-up, decimal-nonNegative}
+use Rattle.numbers.proofs.Order.{whole-nonNegative, +-mono, +-cong, *-mono-left, *-mono-right, *-cong, times-mono}
+use Rattle.numbers.proofs.Order.{whole-mono}
 use Rattle.exact.specs.declared.Season.{Season}
 use Rattle.exact.specs.declared.Row.{Row}
 use Rattle.exact.specs.Factors.{Factor, F1, F2, F3, F4, F5, F6, F7, factor}
@@ -86,8 +88,11 @@ module _ {row : Row} (shares : Shares row) where
       let c = row .carburettor in
       let p = row .hot in
       let carburettor : p /10^ 2 *ᶠ h /10^ 6 +ᶠ (whole 1 -ᶠ p /10^ 2) *ᶠ w /10^ 6 ≈ᶠ (p * h + (100 - p) * w) /10^ 8 =
-      ≈-trans (+-cong (decimal-product p 2 h 6) (≈-trans (*-cong (decimal-rest p (shares .hot-most)) (≈-refl _)) (decimal-product (100 - p) 2 w 6))) (decimal-sum _ _ 8) in
-      let others : whole 1 -ᶠ c /10^ 2 ≈ᶠ ((100 - c) * 100) /10^ 4 = ≈-trans (decimal-rest c (shares .carburettor-most)) (decimal-places (100 - c) 2 2) in
+      ≈-trans (+-cong (decimal-product p 2 h 6)
+      (≈-trans (*-cong (decimal-rest p (shares .hot-most)) (≈-refl _)) (decimal-product (100 - p) 2 w 6)))
+      (decimal-sum _ _ 8) in
+      let others : whole 1 -ᶠ c /10^ 2 ≈ᶠ ((100 - c) * 100) /10^ 4 =
+      ≈-trans (decimal-rest c (shares .carburettor-most)) (decimal-places (100 - c) 2 2) in
       ≈-trans
       (+-cong (≈-trans (*-cong (≈-refl _) carburettor) (decimal-product c 2 _ 8)) (≈-trans (*-cong others (≈-refl _)) (decimal-product _ 4 i 6)))
       (decimal-sum _ _ 10)

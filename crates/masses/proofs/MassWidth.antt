@@ -16,7 +16,8 @@ use Rattle.masses.specs.Figures.{µg, blended, dayFigure, yearFigure, lo
 use Rattle.masses.proofs.MassBound.{Shares, Enclosed, Every, low-above, high-below}
 
 -- a blend of parts that are at most that far apart, with shares c, d and p, q of all
-blend-apart : (c d p q h w i : ℕ) {h' w' i' : ℕ} → c + d ≡ 100 → p + q ≡ 100 → h' ≤ h + bandMicrograms → w' ≤ w + bandMicrograms → i' ≤ i + bandMicrograms
+blend-apart : (c d p q h w i : ℕ) {h' w' i' : ℕ} → c + d ≡ 100 → p + q ≡ 100 → h' ≤ h + bandMicrograms
+    → w' ≤ w + bandMicrograms → i' ≤ i + bandMicrograms
     → c * (p * h' + q * w') + d * 100 * i' ≤ c * (p * h + q * w) + d * 100 * i + 10000 * bandMicrograms
 blend-apart c d p q h w i {h'} {w'} e f a b g =
     let inner : p * h' + q * w' ≤ p * h + q * w + 100 * bandMicrograms = omega (arith, mul-le-mul-left p a, mul-le-mul-left q b) in
@@ -25,18 +26,25 @@ blend-apart c d p q h w i {h'} {w'} e f a b g =
 module _ (counts : List ℕ) {row : Row} (shares : Shares row) where
   -- the figures of a day's trips
   trips-apart : (season : Season) (h w i : ℕ)
-      → row .trips * blended row (highMicrograms h) (highMicrograms w) (highMicrograms i) ≤ row .trips * blended row (lowMicrograms h) (lowMicrograms w) (lowMicrograms i) + 10000 * bandMicrograms * row .trips
+      → row .trips * blended row (highMicrograms h) (highMicrograms w) (highMicrograms i) ≤ row .trips * blended row
+      (lowMicrograms h) (lowMicrograms w) (lowMicrograms i) + 10000 * bandMicrograms * row .trips
   unfolding blended
   trips-apart season h w i =
       let c = row .carburettor in
       let p = row .hot in
       let all : c + (100 - c) ≡ 100 = omega (arith, shares .carburettor-most) in
       let trips : p + (100 - p) ≡ 100 = omega (arith, shares .hot-most) in
-      omega (arith, mul-le-mul-left (row .trips) (blend-apart c (100 - c) p (100 - p) (lowMicrograms h) (lowMicrograms w) (lowMicrograms i) all trips (high-near-low h) (high-near-low w) (high-near-low i)))
+      omega (
+        arith,
+        mul-le-mul-left (row .trips)
+            (blend-apart c (100 - c) p (100 - p) (lowMicrograms h) (lowMicrograms w) (lowMicrograms i) all trips
+            (high-near-low h) (high-near-low w) (high-near-low i)),
+      )
 
   -- a day's figures
   day-apart : (season : Season) (mechanism : Mechanism)
-      → dayFigure highMicrograms counts season row mechanism ≤ dayFigure lowMicrograms counts season row mechanism + 10000 * bandMicrograms * hundredths row mechanism
+      → dayFigure highMicrograms counts season row mechanism ≤ dayFigure lowMicrograms counts season row mechanism +
+      10000 * bandMicrograms * hundredths row mechanism
   unfolding dayFigure hundredths µg
   day-apart season diurnal = omega (arith, high-near-low (factorUnits season row counts F1))
   day-apart season soak = trips-apart season _ _ _
@@ -44,7 +52,8 @@ module _ (counts : List ℕ) {row : Row} (shares : Shares row) where
 
   -- a year's figures
   pub year-apart : (seasons : List Season) (mechanism : Mechanism)
-      → yearFigure highMicrograms counts seasons row mechanism ≤ yearFigure lowMicrograms counts seasons row mechanism + 10000 * bandMicrograms * hundredths row mechanism * allDays seasons
+      → yearFigure highMicrograms counts seasons row mechanism ≤ yearFigure lowMicrograms counts seasons row mechanism +
+      10000 * bandMicrograms * hundredths row mechanism * allDays seasons
   unfolding yearFigure allDays
   year-apart [] mechanism = omega arith
   year-apart (season ∷ seasons) mechanism =
@@ -52,7 +61,8 @@ module _ (counts : List ℕ) {row : Row} (shares : Shares row) where
 
   -- "a hundredth of a milligram, the two milligrams kept": up to 10 micrograms
   figures-apart : (seasons : List Season) (mechanism : Mechanism)
-      → 10000 * highFigure counts seasons row mechanism ≤ 10000 * lowFigure counts seasons row mechanism + row .vehicles * allDays seasons * hundredths row mechanism + 20000
+      → 10000 * highFigure counts seasons row mechanism ≤ 10000 * lowFigure counts seasons row mechanism + row .vehicles
+      * allDays seasons * hundredths row mechanism + 20000
   unfolding lowFigure highFigure
   figures-apart seasons mechanism = omega (arith, mul-le-mul-right (row .vehicles) (year-apart seasons mechanism))
 

@@ -4,9 +4,12 @@ use mathlib.Core.Path.{_≡_, refl, ap, sym, subst}
 use Prim.Native.Nat.{ℕ, suc, zero, _+_, _*_, _-_, _^_, _≤_, _<_, max}
 use native.Mathlib.Decide.{decLe}
 use native.Mathlib.Omega.{arith}
-use native.Mathlib.Nat.{mul-comm, mul-assoc, mul-left-comm, mul-add, add-mul, add-comm, add-assoc, add-left-comm, mul-le-mul-right, mul-le-mul-left, le-of-mul-le-mul-right, le-dest, add-le-add, mul-sub, mul-pos, le-of-lt}
+use native.Mathlib.Nat.{mul-comm, mul-assoc, mul-left-comm, mul-add, add-mul, add-comm, add-assoc, add-left-comm}
+use native.Mathlib.Nat.{mul-le-mul-right, mul-le-mul-left, le-of-mul-le-mul-right, le-dest, add-le-add, mul-sub}
+use native.Mathlib.Nat.{mul-pos, le-of-lt}
 use lib.Dec.{T, leb→le, nleb→lt}
-use Rattle.numbers.specs.Fraction.{Fraction, _≤ᶠ_, _<ᶠ_, _≈ᶠ_, _≤?_, _+ᶠ_, negᶠ, _-ᶠ_, _*ᶠ_, whole, _^ᶠ_, _/10^_, ten-pos, _over_, inverse, _times_}
+use Rattle.numbers.specs.Fraction.{Fraction, _≤ᶠ_, _<ᶠ_, _≈ᶠ_, _≤?_, _+ᶠ_, negᶠ, _-ᶠ_, _*ᶠ_, whole, _^ᶠ_, _/10^_}
+use Rattle.numbers.specs.Fraction.{ten-pos, _over_, inverse, _times_}
 
 -- what brings a sum of products of natural numbers into one form
 pub ruleset ring = (mul-comm, mul-assoc, mul-left-comm, mul-add, add-mul, add-comm, add-assoc, add-left-comm)

@@ -85,7 +85,8 @@ at-cell season r h k hour back =
     record {
       encloses =
           rw (there steps h k hour back, ← same-warmth season, ← same-temperature season)
-          (all-map (λ n a. within-≈ (rises-cong n (suc h) (suc k) (λ i. ≈-sym (temperature-is i r))) a) (season-rise-within r (suc h) (suc k) (omega arith)));
+          (all-map (λ n a. within-≈ (rises-cong n (suc h) (suc k) (λ i. ≈-sym (temperature-is i r))) a)
+          (season-rise-within r (suc h) (suc k) (omega arith)));
       vapour = λ n vp fill tank. vapour-rises n vp fill tank (temperature season) (suc h) (suc k);
       in-cell = rw hours (rw half-hours (in-walk steps h k hour back ∙ sym (rw half-hours at (there steps h k hour back))));
     }

@@ -71,7 +71,8 @@ grid-made {cells} {starts} {ends} {grid} {sum} r es ee t g =
     )
   where
     counts-at : (cells starts ends : List ℕ) (sum : ℕ) → length cells ≡ 576 → length starts ≡ 25 → length ends ≡ 25
-        → starts ≡ tally 25 (apartOf false) cells 576 → ends ≡ tally 25 (apartOf true) cells 576 → {grid : List ℕ} → grid ≡ cells ++ (starts ++ (ends ++ (sum ∷ [])))
+        → starts ≡ tally 25 (apartOf false) cells 576 → ends ≡ tally 25 (apartOf true) cells 576 → {grid : List ℕ}
+        → grid ≡ cells ++ (starts ++ (ends ++ (sum ∷ [])))
         → (b : Bool) (d : ℕ) → d < 25 → at grid (apartPlace b + d) ≡ at (tally 25 (apartOf b) cells 576) d
     counts-at cells starts ends sum c s e es ee g false d h =
         rw g (start-at cells starts ends sum c s e d h) ∙ ap (λ (xs : List ℕ). at xs d) es

@@ -20,11 +20,13 @@ module _ (durations : List ℕ) where
   products-at [] n h k e l m = absurd (omega arith)
   products-at (q ∷ hours) n zero k e l m =
       ap (at (products durations (q ∷ hours))) {x = n * 0 + k} {y = k} (omega arith) ∙
-      List·getD-append (map (λ (j : ℕ). j * q) durations) (products durations hours) 0 k (rw (length-map durations (λ (j : ℕ). j * q)) (omega arith)) ∙
+      List·getD-append (map (λ (j : ℕ). j * q) durations) (products durations hours) 0 k
+      (rw (length-map durations (λ (j : ℕ). j * q)) (omega arith)) ∙
       ap (getD (map (λ (j : ℕ). j * q) durations) k) {x = 0} {y = 0 * q} (omega arith) ∙ List·getD-map (λ (j : ℕ). j * q) durations k 0
   products-at (q ∷ hours) n (suc h) k e l m =
       let first = map (λ (j : ℕ). j * q) durations in
-      ap (at (products durations (q ∷ hours))) {x = n * suc h + k} {y = length first + (n * h + k)} (omega (arith, length-map durations (λ (j : ℕ). j * q))) ∙
+      ap (at (products durations (q ∷ hours))) {x = n * suc h + k} {y = length first + (n * h + k)}
+      (omega (arith, length-map durations (λ (j : ℕ). j * q))) ∙
       getD-append-add first (products durations hours) (n * h + k) 0 ∙ products-at hours n h k e l (omega arith)
 
 -- 24 durations and 24 end hours, by cell

@@ -72,7 +72,13 @@ weighted-is value first [] = refl
 weighted-is value first (count ∷ counts) =
     let shift : (k : ℕ) → k < length counts → at counts k * value (suc first + k) ≡ at counts k * value (first + suc k)
     = (λ k h. ap (λ (place : ℕ). at counts k * value place) (omega arith)) in
-    omega (arith, weighted-is value (suc first) counts, sum-ext (length counts) shift, sum-first (λ (k : ℕ). at (count ∷ counts) k * value (first + k)) (length counts), ap (λ (place : ℕ). count * value place) {x = first + 0} {y = first} (omega arith))
+    omega (
+      arith,
+      weighted-is value (suc first) counts,
+      sum-ext (length counts) shift,
+      sum-first (λ (k : ℕ). at (count ∷ counts) k * value (first + k)) (length counts),
+      ap (λ (place : ℕ). count * value place) {x = first + 0} {y = first} (omega arith),
+    )
 
 -- the same values in its cells, the same weighted sum
 pub weighted-ext : {value value' : ℕ → ℕ} (counts : List ℕ) → ((cell : ℕ) → cell < length counts → value cell ≡ value' cell)

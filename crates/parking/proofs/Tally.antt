@@ -60,7 +60,9 @@ module _ (places : ℕ) (place : ℕ → ℕ) (cells : List ℕ) where
   tally-none = refl
 
   -- one more cell counted
-  pub tally-more : (n : ℕ) → set (tally places place cells n) (place n) (at (tally places place cells n) (place n) + at cells n) ≡ tally places place cells (n + 1)
+  pub tally-more : (n : ℕ)
+      → set (tally places place cells n) (place n) (at (tally places place cells n) (place n) + at cells n) ≡ tally
+      places place cells (n + 1)
   unfolding tally
   tally-more n = rw add-one
 
@@ -72,14 +74,21 @@ module _ (places : ℕ) (place : ℕ → ℕ) (cells : List ℕ) where
     tally-le (suc n) k =
         let old = tally places place cells n in
         elim (ℕ-discrete k (place n)) [
-          | yes e ↦ rw (e, getD-set-same old (place n) _ 0 (rw (tally-length n) (below n))) (omega (arith, tally-le n (place n), sum-next (at cells) n))
+          | yes e ↦ rw (e, getD-set-same old (place n) _ 0 (rw (tally-length n) (below n)))
+              (omega (arith, tally-le n (place n), sum-next (at cells) n))
           | no e ↦ rw (getD-set-other old (place n) k _ 0 e) (omega (arith, tally-le n k, sum-next (at cells) n))
         ]
 
     -- Σ over cells of count·g(place of the cell) = Σ over places of (how much the place counts)·g(place)
-    pub by-place : (g : ℕ → ℕ) (n : ℕ) → sum (λ (k : ℕ). at (tally places place cells n) k * g k) places ≡ sum (λ (cell : ℕ). at cells cell * g (place cell)) n
+    pub by-place : (g : ℕ → ℕ) (n : ℕ) → sum (λ (k : ℕ). at (tally places place cells n) k * g k) places ≡ sum
+        (λ (cell : ℕ). at cells cell * g (place cell)) n
     unfolding tally
     by-place g zero = zeros places g places ∙ sum-none (λ (cell : ℕ). at cells cell * g (place cell))
     by-place g (suc n) =
         let old = tally places place cells n in
-        omega (arith, by-place g n, sum-next (λ (cell : ℕ). at cells cell * g (place cell)) n, sum-set g old (place n) (at old (place n) + at cells n) places (rw (tally-length n) (below n)) (below n))
+        omega (
+          arith,
+          by-place g n,
+          sum-next (λ (cell : ℕ). at cells cell * g (place cell)) n,
+          sum-set g old (place n) (at old (place n) + at cells n) places (rw (tally-length n) (below n)) (below n),
+        )

@@ -26,7 +26,12 @@ module _ {grid : List ℕ} (r : GridReady grid) (value : ℕ → ℕ) where
   -- at most a million counts of values below 2⁵⁴, in units of 2⁻²⁸ g
   fits : {x : ℕ} → x ≡ weighted (λ (cell : ℕ). value cell / 2 ^ 12) 0 (cellsIn grid) → ((cell : ℕ) → value cell ≤ 2 ^ 54) → x < 2 ^ 64
   fits e h =
-      omega (arith, e, r .cells-in .total-most, weighted-most (λ (cell : ℕ). value cell / 2 ^ 12) (2 ^ 42) (λ cell. omega (arith, h cell)) 0 (cellsIn grid))
+      omega (
+        arith,
+        e,
+        r .cells-in .total-most,
+        weighted-most (λ (cell : ℕ). value cell / 2 ^ 12) (2 ^ 42) (λ cell. omega (arith, h cell)) 0 (cellsIn grid),
+      )
 
   -- divided by the sum of the counts it is the mean
   mean-is : {x : ℕ} → x ≡ weighted (λ (cell : ℕ). value cell / 2 ^ 12) 0 (cellsIn grid) → x / at grid sumPlace ≡ meanUnits (cellsIn grid) value
@@ -34,7 +39,8 @@ module _ {grid : List ℕ} (r : GridReady grid) (value : ℕ → ℕ) where
   mean-is e = ap₂ (λ (x y : ℕ). x / y) e (r .sum-is)
 
   -- by cell, of the counts alone
-  pub cells-mean : {x : ℕ} → x ≡ sum (λ (cell : ℕ). at (cellsIn grid) cell * (value cell / 2 ^ 12)) 576 → x / at grid sumPlace ≡ meanUnits (cellsIn grid) value
+  pub cells-mean : {x : ℕ} → x ≡ sum (λ (cell : ℕ). at (cellsIn grid) cell * (value cell / 2 ^ 12)) 576
+      → x / at grid sumPlace ≡ meanUnits (cellsIn grid) value
   cells-mean e = mean-is (e ∙ counted)
 
   -- by cell
@@ -66,7 +72,8 @@ module _ {grid : List ℕ} (r : GridReady grid) (ends : Bool) (value : ℕ → �
   distance-mean e = mean-is r (λ (cell : ℕ). value (apartOf ends cell)) (e ∙ added-by-distance)
 
 -- the same values in all cells, the same mean
-pub mean-below : (cells : List ℕ) {f g : ℕ → ℕ} → length cells ≡ 576 → ((cell : ℕ) → cell < 576 → f cell ≡ g cell) → meanUnits cells f ≡ meanUnits cells g
+pub mean-below : (cells : List ℕ) {f g : ℕ → ℕ} → length cells ≡ 576 → ((cell : ℕ) → cell < 576 → f cell ≡ g cell)
+    → meanUnits cells f ≡ meanUnits cells g
 unfolding meanUnits
 mean-below cells l e =
     ap (λ (x : ℕ). x / total cells) (weighted-ext cells (λ cell h. ap (λ (x : ℕ). x / 2 ^ 12) (e cell (rw l at h))))

@@ -5,16 +5,12 @@ use libc::STDERR_FILENO;
 use libc::STDOUT_FILENO;
 use pooling::PoolAnswer;
 use pooling_calls::pool_length;
+use program::LONGEST;
+use program::ROOM;
 use text::lines::put_refusal;
 ghost use mathlib.Core.Path.{_≡_};
 ghost use Rattle.sheet.specs.declared.Check.the-variants.{Pass};
 ghost use Rattle.pooling.specs.Pool.{pool, poolCheck};
-
-// The longest sheet, pooled or not: 1,160 + 8 · 12 + 24 · 1,000 bytes.
-const LONGEST: usize = 25256;
-
-// One byte more: a longer file is refused by its length, as it would be whole.
-const ROOM: usize = 25257;
 
 // The bytes of the longest line of a refusal.
 const LINE: usize = 53;

@@ -14,7 +14,8 @@ use Rattle.sheet.specs.Integers.{u8At}
 use Rattle.sheet.specs.Bytes.{seasonsOf, rowsOf}
 use Rattle.sheet.specs.Check.{refuse, _then_}
 use Rattle.sheet.specs.Sheet.{sheetCheck}
-use Rattle.sheet.proofs.Checks.{Tests, Judges, then-pass, below-suc, tests-as, ||-tests, not-tests, eqb-shows, ltb-tests, true-is-not-false, judges-refuse, judges-then, _⊳_}
+use Rattle.sheet.proofs.Checks.{Tests, Judges, then-pass, below-suc, tests-as, ||-tests, not-tests, eqb-shows}
+use Rattle.sheet.proofs.Checks.{ltb-tests, true-is-not-false, judges-refuse, judges-then, _⊳_}
 use Rattle.sheet.proofs.Conditions.{mark-judged, sheet-judged, met-accepted}
 use Rattle.pooling.specs.declared.PoolAnswer.the-variants.{Accepted, First, Second, Pooled}
 use Rattle.pooling.specs.Pool.{pool, regionCheck, sharedBytes, someDiffers, differ, pairCheck, poolCheck}
@@ -77,7 +78,8 @@ unfolding poolAnswer poolAnswered
 accepted-is a b room p q r = rw (p, q, r)
 
 -- and it says of which sheet
-told : (a b : List ℕ) (room : ℕ) (c d e : Check) → regionCheck a ≡ c → regionCheck b ≡ d → pairCheck a b room ≡ e → PoolSays a b room (poolAnswered c d e)
+told : (a b : List ℕ) (room : ℕ) (c d e : Check) → regionCheck a ≡ c → regionCheck b ≡ d → pairCheck a b room ≡ e
+    → PoolSays a b room (poolAnswered c d e)
 unfolding poolAnswered
 told a b room (Refused number place) d e p q r = region-judged a .refuses number place p
 told a b room Pass (Refused number place) e p q r = (region-judged a .passes p, region-judged b .refuses number place q)

@@ -136,7 +136,14 @@ module _ {a b : List ℕ} (h : Pair a b) where
   -- the row count is that of both
   pub rows-pool : rowsOf (pool a b) ≡ rowsOf a + rowsOf b
   rows-pool =
-      omega (arith, rows-many (pool a b) many-pool, low-byte a b (omega (arith, long)), high-byte a b (omega (arith, long)), rows-most (h .first), rows-most (h .second))
+      omega (
+        arith,
+        rows-many (pool a b) many-pool,
+        low-byte a b (omega (arith, long)),
+        high-byte a b (omega (arith, long)),
+        rows-most (h .first),
+        rows-most (h .second),
+      )
 
   -- parking and seasons are those of the first,
   pub kept-first : SheetKept a (pool a b)
@@ -167,14 +174,16 @@ module _ {a b : List ℕ} (h : Pair a b) where
   first-same i l = record {
     byte = λ k m.
         rw (place-pool i)
-        (first-byte a b (rowPlace a i + k) (omega (arith, start (h .first), length-is (h .first))) (λ e. omega (arith, start (h .first))) (λ e. omega (arith, start (h .first))));
+        (first-byte a b (rowPlace a i + k) (omega (arith, start (h .first), length-is (h .first)))
+        (λ e. omega (arith, start (h .first))) (λ e. omega (arith, start (h .first))));
   }
 
   -- and row i of the second stands behind all rows of the first
   pub second-same : (i : ℕ) → i < rowsOf b → Same (pool a b) b (rowPlace (pool a b) (rowsOf a + i)) (rowPlace b i) 24
   second-same i l = record {
     byte = λ k m.
-        let x : rowPlace (pool a b) (rowsOf a + i) + k ≡ length a + (24 * i + k) = omega (arith, place-pool (rowsOf a + i), start (h .first), length-is (h .first)) in
+        let x : rowPlace (pool a b) (rowsOf a + i) + k ≡ length a + (24 * i + k) =
+        omega (arith, place-pool (rowsOf a + i), start (h .first), length-is (h .first)) in
         let y : rowPlace b 0 + (24 * i + k) ≡ rowPlace b i + k = omega arith in
         rw x (second-byte a b (24 * i + k) ∙ ap (u8At b) y);
   }

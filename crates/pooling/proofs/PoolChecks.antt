@@ -16,7 +16,9 @@ use Rattle.sheet.specs.Integers.{u8At, u16At}
 use Rattle.sheet.specs.Versions.{versionOf, hasMileage, hasManyRows}
 use Rattle.sheet.specs.Bytes.{seasonsOf, rowsOf, rowPlace, rowAt, equipmentAt}
 use Rattle.sheet.specs.Check.{refuse, _then_, each}
-use Rattle.sheet.specs.Sheet.{outside, markCheck, numbersCheck, headCheck, lengthCheck, parkingCheck, seasonCheck, vehiclesBefore, isAbsent, codeWrong, percentWrong, loadWrong, saturationAbove, someSeason, mileageWrong, rowCheck, sheetCheck}
+use Rattle.sheet.specs.Sheet.{outside, markCheck, numbersCheck, headCheck, lengthCheck, parkingCheck, seasonCheck}
+use Rattle.sheet.specs.Sheet.{vehiclesBefore, isAbsent, codeWrong, percentWrong, loadWrong, saturationAbove, someSeason}
+use Rattle.sheet.specs.Sheet.{mileageWrong, rowCheck, sheetCheck}
 use Rattle.sheet.specs.Demands.{Met, demands}
 use Rattle.sheet.proofs.Versions.{most-many}
 use Rattle.sheet.proofs.Checks.{met-passes, judges-each}
@@ -96,7 +98,8 @@ row-with {s} {t} i j kept version bytes row =
     let code = byte-at bytes 2 (rowPlace t j + 2) (rowPlace s i + 2) refl refl (omega arith) in
     let tank = word-at bytes 6 (rowPlace t j + 6) (rowPlace s i + 6) refl refl (omega arith) in
     let wrong : ℕ → Season → Bool = λ limit. saturationAbove limit ((rowAt s i) .canister) ((rowAt s i) .saturation) in
-    let some : (limit : ℕ) → someSeason (wrong limit) t (seasonsOf s) ≡ someSeason (wrong limit) s (seasonsOf s) = λ limit. some-kept kept (wrong limit) (seasonsOf s) (omega arith) in
+    let some : (limit : ℕ) → someSeason (wrong limit) t (seasonsOf s) ≡ someSeason (wrong limit) s (seasonsOf s) =
+    λ limit. some-kept kept (wrong limit) (seasonsOf s) (omega arith) in
     rw (row, equipment, code, tank, version, kept .seasons, some 3, some 0)
 
 own-row : (s : List ℕ) (i : ℕ) → rowCheck s i ≡ rowWith s i (exceeds s i) (rowPlace s i)
@@ -124,17 +127,38 @@ module _ {a b : List ℕ} (h : Pair a b) where
   head-left =
       let (least, most) = met .0 .1 .1 .0 in
       let few : ltb (rowsTogether a b) 1 ≡ false = le-ltb (rowsTogether a b) 1 (omega (arith, met .0 .1 .1 .1 .0 .0)) in
-      rw (mark-passes, version-pool h, seasons-pool h, le-ltb (seasonsOf a) 1 least, le-ltb seasonsLimit (seasonsOf a) most, most-many (pool a b) (many-pool h), rows-pool h, few)
+      rw (
+        mark-passes,
+        version-pool h,
+        seasons-pool h,
+        le-ltb (seasonsOf a) 1 least,
+        le-ltb seasonsLimit (seasonsOf a) most,
+        most-many (pool a b) (many-pool h),
+        rows-pool h,
+        few,
+      )
       (sym (then-pass-right _))
 
   length-passes : lengthCheck (pool a b) ≡ Pass
-  length-passes = met-passes _ (length-judged (pool a b)) (omega (arith, pool-long a (h .second), place-pool h 0, seasons-pool h, rows-pool h, length-is (h .first), start (h .first)))
+  length-passes = met-passes _ (length-judged (pool a b))
+      (omega (
+        arith,
+        pool-long a (h .second),
+        place-pool h 0,
+        seasons-pool h,
+        rows-pool h,
+        length-is (h .first),
+        start (h .first),
+      ))
 
   parking-passes : parkingCheck (pool a b) ≡ Pass
   parking-passes =
       met-passes _ (parking-judged (pool a b)) (
         (λ old. absurd (omega (arith, version-pool h))),
-        ((λ old. absurd (omega (arith, version-pool h))), (λ _. rw (counts-kept (kept-first h)) (met .1 .1 .0 .1 .1 (omega (arith, h .first .version))))),
+        (
+          (λ old. absurd (omega (arith, version-pool h))),
+          (λ _. rw (counts-kept (kept-first h)) (met .1 .1 .0 .1 .1 (omega (arith, h .first .version)))),
+        ),
       )
 
   seasons-pass : each (seasonCheck (pool a b)) (seasonsOf (pool a b)) ≡ Pass
@@ -152,9 +176,11 @@ module _ {a b : List ℕ} (h : Pair a b) where
   unfolding refuse
   row-passes i l =
       let demands-met = met .1 .1 .1 .1 i l in
-      let few : ltb fleetLimit (vehiclesBefore a i + (rowAt a i) .vehicles) ≡ false = le-ltb fleetLimit _ (demands-met .1 .1 .1 .1 .0 (omega (arith, h .first .version))) in
+      let few : ltb fleetLimit (vehiclesBefore a i + (rowAt a i) .vehicles) ≡ false =
+      le-ltb fleetLimit _ (demands-met .1 .1 .1 .1 .0 (omega (arith, h .first .version))) in
       row-with i i (kept-first h) same-version (first-same h i l) (row-first h i l) ∙
-      only-fleet a i (exceeds a i) (exceeds (pool a b) i) (rowPlace a i) (rowPlace (pool a b) i) .left (sym (own-row a i) ∙ met-passes _ (row-judged a i) demands-met) ∙
+      only-fleet a i (exceeds a i) (exceeds (pool a b) i) (rowPlace a i) (rowPlace (pool a b) i) .left
+      (sym (own-row a i) ∙ met-passes _ (row-judged a i) demands-met) ∙
       rw (many-pool h, vehicles-first h i (omega arith), row-first h i l, few)
 
   -- and of those of the second nothing but 26 is left
@@ -166,14 +192,17 @@ module _ {a b : List ℕ} (h : Pair a b) where
       let vehicles : vehiclesBefore (pool a b) j + (rowAt (pool a b) j) .vehicles ≡ vehiclesBefore a (rowsOf a) + vehiclesBefore b (suc i)
       = rw (row-second h i l) (omega (arith, vehicles-second h i (omega arith))) in
       row-with i j (kept-second h) (version-pool h ∙ sym (h .second .version)) (second-same h i l) (row-second h i l) ∙
-      only-fleet b i (exceeds b i) (exceeds (pool a b) j) (rowPlace b i) (rowPlace (pool a b) j) .left (sym (own-row b i) ∙ met-passes _ (row-judged b i) demands-met) ∙
+      only-fleet b i (exceeds b i) (exceeds (pool a b) j) (rowPlace b i) (rowPlace (pool a b) j) .left
+      (sym (own-row b i) ∙ met-passes _ (row-judged b i) demands-met) ∙
       rw (many-pool h, vehicles, place-pool h j)
 
   -- so of all rows the vehicles of the second's are left
   rows-left : each (rowCheck (pool a b)) (rowsOf (pool a b)) ≡ each (fleetCheck a b) (rowsOf b)
   unfolding _then_
   rows-left =
-      let passes : each (rowCheck (pool a b)) (rowsOf a) ≡ Pass = met-passes _ (judges-each (rowsOf a) (row-judged (pool a b))) (λ i l. row-judged (pool a b) i .passes (row-passes i l)) in
+      let passes : each (rowCheck (pool a b)) (rowsOf a) ≡ Pass =
+      met-passes _ (judges-each (rowsOf a) (row-judged (pool a b)))
+      (λ i l. row-judged (pool a b) i .passes (row-passes i l)) in
       rw (rows-pool h, each-append (rowCheck (pool a b)) (rowsOf a) (rowsOf b), passes)
       (each-cong (λ (i : ℕ). rowCheck (pool a b) (rowsOf a + i)) (fleetCheck a b) (rowsOf b) row-left)
 

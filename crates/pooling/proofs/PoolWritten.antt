@@ -23,7 +23,8 @@ unfolding written
 filled-pool a b old e = rw e (ap (λ (r : List ℕ). r ++ drop (length (pool a b)) old) (tab-getD (pool a b)))
 
 -- what holds after the call
-pub pool-reply : {a b old out : List ℕ} {r : PoolAnswer} → r ≡ poolAnswer a b (length old) → out ≡ written (checkOf r) (pool a b) old → PoolCall a b old out r
+pub pool-reply : {a b old out : List ℕ} {r : PoolAnswer} → r ≡ poolAnswer a b (length old)
+    → out ≡ written (checkOf r) (pool a b) old → PoolCall a b old out r
 pool-reply {a} {b} {old} e w =
     let check = ap checkOf e ∙ answer-check a b (length old) in
     record { answer-is = e; check-is = check; bytes-are = w ∙ rw check; says = rw e (answer-says a b (length old)) }

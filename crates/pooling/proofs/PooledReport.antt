@@ -26,7 +26,8 @@ use Rattle.pooling.proofs.PoolAnswers.{poolable}
 use Rattle.pooling.proofs.RefusedOnly.{passes-exchanged}
 
 -- a row that t has of s, with the same parking and seasons
-row-moved : {s t : List ℕ} (i j : ℕ) → SheetKept s t → Same t s (rowPlace t j) (rowPlace s i) 24 → rowAt t j ≡ rowAt s i → i < rowsOf s → j < rowsOf t → RowMoved s t i j
+row-moved : {s t : List ℕ} (i j : ℕ) → SheetKept s t → Same t s (rowPlace t j) (rowPlace s i) 24 → rowAt t j ≡ rowAt s i
+    → i < rowsOf s → j < rowsOf t → RowMoved s t i j
 unfolding wordsOf
 row-moved {s} {t} i j kept bytes row l m =
     let words : wordsOf t j ≡ wordsOf s i = rw (cells-kept kept, season-list-kept kept, row) in
@@ -47,7 +48,8 @@ moved-both m n = record {
 -- the first 24 of the words after the rows, and the last two
 category-sum : (s : List ℕ) (k : ℕ) → k < 24 → totalsWord s k ≡ subtotal s (category (k / 6)) (rowsOf s) (k % 6)
 category-sum s k l =
-    ap (at (report s)) {x = 6 * rowsOf s + k} {y = 6 * (rowsOf s + k / 6) + k % 6} (omega arith) ∙ category-word-at s (k / 6) (k % 6) (omega arith) (omega arith)
+    ap (at (report s)) {x = 6 * rowsOf s + k} {y = 6 * (rowsOf s + k / 6) + k % 6} (omega arith) ∙
+    category-word-at s (k / 6) (k % 6) (omega arith) (omega arith)
 
 total-sum : (s : List ℕ) (j : ℕ) → j < 2 → totalsWord s (24 + j) ≡ grandTotal s j
 total-sum s j l = ap (at (report s)) {x = 6 * rowsOf s + (24 + j)} {y = 6 * rowsOf s + 24 + j} (omega arith) ∙ total-at s j l
@@ -117,9 +119,11 @@ module _ {a b : List ℕ} (h : Pair a b) where
       let ((ea, va), pa) = sheet-judged a .passes (h .first .passed) .0 .0 .1 in
       let ((eb, vb), pb) = sheet-judged b .passes (h .second .passed) .0 .0 .1 in
       let version : versionOf b ≡ versionOf a = h .second .version ∙ sym (h .first .version) in
-      by-place k (eb ∙ sym ea) (vb ∙ sym va) (pb ∙ sym pa) (omega (arith, h .first .version, h .second .version)) (omega (arith, h .first .version, h .second .version)) (sym (h .agree .0)) l
+      by-place k (eb ∙ sym ea) (vb ∙ sym va) (pb ∙ sym pa) (omega (arith, h .first .version, h .second .version))
+      (omega (arith, h .first .version, h .second .version)) (sym (h .agree .0)) l
     where
-      by-place : (k : ℕ) → u8At b 0 ≡ u8At a 0 → u8At b 1 ≡ u8At a 1 → u8At b 2 ≡ u8At a 2 → u8At b 3 ≡ u8At a 3 → u8At b 4 ≡ u8At a 4 → u8At b 5 ≡ u8At a 5
+      by-place : (k : ℕ) → u8At b 0 ≡ u8At a 0 → u8At b 1 ≡ u8At a 1 → u8At b 2 ≡ u8At a 2 → u8At b 3 ≡ u8At a 3
+          → u8At b 4 ≡ u8At a 4 → u8At b 5 ≡ u8At a 5
           → k < 6 → u8At b k ≡ u8At a k
       by-place zero p q r s t u l = p
       by-place (suc zero) p q r s t u l = q

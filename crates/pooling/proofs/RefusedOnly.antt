@@ -30,7 +30,8 @@ late-judged a b = ltb-tests _ _ ⊳ judges-each (rowsOf b) (λ i. judges-refuse 
 left-judged : (a b : List ℕ) (room : ℕ) → regionCheck a ≡ Pass → regionCheck b ≡ Pass → Judges (poolCheck a b room) (leftDemands a b room)
 unfolding poolCheck
 left-judged a b room p q =
-    let left : Judges (pairCheck a b room) (leftDemands a b room) = rw (late a b room p q) (differ-tests a b ⊳ judges-then (late-judged a b) (judges-refuse (ltb-tests _ _))) in
+    let left : Judges (pairCheck a b room) (leftDemands a b room) =
+    rw (late a b room p q) (differ-tests a b ⊳ judges-then (late-judged a b) (judges-refuse (ltb-tests _ _))) in
     rw (sym (go (regionCheck a) (regionCheck b then pairCheck a b room) refl p (go (regionCheck b) (pairCheck a b room) refl q refl))) left
 
 -- the numbers of these demands

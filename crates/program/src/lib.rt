@@ -4,6 +4,15 @@ use libc::STDERR_FILENO;
 use libc::STDIN_FILENO;
 ghost use Rattle.io.specs.Counts.{Counts};
 
+// The bytes of the longest sheet, of 12 seasons and 1,000 rows: 1,160 + 8 · 12 + 24 · 1,000.
+pub const LONGEST: usize = 25256;
+
+// Room for one byte more: a longer input is refused by its length, as it would be whole.
+pub const ROOM: usize = 25257;
+
+// The words of its report, 6 · 1,000 + 26.
+pub const WORDS: usize = 6026;
+
 // Whether the whole input was read, and how many bytes of it stand at the start of the buffer.
 pub struct Input {
     pub read: bool,

@@ -34,7 +34,8 @@ module _ (s words : List ℕ) (f : ℕ → Bool) where
   sum-more i j sum e h = rw add-one (omega arith)
 
 -- a sum over the rows does not see what is stored after their words
-pub sum-kept : (s words vs : List ℕ) (p : ℕ) (f : ℕ → Bool) (n j : ℕ) → 6 * n ≤ p → j < 6 → bufferSum s (sets words p vs) f n j ≡ bufferSum s words f n j
+pub sum-kept : (s words vs : List ℕ) (p : ℕ) (f : ℕ → Bool) (n j : ℕ) → 6 * n ≤ p → j < 6
+    → bufferSum s (sets words p vs) f n j ≡ bufferSum s words f n j
 unfolding bufferSum
 sum-kept s words vs p f zero j h l = refl
 sum-kept s words vs p f (suc n) j h l =
@@ -46,7 +47,8 @@ module _ {s : List ℕ} (bytes : Bytes s) (a : Accepted s) (words : List ℕ) (r
   unfolding bufferSum subtotal
   sum-is f zero j h l = refl
   sum-is f (suc n) j h l =
-      let word : at words (6 * n + j) ≡ getD (wordsOf s n) j 0 = first-at (reportWord s) words _ (6 * n + j) rows (omega arith) ∙ row-word-at s n j h l in
+      let word : at words (6 * n + j) ≡ getD (wordsOf s n) j 0 =
+      first-at (reportWord s) words _ (6 * n + j) rows (omega arith) ∙ row-word-at s n j h l in
       cc (sum-is f n j (omega arith) l)
 
   -- no sum passes 64 bits
@@ -85,5 +87,7 @@ module _ {s : List ℕ} (bytes : Bytes s) (a : Accepted s) (words : List ℕ) (r
     resummed-is =
         let long : 6 * rowsOf s + 26 ≤ length summed-words = simp (length-append, tab-length, length-drop) (omega arith) in
         ap (totalled s) sums-are ∙
-        totals-stored s summed-words first (6 * rowsOf s + 18 + 6) (6 * rowsOf s + 18 + 7) long (omega arith) (omega arith) (total-is 0 (6 * rowsOf s + 18) (omega arith) (omega arith)) (total-is 1 (6 * rowsOf s + 18 + 1) (omega arith) (omega arith)) ∙
+        totals-stored s summed-words first (6 * rowsOf s + 18 + 6) (6 * rowsOf s + 18 + 7) long (omega arith)
+        (omega arith) (total-is 0 (6 * rowsOf s + 18) (omega arith) (omega arith))
+        (total-is 1 (6 * rowsOf s + 18 + 1) (omega arith) (omega arith)) ∙
         filled-again (reportWord s) (reportWord s) words (6 * rowsOf s + 24) (6 * rowsOf s + 26) (omega arith)

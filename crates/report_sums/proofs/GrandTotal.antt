@@ -25,15 +25,22 @@ module _ (s words : List ℕ) (first : take (6 * rowsOf s + 24) words ≡ tab (r
   pub three-words : (j k : ℕ) → j < 2 → k ≡ 6 * rowsOf s + 18 + j → getD words k 0 + getD words (k + 2) 0 + getD words (k + 4) 0 ≡ grandTotal s j
   unfolding grandTotal
   three-words j k h e =
-      omega (arith, all-rows j k (omega arith) e, all-rows (2 + j) (k + 2) (omega arith) (omega arith), all-rows (4 + j) (k + 4) (omega arith) (omega arith))
+      omega (
+        arith,
+        all-rows j k (omega arith) e,
+        all-rows (2 + j) (k + 2) (omega arith) (omega arith),
+        all-rows (4 + j) (k + 4) (omega arith) (omega arith),
+      )
 
   -- both stored after the categories
-  pub totals-stored : (k next : ℕ) {low high : ℕ} → 6 * rowsOf s + 26 ≤ length words → k ≡ 6 * rowsOf s + 24 → next ≡ suc k → low ≡ grandTotal s 0 → high ≡ grandTotal s 1
+  pub totals-stored : (k next : ℕ) {low high : ℕ} → 6 * rowsOf s + 26 ≤ length words → k ≡ 6 * rowsOf s + 24
+      → next ≡ suc k → low ≡ grandTotal s 0 → high ≡ grandTotal s 1
       → set (set words k low) next high ≡ filled (reportWord s) (6 * rowsOf s + 26) words
   totals-stored k next {low} {high} h e f l g =
       let word : (m : ℕ) → m < 2 → getD (low ∷ high ∷ []) m 0 ≡ reportWord s (6 * rowsOf s + 24 + m) = λ m b. pair m b ∙ sym (total-at s m b) in
       let stored : sets words (6 * rowsOf s + 24) (low ∷ high ∷ []) ≡ filled (reportWord s) (6 * rowsOf s + 24 + 2) words =
-      ap (λ (w : List ℕ). sets w (6 * rowsOf s + 24) (low ∷ high ∷ [])) (filled-same (reportWord s) words _ first) ∙ filled-run (reportWord s) words (6 * rowsOf s + 24) (low ∷ high ∷ []) (omega arith) word in
+      ap (λ (w : List ℕ). sets w (6 * rowsOf s + 24) (low ∷ high ∷ [])) (filled-same (reportWord s) words _ first) ∙
+      filled-run (reportWord s) words (6 * rowsOf s + 24) (low ∷ high ∷ []) (omega arith) word in
       rw (f, e) (stored ∙ filled-all (reportWord s) words _ _ (omega arith) (omega arith))
     where
       pair : (m : ℕ) → m < 2 → getD (low ∷ high ∷ []) m 0 ≡ grandTotal s m

@@ -41,7 +41,9 @@ module _ (s : List ℕ) (i j : ℕ) {year : List ℕ} (e : year ≡ tab (rowYear
   season-fits bytes a row season =
       record { sum-fits = λ m h. rw (added m h) (omega (arith, row-year-most bytes a i m (j + 1) row (omega arith), year-fits)) }
 
-  pub season-more : sets year 0 (tab (daysAdded year 0 ((seasonAt s j) .days) (dayFigures (cellsOf s) (seasonAt s j) (rowAt s i))) 6) ≡ tab (rowYear s i (j + 1)) 6
+  pub season-more : sets year 0
+      (tab (daysAdded year 0 ((seasonAt s j) .days) (dayFigures (cellsOf s) (seasonAt s j) (rowAt s i))) 6) ≡ tab
+      (rowYear s i (j + 1)) 6
   season-more =
       let six : List ℕ = tab (daysAdded year 0 ((seasonAt s j) .days) (dayFigures (cellsOf s) (seasonAt s j) (rowAt s i))) 6 in
       let size : length six ≡ 6 = tab-length _ 6 in
@@ -88,7 +90,8 @@ rows-hold s words i there room rest =
     sym (getD-tab (reportWord s) (6 * rowsOf s) k inside))
 
 -- Made anew where all other rows' words are the report's, the buffer holds the report.
-pub renewed-is : {s : List ℕ} → Bytes s → Accepted s → (words : List ℕ) (i : ℕ) → i < rowsOf s → 6 * rowsOf s + 26 ≤ length words → RestHolds s i words
+pub renewed-is : {s : List ℕ} → Bytes s → Accepted s → (words : List ℕ) (i : ℕ) → i < rowsOf s
+    → 6 * rowsOf s + 26 ≤ length words → RestHolds s i words
     → renewed s i words ≡ filled (reportWord s) (6 * rowsOf s + 26) words
 unfolding renewed
 renewed-is {s} bytes a words i there room rest =

@@ -22,14 +22,23 @@ pub subtotal-most : (s : List ℕ) (category : ℕ → Bool) (n j : ℕ) → ((i
 unfolding subtotal wordsOf vehiclesBefore
 subtotal-most s category zero j r = omega arith
 subtotal-most s category (suc n) j r =
-    omega (arith, subtotal-most s category n j (λ i l. r i (omega arith)), counted-most (category ((rowAt s n) .class)) (word-most (r n (omega arith)) j))
+    omega (
+      arith,
+      subtotal-most s category n j (λ i l. r i (omega arith)),
+      counted-most (category ((rowAt s n) .class)) (word-most (r n (omega arith)) j),
+    )
 
 -- the grand total is three of the words for all rows
 pub grand-total-most : (s : List ℕ) (j : ℕ) → ((i : ℕ) → i < rowsOf s → RowSized (cellsOf s) (seasonList s) (rowAt s i))
     → grandTotal s j ≤ 3 * vehicleMost * vehiclesBefore s (rowsOf s)
 unfolding grandTotal
 grand-total-most s j r =
-    omega (arith, subtotal-most s anyClass (rowsOf s) j r, subtotal-most s anyClass (rowsOf s) (2 + j) r, subtotal-most s anyClass (rowsOf s) (4 + j) r)
+    omega (
+      arith,
+      subtotal-most s anyClass (rowsOf s) j r,
+      subtotal-most s anyClass (rowsOf s) (2 + j) r,
+      subtotal-most s anyClass (rowsOf s) (4 + j) r,
+    )
 
 -- all sums fit 64 bits with as many vehicles as 32 rows may have
 pub sums-fit : {vehicles : ℕ} → vehicles ≤ rowsLimit * vehiclesLimit → 3 * vehicleMost * vehicles < 2 ^ 64

@@ -13,7 +13,8 @@ use Rattle.sheet.specs.Versions.{seasonsStart, rowsMost}
 use Rattle.sheet.specs.Bytes.{rowsOf, countsAt, durationCounts, hourCounts, gridCounts, cellsOf, seasonFrom, seasonAt, seasonList}
 use Rattle.sheet.specs.Bytes.{equipmentAt, fittedCanister, fittedTank, canisterOf, tankOf, rowFrom, rowAt}
 use Rattle.sheet.specs.Check.{refuse, _then_, each}
-use Rattle.sheet.specs.Sheet.{vehiclesBefore, outside, lettersMissing, markCheck, numbersCheck, headCheck, lengthCheck, parkingCheck, daysBefore, temperaturesWrong}
+use Rattle.sheet.specs.Sheet.{vehiclesBefore, outside, lettersMissing, markCheck, numbersCheck, headCheck, lengthCheck}
+use Rattle.sheet.specs.Sheet.{parkingCheck, daysBefore, temperaturesWrong}
 use Rattle.sheet.specs.Sheet.{seasonCheck, isAbsent, codeWrong, percentWrong, loadWrong, saturationAbove, someSeason, rowCheck, sheetCheck}
 use Rattle.masses.proofs.MassWidth.{no-vehicles}
 use Rattle.report_words.specs.Report.{reportLength, wordsOf, rowWords, car, lightDuty, twoWheeler, anyClass, counted}
@@ -48,7 +49,8 @@ unfolding definitions rowsOf rowsMost seasonsStart countsAt durationCounts hourC
 reading = 0
 
 unfoldable checking : ℕ
-unfolding reading refuse _then_ each outside lettersMissing markCheck numbersCheck headCheck lengthCheck parkingCheck daysBefore temperaturesWrong seasonCheck
+unfolding reading refuse _then_ each outside lettersMissing markCheck numbersCheck headCheck lengthCheck parkingCheck
+    daysBefore temperaturesWrong seasonCheck
     isAbsent codeWrong percentWrong loadWrong saturationAbove someSeason vehiclesBefore rowCheck sheetCheck
 checking = 0
 

@@ -45,7 +45,13 @@ module _ {s words : List ℕ} (made : Reported s words) where
   lines-most w =
       let a = accepted s (made .accepted) in
       let each : Words (report s) = rw (← made .first) (words-first (reportLength s) words w) in
-      omega (arith, report-most (versionOf s) (rowsOf s) (report s) (omega (arith, a .version-most)) (omega (arith, a .rows-most, rows-limit s)) each, a .rows-most, rows-limit s)
+      omega (
+        arith,
+        report-most (versionOf s) (rowsOf s) (report s) (omega (arith, a .version-most))
+            (omega (arith, a .rows-most, rows-limit s)) each,
+        a .rows-most,
+        rows-limit s,
+      )
 
 -- The line of a refusal.
 pub refusal-is : (s : List ℕ) {number place : ℕ} {check : Check} → check ≡ Refused number place → refusalLine number place ≡ textOf check s

@@ -32,7 +32,8 @@ module _ (f : ℕ → ℕ) (old : List ℕ) where
       → sets (filled f n old) n vs ≡ filled f (n + length vs) old
   filled-run n [] h e = ap (λ (k : ℕ). filled f k old) {x = n} {y = n + 0} (omega arith)
   filled-run n (v ∷ vs) h e =
-      let one : set (filled f n old) n v ≡ filled f (suc n) old = filled-more n (omega arith) (e 0 (omega arith) ∙ ap f {x = n + 0} {y = n} (omega arith)) ∙ rw add-one in
+      let one : set (filled f n old) n v ≡ filled f (suc n) old =
+      filled-more n (omega arith) (e 0 (omega arith) ∙ ap f {x = n + 0} {y = n} (omega arith)) ∙ rw add-one in
       ap (λ (ws : List ℕ). sets ws (suc n) vs) one ∙
       filled-run (suc n) vs (omega arith) (λ m l. e (suc m) (omega arith) ∙ ap f {x = n + suc m} {y = suc n + m} (omega arith)) ∙
       ap (λ (k : ℕ). filled f k old) {x = suc n + length vs} {y = n + suc (length vs)} (omega arith)
@@ -70,7 +71,8 @@ filled-again f g old n m h =
     ap (λ (r : List ℕ). tab g m ++ r)
     (rw (← e) (sym (drop-drop d n (filled f n old)) ∙ ap (drop d) past ∙ drop-drop d n old))
 
-pub filled-twice : (f g : ℕ → ℕ) (old : List ℕ) (n m : ℕ) {before after : List ℕ} → n ≤ m → before ≡ filled f n old → after ≡ filled g m before → after ≡ filled g m old
+pub filled-twice : (f g : ℕ → ℕ) (old : List ℕ) (n m : ℕ) {before after : List ℕ} → n ≤ m → before ≡ filled f n old
+    → after ≡ filled g m before → after ≡ filled g m old
 filled-twice f g old n m h d e = e ∙ rw d (filled-again f g old n m h)
 
 -- a buffer whose first words are those of f

@@ -48,7 +48,8 @@ sums-add f g k m zero h = refl
 sums-add f g k m (suc n) h = omega (arith, sums-add f g k m n (λ i l. h i (omega arith)), h n (omega arith))
 
 -- a class from 1 to 9 belongs to one of the three
-one-of-three : (class x : ℕ) → 1 ≤ class → class ≤ 9 → counted (car class) x + counted (lightDuty class) x + counted (twoWheeler class) x ≡ counted (anyClass class) x
+one-of-three : (class x : ℕ) → 1 ≤ class → class ≤ 9 → counted (car class) x + counted (lightDuty class) x + counted
+    (twoWheeler class) x ≡ counted (anyClass class) x
 unfolding counted car lightDuty twoWheeler anyClass
 one-of-three zero x l m = absurd (omega arith)
 one-of-three (suc zero) x l m = omega arith
@@ -68,9 +69,11 @@ module _ {s words : List ℕ} (bytes : Bytes s) (a : Accepted s) (h : Holds s wo
   row-promise : (i : ℕ) → i < rowsOf s → RowPromise s words i
   unfolding wordsOf rowFigures
   row-promise i row =
-      let each : Every (λ (season : Season). Enclosed (cellsOf s) season (rowAt s i)) (seasonList s) = every-season _ s (λ j l. enclosed bytes a row l) in
+      let each : Every (λ (season : Season). Enclosed (cellsOf s) season (rowAt s i)) (seasonList s) =
+      every-season _ s (λ j l. enclosed bytes a row l) in
       let band = mass-band (cellsOf s) (row-shares (a .row i row)) (seasonList s) each in
-      let first : at words (6 * i) ≡ at (wordsOf s i) 0 = ap (at words) {x = 6 * i} {y = 6 * i + 0} (omega arith) ∙ row-word h i 0 row (omega arith) in
+      let first : at words (6 * i) ≡ at (wordsOf s i) 0 =
+      ap (at words) {x = 6 * i} {y = 6 * i + 0} (omega arith) ∙ row-word h i 0 row (omega arith) in
       record {
         diurnal-band = rw (first, row-word h i 1 row (omega arith)) (band diurnal);
         soak-band = rw (row-word h i 2 row (omega arith), row-word h i 3 row (omega arith)) (band soak);
@@ -99,7 +102,16 @@ module _ {s words : List ℕ} (bytes : Bytes s) (a : Accepted s) (h : Holds s wo
       let place : 6 * (rowsOf s + 4) + j ≡ 6 * rowsOf s + 24 + j = omega arith in
       let second : 2 + j ≡ j + 2 = omega arith in
       let third : 4 + j ≡ j + 4 = omega arith in
-      rw (place, h .word (6 * rowsOf s + 24 + j) (omega arith), total-at s j l, whole-word j (omega arith), whole-word (j + 2) (omega arith), whole-word (j + 4) (omega arith), second, third) refl
+      rw (
+        place,
+        h .word (6 * rowsOf s + 24 + j) (omega arith),
+        total-at s j l,
+        whole-word j (omega arith),
+        whole-word (j + 2) (omega arith),
+        whole-word (j + 4) (omega arith),
+        second,
+        third,
+      ) refl
 
   -- the sums
   sums-promise : SumsPromise s words
@@ -110,8 +122,15 @@ module _ {s words : List ℕ} (bytes : Bytes s) (a : Accepted s) (h : Holds s wo
     two = λ j l. category-sum h 2 j (omega arith) l;
     all = λ j l. category-sum h 3 j (omega arith) l;
     add-up = λ j l.
-        rw (category-sum h 0 j (omega arith) l, category-sum h 1 j (omega arith) l, category-sum h 2 j (omega arith) l, category-sum h 3 j (omega arith) l)
-        (sums-add _ _ _ _ (rowsOf s) (λ i row. one-of-three ((rowAt s i) .class) (at words (6 * i + j)) (a .row i row .class-least) (a .row i row .class-most)));
+        rw (
+          category-sum h 0 j (omega arith) l,
+          category-sum h 1 j (omega arith) l,
+          category-sum h 2 j (omega arith) l,
+          category-sum h 3 j (omega arith) l,
+        )
+        (sums-add _ _ _ _ (rowsOf s)
+        (λ i row. one-of-three ((rowAt s i) .class) (at words (6 * i + j)) (a .row i row .class-least)
+        (a .row i row .class-most)));
     grand = grand-word;
   }
 

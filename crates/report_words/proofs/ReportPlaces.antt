@@ -12,7 +12,8 @@ use lib.Seq.{getD-append-add}
 use Rattle.numbers.proofs.Lists.{tab-length, getD-tab}
 use Rattle.sheet.specs.Bytes.{rowsOf}
 use Rattle.masses.specs.Figures.{rowFigures}
-use Rattle.report_words.specs.Report.{reportLength, wordsOf, rowWords, car, lightDuty, twoWheeler, anyClass, subtotal, subtotals, grandTotal, report}
+use Rattle.report_words.specs.Report.{reportLength, wordsOf, rowWords, car, lightDuty, twoWheeler, anyClass}
+use Rattle.report_words.specs.Report.{subtotal, subtotals, grandTotal, report}
 use Rattle.report_words.specs.Years.{category}
 
 -- six words for each row
@@ -100,4 +101,5 @@ module _ (s : List ℕ) where
   unfolding report
   total-at j l =
       simp append-assoc
-      (after-rows _ (6 + (6 + (6 + (6 + j)))) _ (omega arith) ∙ next car _ _ ∙ next lightDuty _ _ ∙ next twoWheeler _ _ ∙ next anyClass _ j ∙ totals j l)
+      (after-rows _ (6 + (6 + (6 + (6 + j)))) _ (omega arith) ∙ next car _ _ ∙ next lightDuty _ _ ∙
+      next twoWheeler _ _ ∙ next anyClass _ j ∙ totals j l)

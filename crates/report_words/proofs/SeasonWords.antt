@@ -20,9 +20,11 @@ use Rattle.report_words.proofs.YearWords.{year-none, year-more, year-wo
 -- Row i, where the rows before it have been added.
 module _ (s : List ℕ) (season : Season) (old words : List ℕ) (i : ℕ) (e : words ≡ filled (seasonAdded s season old) (6 * i) old) where
   -- its word m
-  row-added : (m : ℕ) → m < 6 → daysAdded words (6 * i) (season .days) (dayFigures (cellsOf s) season (rowAt s i)) m ≡ seasonAdded s season old (6 * i + m)
+  row-added : (m : ℕ) → m < 6 → daysAdded words (6 * i) (season .days) (dayFigures (cellsOf s) season (rowAt s i)) m ≡
+      seasonAdded s season old (6 * i + m)
   row-added m h =
-      let still : getD words (6 * i + m) 0 ≡ getD old (6 * i + m) 0 = rw e (filled-beyond (seasonAdded s season old) old (6 * i) (6 * i + m) (omega arith)) in
+      let still : getD words (6 * i + m) 0 ≡ getD old (6 * i + m) 0 =
+      rw e (filled-beyond (seasonAdded s season old) old (6 * i) (6 * i + m) (omega arith)) in
       let row : (6 * i + m) / 6 ≡ i = omega arith in
       let word : (6 * i + m) % 6 ≡ m = omega arith in
       rw (row, word, still)
@@ -33,7 +35,8 @@ module _ (s : List ℕ) (season : Season) (old words : List ℕ) (i : ℕ) (e : 
 
   -- and are stored after those of the rows before
   pub row-stored : 6 * i + 6 ≤ length old → (n : ℕ) → n ≡ 6 * i + 6
-      → sets words (6 * i) (tab (daysAdded words (6 * i) (season .days) (dayFigures (cellsOf s) season (rowAt s i))) 6) ≡ filled (seasonAdded s season old) n old
+      → sets words (6 * i) (tab (daysAdded words (6 * i) (season .days) (dayFigures (cellsOf s) season (rowAt s i))) 6)
+      ≡ filled (seasonAdded s season old) n old
   row-stored room n f =
       let g : ℕ → ℕ = daysAdded words (6 * i) (season .days) (dayFigures (cellsOf s) season (rowAt s i)) in
       let size = tab-length g 6 in

@@ -58,7 +58,8 @@ unfolding yearWord
 report-from-year s k h =
     let place : 6 * (k / 6) + k % 6 ≡ k = omega arith in
     let parity : k % 2 ≡ k % 6 % 2 = omega arith in
-    rw parity (word-from-year s (k / 6) (k % 6) (omega arith)) ∙ sym (row-word-at s (k / 6) (k % 6) (omega arith) (omega arith)) ∙ ap (reportWord s) place
+    rw parity (word-from-year s (k / 6) (k % 6) (omega arith)) ∙
+    sym (row-word-at s (k / 6) (k % 6) (omega arith) (omega arith)) ∙ ap (reportWord s) place
 
 -- no season, and one more
 pub year-none : (s : List ℕ) (k : ℕ) → yearWord s 0 k ≡ 0
@@ -81,7 +82,9 @@ figures-most s i j m bytes a row season = go m
     low : (k : Factor) → lowMicrograms (factorUnits (seasonAt s j) (rowAt s i) (cellsOf s) k) ≤ factorMost k
     low k = omega (arith, low-below-high (factorUnits (seasonAt s j) (rowAt s i) (cellsOf s) k), high k)
 
-    day : (micrograms : ℕ → ℕ) → ((k : Factor) → micrograms (factorUnits (seasonAt s j) (rowAt s i) (cellsOf s) k) ≤ factorMost k) → (mechanism : Mechanism)
+    day : (micrograms : ℕ → ℕ)
+        → ((k : Factor) → micrograms (factorUnits (seasonAt s j) (rowAt s i) (cellsOf s) k) ≤ factorMost k)
+        → (mechanism : Mechanism)
         → dayFigure micrograms (cellsOf s) (seasonAt s j) (rowAt s i) mechanism ≤ dayMost
     day micrograms h = day-most (row-shares (a .row i row)) (a .row i row .trips-most) micrograms (cellsOf s) (seasonAt s j) h
 

@@ -74,7 +74,8 @@ module _ (season : Season) (row : Row) (counts : List ℕ) where
 
   -- on a trip too
   open-open : (c : Canister) → halves c ≡ 0 → (raised : ℕ)
-      → gain season row * meanUnits counts (λ (cell : ℕ). raise raised (markWarmth season (endOf cell))) / 2 ^ 40 ≡ openUnits season row counts c raised
+      → gain season row * meanUnits counts (λ (cell : ℕ). raise raised (markWarmth season (endOf cell))) / 2 ^ 40 ≡
+      openUnits season row counts c raised
   unfolding halves openUnits vapourUnits
   open-open None e raised = refl
   open-open Small e raised = absurd (omega arith)
@@ -106,7 +107,8 @@ module _ {season : Season} (s : SeasonInRange season) where
   rates-plain e = e ∙ tab-ext 48 (λ i _. ap (rate (season .vp)) (omega arith))
 
   -- and what passed of them
-  pub rates-in : {xs : List ℕ} → xs ≡ tab (λ (i : ℕ). rate (season .vp) (markWarmth season i)) 48 → (cell : ℕ) → passedIn xs cell ≡ parkingRates season cell
+  pub rates-in : {xs : List ℕ} → xs ≡ tab (λ (i : ℕ). rate (season .vp) (markWarmth season i)) 48 → (cell : ℕ)
+      → passedIn xs cell ≡ parkingRates season cell
   unfolding parkingRates
   rates-in e cell = passedIn-tab _ e cell
 
@@ -118,7 +120,8 @@ module _ {season : Season} (s : SeasonInRange season) where
   rises-most e = tab-at-most _ 576 e (λ cell _. omega (arith, season-rise-most s (endHour cell) (duration cell) (duration-most cell)))
 
 -- A row with a canister, whose values at the marks these are.
-module _ {season : Season} {row : Row} {c : Curves} (f : CurvesOf season row c) (l : row .load ≤ row .saturation) (p : 0 < halves (row .canister)) (cells : List ℕ) where
+module _ {season : Season} {row : Row} {c : Curves} (f : CurvesOf season row c) (l : row .load ≤ row .saturation)
+    (p : 0 < halves (row .canister)) (cells : List ℕ) where
   -- from the end, or the start, of a cell's parking
   through-from : (ends : Bool) (cell rise : ℕ) → through (curveAt c (apartOf ends cell)) rise ≡ throughUnits season row (markOf ends cell) rise
   through-from ends cell rise =
@@ -183,12 +186,19 @@ module _ {tables grid list : List ℕ} {given : AtSeason} {row : Row} {vapour ke
   fitted = curves-ready (marks-of .season-in) (q .0 .row-in) (q .1) f
 
   pub parking-needs : (tables ≡ entries) × GridReady grid × CurvesReady c × ListFits (72 * 2 ^ 40) list
-  parking-needs =
-      (q .0 .lent .tables-are, q .0 .lent .grid-ready, fitted, q .0 .list-for .ready (q .1) .fits (72 * 2 ^ 40) (rises-most (marks-of .season-in) refl))
+  parking-needs = (
+    q .0 .lent .tables-are,
+    q .0 .lent .grid-ready,
+    fitted,
+    q .0 .list-for .ready (q .1) .fits (72 * 2 ^ 40) (rises-most (marks-of .season-in) refl),
+  )
 
   -- nothing breaks through where nothing rises
   still : (start : ℕ) → start < 25 → through (curveAt c start) 0 / 2 ^ 12 ≡ 0
-  still start h = rw (through-is (q .0 .row-in .load-most) f start 0 h, through-none (given .season) row (ahead start) (q .0 .row-in .load-most)) (omega arith)
+  still start h = rw (
+    through-is (q .0 .row-in .load-most) f start 0 h,
+    through-none (given .season) row (ahead start) (q .0 .row-in .load-most),
+  ) (omega arith)
 
   pub parking-right : {x : ℕ} → x ≡ parkingThrough list (at grid sumPlace) c → x ≡ parkingEscape (given .season) row (cellsIn grid)
   parking-right e =
@@ -213,19 +223,32 @@ module _ {tables grid list : List ℕ} {given : AtSeason} {row : Row} {vapour ke
 
   rise-mean-most : given .means .rise ≤ 72 * 2 ^ 40
   rise-mean-most =
-      omega (arith, r .lent .means-are .rise-is, meanUnits-most (cellsIn grid) (parkingRise (given .season)) (72 * 2 ^ 28) (λ cell. omega (arith, parking-rise-most season-ok (r .row-in) cell)))
+      omega (
+        arith,
+        r .lent .means-are .rise-is,
+        meanUnits-most (cellsIn grid) (parkingRise (given .season)) (72 * 2 ^ 28)
+            (λ cell. omega (arith, parking-rise-most season-ok (r .row-in) cell)),
+      )
 
   raise-mean-most : (mark : ℕ → ℕ) (k : ℕ) {x : ℕ} → k ≤ 60 → x ≡ meanAt (cellsIn grid) mark (raisesBy (given .season) k) → x ≤ 72 * 2 ^ 40
   raise-mean-most mark k h e =
-      omega (arith, e, meanUnits-most (cellsIn grid) (λ (cell : ℕ). raisesBy (given .season) k (mark cell)) (56 * 2 ^ 28) (λ cell. omega (arith, raise-rise-most season-ok (r .row-in) k (mark cell) h)))
+      omega (
+        arith,
+        e,
+        meanUnits-most (cellsIn grid) (λ (cell : ℕ). raisesBy (given .season) k (mark cell))
+            (56 * 2 ^ 28) (λ cell. omega (arith, raise-rise-most season-ok (r .row-in) k (mark cell) h)),
+      )
 
   -- two raises from the start of a parking, and two from its end
   pub open-needs : (i j k l : ℕ) {a b c d : ℕ} → i ≤ 60 → j ≤ 60 → k ≤ 60 → l ≤ 60
       → a ≡ meanAt (cellsIn grid) startOf (raisesBy (given .season) i) → b ≡ meanAt (cellsIn grid) startOf (raisesBy (given .season) j)
       → c ≡ meanAt (cellsIn grid) endOf (raisesBy (given .season) k) → d ≡ meanAt (cellsIn grid) endOf (raisesBy (given .season) l)
       → (vapour < 2 ^ 50) × AllAtMost (72 * 2 ^ 40) (given .means .rise ∷ a ∷ b ∷ c ∷ d ∷ [])
-  open-needs i j k l hi hj hk hl ei ej ek el =
-      (omega (arith, r .vapour-is, gain-most season-ok (r .row-in)), five-most rise-mean-most (raise-mean-most startOf i hi ei) (raise-mean-most startOf j hj ej) (raise-mean-most endOf k hk ek) (raise-mean-most endOf l hl el))
+  open-needs i j k l hi hj hk hl ei ej ek el = (
+    omega (arith, r .vapour-is, gain-most season-ok (r .row-in)),
+    five-most rise-mean-most (raise-mean-most startOf i hi ei) (raise-mean-most startOf j hj ej)
+        (raise-mean-most endOf k hk ek) (raise-mean-most endOf l hl el),
+  )
 
   -- the vapour of a mean rise
   vapour-of : {x y : ℕ} → x ≡ y → vapour * x / 2 ^ 40 ≡ gain (given .season) row * y / 2 ^ 40

@@ -42,16 +42,46 @@ module _ (season : Season) (row : Row) (cells : List ℕ) where
     running-is = ap (λ (x : ℕ). row .minutes * x / 60) (means .run-is)
 
     -- the seven of a car
-    pub car-seven : {e : Escapes} → leb 5 (row .class) ≡ false → CarEscapes season row cells e → carSeven e m (row .minutes) ≡ sevenUnits season row cells
+    pub car-seven : {e : Escapes} → leb 5 (row .class) ≡ false → CarEscapes season row cells e
+        → carSeven e m (row .minutes) ≡ sevenUnits season row cells
     unfolding carSeven sevenUnits carUnits soakUnits
     car-seven class escapes =
-        rw (car-unit class F1, car-unit class F2, car-unit class F3, car-unit class F4, car-unit class F5, car-unit class F6, car-unit class F7, diurnal-is (escapes .parking-is), running-is, means .soak-is, escapes .soak-is, escapes .hotsoak-is, escapes .trip-is, escapes .hottrip-is)
+        rw (
+          car-unit class F1,
+          car-unit class F2,
+          car-unit class F3,
+          car-unit class F4,
+          car-unit class F5,
+          car-unit class F6,
+          car-unit class F7,
+          diurnal-is (escapes .parking-is),
+          running-is,
+          means .soak-is,
+          escapes .soak-is,
+          escapes .hotsoak-is,
+          escapes .trip-is,
+          escapes .hottrip-is,
+        )
 
     -- of a two-wheeler
-    pub two-wheeler-seven : {e : Escapes} → leb 5 (row .class) ≡ true → TwoWheelerEscapes season row cells e → twoWheelerSeven e m ≡ sevenUnits season row cells
+    pub two-wheeler-seven : {e : Escapes} → leb 5 (row .class) ≡ true → TwoWheelerEscapes season row cells e
+        → twoWheelerSeven e m ≡ sevenUnits season row cells
     unfolding twoWheelerSeven sevenUnits twoWheelerUnits
     two-wheeler-seven class escapes =
-        rw (two-wheeler-unit class F1, two-wheeler-unit class F2, two-wheeler-unit class F3, two-wheeler-unit class F4, two-wheeler-unit class F5, two-wheeler-unit class F6, two-wheeler-unit class F7, diurnal-is (escapes .parking-is), escapes .soak-is, escapes .hotsoak-is, escapes .trip-is, escapes .hottrip-is)
+        rw (
+          two-wheeler-unit class F1,
+          two-wheeler-unit class F2,
+          two-wheeler-unit class F3,
+          two-wheeler-unit class F4,
+          two-wheeler-unit class F5,
+          two-wheeler-unit class F6,
+          two-wheeler-unit class F7,
+          diurnal-is (escapes .parking-is),
+          escapes .soak-is,
+          escapes .hotsoak-is,
+          escapes .trip-is,
+          escapes .hottrip-is,
+        )
 
 -- No sum overflows, since each is a factor.
 
@@ -77,7 +107,9 @@ module _ {season : Season} {row : Row} (s : SeasonInRange season) (r : RowInRang
     minutes-fit : row .minutes * m .run < 2 ^ 63
     minutes-fit =
         let run : m .run ≤ 2 ^ 28
-        = rw (means .run-is) (meanUnits-most cells (λ (cell : ℕ). ratesAt season 150 (endOf cell)) (2 ^ 28) (λ cell. omega (arith, raised-rate-most s r 150 (endOf cell) (omega arith)))) in
+        = rw (means .run-is)
+        (meanUnits-most cells (λ (cell : ℕ). ratesAt season 150 (endOf cell)) (2 ^ 28)
+        (λ cell. omega (arith, raised-rate-most s r 150 (endOf cell) (omega arith)))) in
         omega (arith, mul-le-mul (r .minutes-most) run)
 
     pub car-ready : {e : Escapes} → leb 5 (row .class) ≡ false → CarEscapes season row cells e → CarFits e m (row .minutes)

@@ -87,7 +87,8 @@ held-grows {s} {t} {i} {v} m owners who n =
     let here : counted (eqb (at owners i) who) ((rowAt t i) .vehicles) ≡ counted (eqb (at owners i) who) v = rw (m .here) refl in
     omega (
       arith,
-      sum-grows (λ (j : ℕ). counted (eqb (at owners j) who) ((rowAt s j) .vehicles)) (λ (j : ℕ). counted (eqb (at owners j) who) ((rowAt t j) .vehicles)) i (λ j e. rw (m .elsewhere j e) refl) n,
+      sum-grows (λ (j : ℕ). counted (eqb (at owners j) who) ((rowAt s j) .vehicles))
+          (λ (j : ℕ). counted (eqb (at owners j) who) ((rowAt t j) .vehicles)) i (λ j e. rw (m .elsewhere j e) refl) n,
       counted-grows (eqb (at owners i) who) v ((rowAt s i) .vehicles),
       here,
     )
@@ -99,7 +100,8 @@ moved-within held v (Arrival row k) h within = omega arith
 moved-within held v (Departure row k) h within = omega arith
 
 -- A ledger that opens, and a change of it that passes.
-module _ (x : Ledger) (owners : List ℕ) (who : ℕ) (call : Call) (passes : sharedChangeCheck (x .sheet) owners (length (x .words)) who call ≡ Pass) where
+module _ (x : Ledger) (owners : List ℕ) (who : ℕ) (call : Call)
+    (passes : sharedChangeCheck (x .sheet) owners (length (x .words)) who call ≡ Pass) where
   abbrev s : List ℕ
   s = x .sheet
 
@@ -155,7 +157,8 @@ module _ (x : Ledger) (owners : List ℕ) (who : ℕ) (call : Call) (passes : sh
       held : (o : ℕ) → vehiclesHeld s owners o (rowsOf s) ≤ vehiclesEach
       held o = held-most s owners (length (x .words)) (met .shared) o (rowsOf s) (omega arith)
 
-      go : (b : Bool) → eqb (at owners i) o ≡ b → vehiclesHeld s owners o (rowsOf s) + counted (eqb (at owners i) o) (moved ((rowAt s i) .vehicles) call - (rowAt s i) .vehicles) ≤ vehiclesEach
+      go : (b : Bool) → eqb (at owners i) o ≡ b → vehiclesHeld s owners o (rowsOf s) + counted (eqb (at owners i) o)
+          (moved ((rowAt s i) .vehicles) call - (rowAt s i) .vehicles) ≤ vehiclesEach
       go true e =
           let same : who ≡ o = sym (met .owner) ∙ owner-there s owners i row-theirs ∙ eqb-true (at owners i) o e in
           rw (e, ← same) (moved-within (vehiclesHeld s owners who (rowsOf s)) ((rowAt s i) .vehicles) call (held who) (met .within))

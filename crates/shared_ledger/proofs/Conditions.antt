@@ -16,7 +16,8 @@ use Rattle.sheet.specs.Bytes.{rowsOf}
 use Rattle.sheet.specs.Check.{numberOf, placeOf}
 use Rattle.sheet.specs.Demands.{FirstUnmet, Says}
 use Rattle.sheet.specs.Sheet.{outside, sheetCheck}
-use Rattle.sheet.proofs.Checks.{Tests, Shows, Judges, judges-refuse, judges-then, judges-each, ltb-tests, ||-tests, tests-as, not-tests, eqb-shows, &&-shows, says, then-pass, true-is-not-false}
+use Rattle.sheet.proofs.Checks.{Tests, Shows, Judges, judges-refuse, judges-then, judges-each, ltb-tests, ||-tests}
+use Rattle.sheet.proofs.Checks.{tests-as, not-tests, eqb-shows, &&-shows, says, then-pass, true-is-not-false}
 use Rattle.sheet.proofs.Conditions.{no-zero}
 use Rattle.report_words.specs.Report.{reportLength}
 use Rattle.inventory.specs.ReportCall.{reportCheck}
@@ -27,7 +28,8 @@ use Rattle.ledger.specs.Machine.{rowOf}
 use Rattle.ledger.proofs.Conditions.{call-tests}
 use Rattle.shared_ledger.specs.Opening.{vehiclesEach, participants, rowsEach, rowsHeld, vehiclesHeld, shareWrong, shareCheck, sharedCheck}
 use Rattle.shared_ledger.specs.Opening.{Share, sharedDemands}
-use Rattle.shared_ledger.specs.Calls.{ownerOf, mayChange, mayRead, mayTotal, pastShare, sharedChangeCheck, sharedRowCheck, sharedTotalsCheck, WithinShare}
+use Rattle.shared_ledger.specs.Calls.{ownerOf, mayChange, mayRead, mayTotal, pastShare, sharedChangeCheck}
+use Rattle.shared_ledger.specs.Calls.{sharedRowCheck, sharedTotalsCheck, WithinShare}
 use Rattle.shared_ledger.specs.Calls.{sharedChangeDemands, sharedRowDemands, sharedTotalsDemands}
 
 -- a row and its owner
@@ -76,7 +78,8 @@ past-tests held (Arrival row k) = ltb-tests vehiclesEach (held + k)
 past-tests held (Departure row k) = record { holds = λ h. tt; fails = λ h. absurd (true-is-not-false (sym h)) }
 
 -- each call
-pub change-judged : (s owners : List ℕ) (room who : ℕ) (call : Call) → Judges (sharedChangeCheck s owners room who call) (sharedChangeDemands s owners room who call)
+pub change-judged : (s owners : List ℕ) (room who : ℕ) (call : Call)
+    → Judges (sharedChangeCheck s owners room who call) (sharedChangeDemands s owners room who call)
 unfolding sharedChangeCheck
 change-judged s owners room who call =
     judges-then (shared-judged s owners room)
@@ -96,14 +99,18 @@ totals-judged s owners room who = judges-then (shared-judged s owners room) (jud
 never-zero : (s owners : List ℕ) (room p : ℕ) → FirstUnmet 0 p (sharedDemands s owners room) → ⊥
 never-zero s owners room p u = ⊎-elim (λ r. ⊎-elim (no-zero s p) (λ m. omega (arith, m .1 .0)) r) (λ m. omega (arith, m .1 .3 .0)) u
 
-pub shared-says : (s owners : List ℕ) (room : ℕ) → Says (sharedDemands s owners room) (numberOf (sharedCheck s owners room)) (placeOf (sharedCheck s owners room))
+pub shared-says : (s owners : List ℕ) (room : ℕ)
+    → Says (sharedDemands s owners room) (numberOf (sharedCheck s owners room)) (placeOf (sharedCheck s owners room))
 shared-says s owners room = says (sharedCheck s owners room) (shared-judged s owners room) (never-zero s owners room)
 
 pub change-says : (s owners : List ℕ) (room who : ℕ) (call : Call)
-    → Says (sharedChangeDemands s owners room who call) (numberOf (sharedChangeCheck s owners room who call)) (placeOf (sharedChangeCheck s owners room who call))
+    → Says (sharedChangeDemands s owners room who call) (numberOf (sharedChangeCheck s owners room who call))
+    (placeOf (sharedChangeCheck s owners room who call))
 change-says s owners room who call =
     says (sharedChangeCheck s owners room who call) (change-judged s owners room who call)
-    (λ p u. ⊎-elim (never-zero s owners room p) (λ r. ⊎-elim (λ m. omega (arith, m .0)) (λ l. ⊎-elim (λ m. omega (arith, m .0)) (λ m. omega (arith, m .1 .0)) (l .1)) (r .1)) u)
+    (λ p u. ⊎-elim (never-zero s owners room p)
+    (λ r. ⊎-elim (λ m. omega (arith, m .0))
+    (λ l. ⊎-elim (λ m. omega (arith, m .0)) (λ m. omega (arith, m .1 .0)) (l .1)) (r .1)) u)
 
 pub row-says : (s owners : List ℕ) (room who i : ℕ)
     → Says (sharedRowDemands s owners room who i) (numberOf (sharedRowCheck s owners room who i)) (placeOf (sharedRowCheck s owners room who i))
@@ -114,7 +121,8 @@ row-says s owners room who i =
 pub totals-says : (s owners : List ℕ) (room who : ℕ)
     → Says (sharedTotalsDemands s owners room who) (numberOf (sharedTotalsCheck s owners room who)) (placeOf (sharedTotalsCheck s owners room who))
 totals-says s owners room who =
-    says (sharedTotalsCheck s owners room who) (totals-judged s owners room who) (λ p u. ⊎-elim (never-zero s owners room p) (λ m. omega (arith, m .1 .0)) u)
+    says (sharedTotalsCheck s owners room who) (totals-judged s owners room who)
+    (λ p u. ⊎-elim (never-zero s owners room p) (λ m. omega (arith, m .1 .0)) u)
 
 -- so a number 0 passes
 pub shared-zero : (s owners : List ℕ) (room : ℕ) → numberOf (sharedCheck s owners room) ≡ 0 → sharedCheck s owners room ≡ Pass

@@ -57,7 +57,8 @@ made-leaves (rowRead a m) = made-leaves m
 made-leaves (totalsRead a m) = made-leaves m
 
 -- a course's opening passes the check
-opens : {s owners w t u : List ℕ} {asks : List Ask} {replies : List Reply} → Course s owners w asks replies t u → sharedCheck s owners (length w) ≡ Pass
+opens : {s owners w t u : List ℕ} {asks : List Ask} {replies : List Reply} → Course s owners w asks replies t u
+    → sharedCheck s owners (length w) ≡ Pass
 opens course = sym (course .opening .answer-is) ∙ course .accepted
 
 pub isolated : IsolatedTheorem

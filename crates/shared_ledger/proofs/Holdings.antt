@@ -54,11 +54,13 @@ sum-upto f n (suc k) = let e : n + suc k ≡ suc (n + k) = omega arith in rw e (
 
 pub held-upto : (s owners : List ℕ) (who n m : ℕ) → n ≤ m → vehiclesHeld s owners who n ≤ vehiclesHeld s owners who m
 unfolding vehiclesHeld
-held-upto s owners who n m h = let d = le-dest h in rw (← d .1) (sum-upto (λ (i : ℕ). counted (eqb (at owners i) who) ((rowAt s i) .vehicles)) n (d .0))
+held-upto s owners who n m h = let d =
+    le-dest h in rw (← d .1) (sum-upto (λ (i : ℕ). counted (eqb (at owners i) who) ((rowAt s i) .vehicles)) n (d .0))
 
 -- a row's count is its owner's
 one-of-eight : (o v : ℕ) → 1 ≤ o → o ≤ participants
-    → v ≤ counted (eqb o 1) v + counted (eqb o 2) v + counted (eqb o 3) v + counted (eqb o 4) v + counted (eqb o 5) v + counted (eqb o 6) v + counted (eqb o 7) v + counted (eqb o 8) v
+    → v ≤ counted (eqb o 1) v + counted (eqb o 2) v + counted (eqb o 3) v + counted (eqb o 4) v + counted (eqb o 5) v +
+    counted (eqb o 6) v + counted (eqb o 7) v + counted (eqb o 8) v
 unfolding counted
 one-of-eight zero v h l = absurd (omega arith)
 one-of-eight (suc zero) v h l = omega arith
@@ -95,10 +97,33 @@ module _ (s owners : List ℕ) (room : ℕ) (h : sharedCheck s owners room ≡ P
   together (suc n) l =
       let share = shared-share s owners room h n l in
       let more = held-more s owners in
-      omega (arith, together n (omega arith), one-of-eight (at owners n) ((rowAt s n) .vehicles) (share .owner-least) (share .owner-most), more 1 n, more 2 n, more 3 n, more 4 n, more 5 n, more 6 n, more 7 n, more 8 n)
+      omega (
+        arith,
+        together n (omega arith),
+        one-of-eight (at owners n) ((rowAt s n) .vehicles) (share .owner-least) (share .owner-most),
+        more 1 n,
+        more 2 n,
+        more 3 n,
+        more 4 n,
+        more 5 n,
+        more 6 n,
+        more 7 n,
+        more 8 n,
+      )
 
   -- so all rows have at most 80,000,000
   pub fleet-held : vehiclesBefore s (rowsOf s) ≤ 8 * vehiclesEach
   fleet-held =
       let all : rowsOf s ≤ rowsOf s = omega arith in
-      omega (arith, together (rowsOf s) all, held-most 1 (rowsOf s) all, held-most 2 (rowsOf s) all, held-most 3 (rowsOf s) all, held-most 4 (rowsOf s) all, held-most 5 (rowsOf s) all, held-most 6 (rowsOf s) all, held-most 7 (rowsOf s) all, held-most 8 (rowsOf s) all)
+      omega (
+        arith,
+        together (rowsOf s) all,
+        held-most 1 (rowsOf s) all,
+        held-most 2 (rowsOf s) all,
+        held-most 3 (rowsOf s) all,
+        held-most 4 (rowsOf s) all,
+        held-most 5 (rowsOf s) all,
+        held-most 6 (rowsOf s) all,
+        held-most 7 (rowsOf s) all,
+        held-most 8 (rowsOf s) all,
+      )

@@ -21,7 +21,8 @@ use Rattle.ledger.specs.declared.Call.{Call}
 use Rattle.ledger.specs.Machine.{rowOf}
 use Rattle.ledger.specs.Ledger.{Ledger, after, opened}
 use Rattle.shared_ledger.specs.Opening.{vehiclesHeld}
-use Rattle.shared_ledger.specs.Calls.{ownerOf, mayChange, mayRead, mayTotal, pastShare, sharedChangeCheck, sharedRowCheck, sharedTotalsCheck, rowTold, sharedRowAnswer}
+use Rattle.shared_ledger.specs.Calls.{ownerOf, mayChange, mayRead, mayTotal, pastShare, sharedChangeCheck}
+use Rattle.shared_ledger.specs.Calls.{sharedRowCheck, sharedTotalsCheck, rowTold, sharedRowAnswer}
 use Rattle.shared_ledger.specs.Calls.{totalsTold, sharedTotalsAnswer}
 use Rattle.shared_ledger.specs.Told.{Ask, change, readRow, readTotals, askerOf, ofChange, ofRow, ofTotals, reply, leaves, afterAsk, told}
 use Rattle.shared_ledger.specs.Told.{madeBy, SameTo, IsolationTheorem}
@@ -74,7 +75,8 @@ module _ (who : ℕ) (some : 0 < who) where
         sym (held-theirs t others)
 
     -- a count moved alike in a row of theirs,
-    moved-same : {s' t' : List ℕ} {i v : ℕ} → OneMoved s s' i v → OneMoved t t' i v → eqb (ownerOf s owners i) who ≡ true → SameTo who s' owners t' others
+    moved-same : {s' t' : List ℕ} {i v : ℕ} → OneMoved s s' i v → OneMoved t t' i v
+        → eqb (ownerOf s owners i) who ≡ true → SameTo who s' owners t' others
     moved-same {s'} {t'} {i} {v} m n mine = record {
       parking-same = m .cells-same ∙ same .parking-same ∙ sym (n .cells-same);
       seasons-same = m .seasons-same ∙ same .seasons-same ∙ sym (n .seasons-same);
@@ -102,7 +104,8 @@ module _ {s owners w : List ℕ} (x : Ledger) (good : SharedInv s owners w x) (w
   abbrev t : List ℕ
   t = x .sheet
 
-  change-barred : (call : Call) → eqb (ownerOf (x .sheet) owners (rowOf call)) who ≡ false → sharedChangeCheck (x .sheet) owners (length (x .words)) who call ≡ Refused 30 0
+  change-barred : (call : Call) → eqb (ownerOf (x .sheet) owners (rowOf call)) who ≡ false
+      → sharedChangeCheck (x .sheet) owners (length (x .words)) who call ≡ Refused 30 0
   unfolding sharedChangeCheck mayChange refuse _then_
   change-barred call h = pass-on s owners w x good _ ∙ go (ltb 0 who) (eqb (ownerOf t owners (rowOf call)) who) _ h
     where
@@ -110,7 +113,8 @@ module _ {s owners w : List ℕ} (x : Ledger) (good : SharedInv s owners w x) (w
       go true b d e = rw e refl
       go false b d e = refl
 
-  change-own : (call : Call) → eqb (ownerOf (x .sheet) owners (rowOf call)) who ≡ true → sharedChangeCheck (x .sheet) owners (length (x .words)) who call ≡
+  change-own : (call : Call) → eqb (ownerOf (x .sheet) owners (rowOf call)) who ≡ true
+      → sharedChangeCheck (x .sheet) owners (length (x .words)) who call ≡
       (refuse (pastRow ((rowAt (x .sheet) (rowOf call)) .vehicles) call) 29 0 then
       refuse (pastShare (vehiclesHeld (x .sheet) owners who (rowsOf (x .sheet))) call) 31 0)
   unfolding sharedChangeCheck mayChange refuse _then_
@@ -118,30 +122,39 @@ module _ {s owners w : List ℕ} (x : Ledger) (good : SharedInv s owners w x) (w
       let there = owned-there t owners who (rowOf call) some h in
       pass-on s owners w x good _ ∙ rw (h, lt-ltb 0 who some, wrong-is t owners (length (x .words)) (good .shared) call there) refl
 
-  row-barred : (i : ℕ) → eqb (ownerOf (x .sheet) owners i) who ≡ false → sharedRowAnswer (x .sheet) owners (x .words) who i ≡ rowTold (Refused 30 0) 0 []
+  row-barred : (i : ℕ) → eqb (ownerOf (x .sheet) owners i) who ≡ false
+      → sharedRowAnswer (x .sheet) owners (x .words) who i ≡ rowTold (Refused 30 0) 0 []
   unfolding sharedRowAnswer sharedRowCheck mayRead refuse _then_ rowTold
   row-barred i h =
-      let refuses : sharedRowCheck t owners (length (x .words)) who i ≡ Refused 30 0 = pass-on s owners w x good _ ∙ rw (h, ne-eqb who 0 (λ e. omega arith)) refl in
+      let refuses : sharedRowCheck t owners (length (x .words)) who i ≡ Refused 30 0 =
+      pass-on s owners w x good _ ∙ rw (h, ne-eqb who 0 (λ e. omega arith)) refl in
       rw refuses refl
 
-  row-own : (i : ℕ) → eqb (ownerOf (x .sheet) owners i) who ≡ true → sharedRowAnswer (x .sheet) owners (x .words) who i ≡ rowTold Pass ((rowAt (x .sheet) i) .vehicles) (wordsOf (x .sheet) i)
+  row-own : (i : ℕ) → eqb (ownerOf (x .sheet) owners i) who ≡ true
+      → sharedRowAnswer (x .sheet) owners (x .words) who i ≡ rowTold Pass ((rowAt (x .sheet) i) .vehicles)
+      (wordsOf (x .sheet) i)
   unfolding mayRead
   row-own i h = row-shown s owners w x good who i (owned-there t owners who i some h) (rw (h, ne-eqb who 0 (λ e. omega arith)) refl)
 
   totals-barred : sharedTotalsAnswer (x .sheet) owners (x .words) who ≡ totalsTold (Refused 30 0) []
   unfolding sharedTotalsAnswer sharedTotalsCheck mayTotal refuse totalsTold
   totals-barred =
-      let refuses : sharedTotalsCheck t owners (length (x .words)) who ≡ Refused 30 0 = pass-on s owners w x good _ ∙ rw (ne-eqb who 0 (λ e. omega arith)) refl in
+      let refuses : sharedTotalsCheck t owners (length (x .words)) who ≡ Refused 30 0 =
+      pass-on s owners w x good _ ∙ rw (ne-eqb who 0 (λ e. omega arith)) refl in
       rw refuses refl
 
 -- Two ledgers that are the same to one participant.
-module _ {s owners w s' others w' : List ℕ} (who : ℕ) (some : 0 < who) (x y : Ledger) (good : SharedInv s owners w x) (good' : SharedInv s' others w' y)
+module _ {s owners w s' others w' : List ℕ} (who : ℕ) (some : 0 < who) (x y : Ledger) (good : SharedInv s owners w x)
+    (good' : SharedInv s' others w' y)
     (same : SameTo who (x .sheet) owners (y .sheet) others) where
   -- their change is answered alike,
-  change-same : (call : Call) → sharedChangeCheck (x .sheet) owners (length (x .words)) who call ≡ sharedChangeCheck (y .sheet) others (length (y .words)) who call
+  change-same : (call : Call) → sharedChangeCheck (x .sheet) owners (length (x .words)) who call ≡ sharedChangeCheck
+      (y .sheet) others (length (y .words)) who call
   change-same call = go (eqb (ownerOf (x .sheet) owners (rowOf call)) who) refl
     where
-      go : (b : Bool) → eqb (ownerOf (x .sheet) owners (rowOf call)) who ≡ b → sharedChangeCheck (x .sheet) owners (length (x .words)) who call ≡ sharedChangeCheck (y .sheet) others (length (y .words)) who call
+      go : (b : Bool) → eqb (ownerOf (x .sheet) owners (rowOf call)) who ≡ b
+          → sharedChangeCheck (x .sheet) owners (length (x .words)) who call ≡ sharedChangeCheck (y .sheet) others
+          (length (y .words)) who call
       go true h =
           change-own x good who some call h ∙
           rw (same .rows-same (rowOf call) h, held-same who some same) refl ∙
@@ -156,7 +169,8 @@ module _ {s owners w s' others w' : List ℕ} (who : ℕ) (some : 0 < who) (x y 
   row-same : (i : ℕ) → sharedRowAnswer (x .sheet) owners (x .words) who i ≡ sharedRowAnswer (y .sheet) others (y .words) who i
   row-same i = go (eqb (ownerOf (x .sheet) owners i) who) refl
     where
-      go : (b : Bool) → eqb (ownerOf (x .sheet) owners i) who ≡ b → sharedRowAnswer (x .sheet) owners (x .words) who i ≡ sharedRowAnswer (y .sheet) others (y .words) who i
+      go : (b : Bool) → eqb (ownerOf (x .sheet) owners i) who ≡ b
+          → sharedRowAnswer (x .sheet) owners (x .words) who i ≡ sharedRowAnswer (y .sheet) others (y .words) who i
       go true h =
           row-own x good who some i h ∙
           rw (words-same i h, same .rows-same i h) refl ∙
@@ -173,16 +187,20 @@ module _ {s owners w s' others w' : List ℕ} (who : ℕ) (some : 0 < who) (x y 
   -- It leaves the ledgers the same to them,
   own-same : (ask : Ask) → askerOf ask ≡ who → SameTo who (afterAsk owners x ask .sheet) owners (afterAsk others y ask .sheet) others
   unfolding afterAsk askerOf leaves
-  own-same (change o call) e = rw e (go (sharedChangeCheck (x .sheet) owners (length (x .words)) who call) refl (sharedChangeCheck (y .sheet) others (length (y .words)) who call) refl)
+  own-same (change o call) e =
+      rw e (go (sharedChangeCheck (x .sheet) owners (length (x .words)) who call) refl
+      (sharedChangeCheck (y .sheet) others (length (y .words)) who call) refl)
     where
-      both : sharedChangeCheck (x .sheet) owners (length (x .words)) who call ≡ Pass → sharedChangeCheck (y .sheet) others (length (y .words)) who call ≡ Pass
+      both : sharedChangeCheck (x .sheet) owners (length (x .words)) who call ≡ Pass
+          → sharedChangeCheck (y .sheet) others (length (y .words)) who call ≡ Pass
           → SameTo who (after x call .sheet) owners (after y call .sheet) others
       both h g =
           let owner = change-passed (x .sheet) owners (length (x .words)) who call h .owner in
           let mine : eqb (ownerOf (x .sheet) owners (rowOf call)) who ≡ true = eq-eqb (ownerOf (x .sheet) owners (rowOf call)) who owner in
           moved-same who some same (one-moved x owners who call h) (rw (same .rows-same (rowOf call) mine) (one-moved y others who call g)) mine
 
-      go : (c : Check) → sharedChangeCheck (x .sheet) owners (length (x .words)) who call ≡ c → (d : Check) → sharedChangeCheck (y .sheet) others (length (y .words)) who call ≡ d
+      go : (c : Check) → sharedChangeCheck (x .sheet) owners (length (x .words)) who call ≡ c → (d : Check)
+          → sharedChangeCheck (y .sheet) others (length (y .words)) who call ≡ d
           → SameTo who (leaves c x call .sheet) owners (leaves d y call .sheet) others
       go Pass h d g = let passes : d ≡ Pass = sym g ∙ sym (change-same call) ∙ h in rw passes (both h (g ∙ passes))
       go (Refused n p) h d g = let refuses : d ≡ Refused n p = sym g ∙ sym (change-same call) ∙ h in rw refuses same
@@ -194,7 +212,8 @@ module _ {s owners w s' others w' : List ℕ} (who : ℕ) (some : 0 < who) (x y 
   unfolding afterAsk askerOf leaves
   other-same (change o call) n = go (sharedChangeCheck (x .sheet) owners (length (x .words)) o call) refl
     where
-      go : (c : Check) → sharedChangeCheck (x .sheet) owners (length (x .words)) o call ≡ c → SameTo who (leaves c x call .sheet) owners (y .sheet) others
+      go : (c : Check) → sharedChangeCheck (x .sheet) owners (length (x .words)) o call ≡ c
+          → SameTo who (leaves c x call .sheet) owners (y .sheet) others
       go Pass h =
           let owner = change-passed (x .sheet) owners (length (x .words)) o call h .owner in
           moved-apart who some same (one-moved x owners o call h) (λ mine. n (sym owner ∙ mine))
@@ -228,23 +247,31 @@ module _ (who : ℕ) (some : 0 < who) {s owners w s' others w' : List ℕ} where
   alone [] x y good good' same = refl
   alone (ask ∷ asks) x y good good' same = go (alone asks) (eqb (askerOf ask) who) refl
     where
-      go : ((x' y' : Ledger) → SharedInv s owners w x' → SharedInv s' others w' y' → SameTo who (x' .sheet) owners (y' .sheet) others → told owners who asks x' ≡ told others who (madeBy who asks) y')
+      go : ((x' y' : Ledger) → SharedInv s owners w x' → SharedInv s' others w' y'
+          → SameTo who (x' .sheet) owners (y' .sheet) others
+          → told owners who asks x' ≡ told others who (madeBy who asks) y')
           → (b : Bool) → eqb (askerOf ask) who ≡ b → told owners who (ask ∷ asks) x ≡ told others who (madeBy who (ask ∷ asks)) y
       go rest true h =
           let e = eqb-true (askerOf ask) who h in
           told-mine owners who ask asks x h ∙
-          cc (reply-same who some x y good good' same ask e, rest (afterAsk owners x ask) (afterAsk others y ask) (ask-kept s owners w x good ask) (ask-kept s' others w' y good' ask) (own-same who some x y good good' same ask e)) ∙
+          cc (
+            reply-same who some x y good good' same ask e,
+            rest (afterAsk owners x ask) (afterAsk others y ask) (ask-kept s owners w x good ask)
+                (ask-kept s' others w' y good' ask) (own-same who some x y good good' same ask e),
+          ) ∙
           sym (ap (λ (made : List Ask). told others who made y) (made-mine who ask asks h) ∙ told-mine others who ask (madeBy who asks) y h)
       go rest false h =
           told-other owners who ask asks x h ∙
-          rest (afterAsk owners x ask) y (ask-kept s owners w x good ask) good' (other-same who some x y good good' same ask (eqb-false (askerOf ask) who h)) ∙
+          rest (afterAsk owners x ask) y (ask-kept s owners w x good ask) good'
+          (other-same who some x y good good' same ask (eqb-false (askerOf ask) who h)) ∙
           sym (ap (λ (made : List Ask). told others who made y) (made-other who ask asks h))
 
 -- a sheet is the same to them as itself
 same-self : (who : ℕ) (s owners : List ℕ) → SameTo who s owners s owners
 same-self who s owners = record { parking-same = refl; seasons-same = refl; owns-same = λ i. refl; rows-same = λ i h. refl }
 
-opened-same : {who : ℕ} {s owners t others : List ℕ} (w v : List ℕ) → SameTo who s owners t others → SameTo who (opened s w .sheet) owners (opened t v .sheet) others
+opened-same : {who : ℕ} {s owners t others : List ℕ} (w v : List ℕ) → SameTo who s owners t others
+    → SameTo who (opened s w .sheet) owners (opened t v .sheet) others
 unfolding opened
 opened-same w v same = same
 

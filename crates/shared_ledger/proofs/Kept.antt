@@ -26,7 +26,8 @@ use Rattle.ledger.specs.Ledger.{Ledger, after, opened, run}
 use Rattle.ledger.proofs.Counts.{count-at}
 use Rattle.ledger.proofs.Kept.{Inv, room, stepped, fresh, ledger-kept}
 use Rattle.shared_ledger.specs.Opening.{sharedCheck}
-use Rattle.shared_ledger.specs.Calls.{ownerOf, mayRead, mayTotal, sharedChangeCheck, sharedRowCheck, sharedTotalsCheck, wordsFrom, rowTold, sharedRowAnswer, totalsTold}
+use Rattle.shared_ledger.specs.Calls.{ownerOf, mayRead, mayTotal, sharedChangeCheck, sharedRowCheck}
+use Rattle.shared_ledger.specs.Calls.{sharedTotalsCheck, wordsFrom, rowTold, sharedRowAnswer, totalsTold}
 use Rattle.shared_ledger.specs.Calls.{sharedTotalsAnswer}
 use Rattle.shared_ledger.specs.Told.{Ask, change, readRow, readTotals, ofRow, ofTotals, reply, leaves, afterAsk, runAsks, ifPassed, passed}
 use Rattle.shared_ledger.specs.Told.{SharedTheorem}
@@ -47,7 +48,8 @@ fresh-shared s owners w bytes h =
     record { inv = inv; shared = rw (room s w (opened s w) inv) h }
 
 -- a change that passes
-pub change-kept : (s owners w : List ℕ) (x : Ledger) → SharedInv s owners w x → (who : ℕ) (call : Call) → sharedChangeCheck (x .sheet) owners (length (x .words)) who call ≡ Pass
+pub change-kept : (s owners w : List ℕ) (x : Ledger) → SharedInv s owners w x → (who : ℕ) (call : Call)
+    → sharedChangeCheck (x .sheet) owners (length (x .words)) who call ≡ Pass
     → SharedInv s owners w (after x call)
 change-kept s owners w x good who call passes =
     let inv = stepped s w x (good .inv) call .0 in
@@ -124,7 +126,8 @@ module _ (s owners w : List ℕ) (x : Ledger) (good : SharedInv s owners w x) wh
   may-read who i = rw (owner-is i) refl
 
   -- a read by one who has the right
-  pub row-passes : (who i : ℕ) → i < rowsOf (x .sheet) → mayRead (x .sheet) owners who i ≡ true → sharedRowCheck (x .sheet) owners (length (x .words)) who i ≡ Pass
+  pub row-passes : (who i : ℕ) → i < rowsOf (x .sheet) → mayRead (x .sheet) owners who i ≡ true
+      → sharedRowCheck (x .sheet) owners (length (x .words)) who i ≡ Pass
   unfolding sharedRowCheck refuse _then_
   row-passes who i l h = pass-on _ ∙ rw (h, lt-leb (rowsOf (x .sheet)) i l) refl
 
@@ -138,11 +141,13 @@ module _ (s owners w : List ℕ) (x : Ledger) (good : SharedInv s owners w x) wh
   unfolding reply
   row-read who i l h =
       let there : i < rowsOf (x .sheet) = rw rows-are l in
-      ap ofRow (row-shown who i there (may-read who i ∙ h) ∙ ap (λ (n : ℕ). rowTold Pass n (wordsOf (x .sheet) i)) (sym (count-at (x .sheet) i there)))
+      ap ofRow (row-shown who i there (may-read who i ∙ h) ∙
+      ap (λ (n : ℕ). rowTold Pass n (wordsOf (x .sheet) i)) (sym (count-at (x .sheet) i there)))
 
   totals-read : reply owners x (readTotals 0) ≡ ofTotals (totalsTold Pass (wordsFrom (report (x .sheet)) (6 * rowsOf s) 26))
   unfolding reply sharedTotalsAnswer sharedTotalsCheck mayTotal refuse
-  totals-read = let passes : sharedTotalsCheck (x .sheet) owners (length (x .words)) 0 ≡ Pass = pass-on _ in ap ofTotals (rw (passes, last-words) refl)
+  totals-read = let passes : sharedTotalsCheck (x .sheet) owners (length (x .words)) 0 ≡ Pass =
+      pass-on _ in ap ofTotals (rw (passes, last-words) refl)
 
 -- "For every list of calls from a fresh opening": what is read is the ledger's
 pub shared-kept : SharedTheorem

@@ -46,7 +46,9 @@ module _ (s owners : List ℕ) (room : ℕ) (h : sharedCheck s owners room ≡ P
   unfolding wrong
   wrong-is call l =
       let there : leb (length (countsOf s)) (rowOf call) ≡ false = lt-leb (length (countsOf s)) (rowOf call) (omega (arith, counts-length s)) in
-      rw (there, count-at s (rowOf call) l) (quiet (hasManyRows s) (total (countsOf s)) ((rowAt s (rowOf call)) .vehicles) call (rw (total-counts s) (fleet-held s owners room h)))
+      rw (there, count-at s (rowOf call) l)
+      (quiet (hasManyRows s) (total (countsOf s)) ((rowAt s (rowOf call)) .vehicles) call
+      (rw (total-counts s) (fleet-held s owners room h)))
 
   -- the same in plain arithmetic
   pub fleet-quiet : (row k : ℕ) → at (countsOf s) row + k ≤ vehiclesLimit → total (countsOf s) + k ≤ fleetLimit

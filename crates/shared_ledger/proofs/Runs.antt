@@ -55,10 +55,12 @@ module _ {s owners w s' w' : List ℕ} {who : ℕ} {call : Call} {r : Check} (a 
           rw (words, sheet) refl
 
 -- a read
-pub row-answers : {s owners w : List ℕ} {who i : ℕ} {r : RowAnswer} → SharedRowCall s owners w who i r → ofRow r ≡ reply owners (ledgerOf s w) (readRow who i)
+pub row-answers : {s owners w : List ℕ} {who i : ℕ} {r : RowAnswer} → SharedRowCall s owners w who i r
+    → ofRow r ≡ reply owners (ledgerOf s w) (readRow who i)
 unfolding reply
 row-answers a = ap ofRow (a .answer-is)
 
-pub totals-answers : {s owners w : List ℕ} {who : ℕ} {r : TotalsAnswer} → SharedTotalsCall s owners w who r → ofTotals r ≡ reply owners (ledgerOf s w) (readTotals who)
+pub totals-answers : {s owners w : List ℕ} {who : ℕ} {r : TotalsAnswer} → SharedTotalsCall s owners w who r
+    → ofTotals r ≡ reply owners (ledgerOf s w) (readTotals who)
 unfolding reply
 totals-answers a = ap ofTotals (a .answer-is)

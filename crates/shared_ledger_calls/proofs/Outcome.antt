@@ -28,13 +28,15 @@ use Rattle.ledger_calls.proofs.Outcome.{room-left}
 use Rattle.shared_ledger.specs.declared.RowAnswer.{RowAnswer}
 use Rattle.shared_ledger.specs.declared.TotalsAnswer.{TotalsAnswer}
 use Rattle.shared_ledger.specs.Opening.{vehiclesEach, sharedCheck, OpenCall}
-use Rattle.shared_ledger.specs.Calls.{ownerOf, mayChange, mayRead, pastShare, sharedChangeCheck, sharedRowCheck, sharedTotalsCheck, wordsFrom, zeros, rowTold}
+use Rattle.shared_ledger.specs.Calls.{ownerOf, mayChange, mayRead, pastShare, sharedChangeCheck, sharedRowCheck}
+use Rattle.shared_ledger.specs.Calls.{sharedTotalsCheck, wordsFrom, zeros, rowTold}
 use Rattle.shared_ledger.specs.Calls.{sharedRowAnswer, totalsTold, sharedTotalsAnswer, SharedChangeCall, SharedRowCall, SharedTotalsCall}
 use Rattle.shared_ledger.proofs.Conditions.{shared-report, shared-sheet, shared-room, shared-says, shared-zero, change-says, row-says, totals-says}
 use Rattle.shared_ledger.proofs.Changed.{change-passed}
 
 -- what is left of the limit says whether an arrival passes a participant's vehicles
-pub arrival-share : (held : ℕ) {call : Call} {row k : ℕ} → call ≡ Arrival row k → held ≤ vehiclesEach → ltb (vehiclesEach - held) k ≡ pastShare held call
+pub arrival-share : (held : ℕ) {call : Call} {row k : ℕ} → call ≡ Arrival row k → held ≤ vehiclesEach
+    → ltb (vehiclesEach - held) k ≡ pastShare held call
 unfolding pastShare
 arrival-share held {call} {row} {k} e h = rw e (room-left held k h)
 
@@ -43,7 +45,8 @@ pub at-once : {b : Bool} (number place : ℕ) (d : Check) → b ≡ true → Ref
 unfolding refuse _then_
 at-once number place d h = rw h refl
 
-pub may-change-is : (s owners : List ℕ) (who : ℕ) {owner i j : ℕ} → owner ≡ ownerOf s owners i → i ≡ j → (ltb 0 who && eqb owner who) ≡ mayChange s owners who j
+pub may-change-is : (s owners : List ℕ) (who : ℕ) {owner i j : ℕ} → owner ≡ ownerOf s owners i → i ≡ j
+    → (ltb 0 who && eqb owner who) ≡ mayChange s owners who j
 unfolding mayChange
 may-change-is s owners who e f = rw (e, f) refl
 
@@ -81,9 +84,15 @@ module _ (s owners w : List ℕ) where
 
 -- A change.
 module _ (s owners w : List ℕ) (who : ℕ) (call : Call) where
-  pub change-refused : {r : Check} {n p : ℕ} → r ≡ sharedChangeCheck s owners (length w) who call → r ≡ Refused n p → SharedChangeCall s owners w who call s w r
+  pub change-refused : {r : Check} {n p : ℕ} → r ≡ sharedChangeCheck s owners (length w) who call → r ≡ Refused n p
+      → SharedChangeCall s owners w who call s w r
   unfolding sheetAfter wordsAfter
-  change-refused {r} {n} {p} e h = record { answer-is = e; sheet-is = rw h refl; words-are = rw h refl; says = rw e (change-says s owners (length w) who call) }
+  change-refused {r} {n} {p} e h = record {
+    answer-is = e;
+    sheet-is = rw h refl;
+    words-are = rw h refl;
+    says = rw e (change-says s owners (length w) who call);
+  }
 
   -- what passes here, the ledger itself allows
   pub change-allowed : {r : Check} → r ≡ sharedChangeCheck s owners (length w) who call → r ≡ Pass
@@ -104,14 +113,17 @@ module _ (s owners w : List ℕ) (who : ℕ) (call : Call) where
 -- A read of a row.
 module _ (s owners w : List ℕ) (who i : ℕ) where
   -- says what its check says
-  row-answer : {r : RowAnswer} → r .check ≡ sharedRowCheck s owners (length w) who i → r ≡ sharedRowAnswer s owners w who i → SharedRowCall s owners w who i r
+  row-answer : {r : RowAnswer} → r .check ≡ sharedRowCheck s owners (length w) who i
+      → r ≡ sharedRowAnswer s owners w who i → SharedRowCall s owners w who i r
   row-answer e same = record { answer-is = same; says = rw e (row-says s owners (length w) who i) }
 
-  pub row-refused : {r : Check} {n p : ℕ} → r ≡ sharedRowCheck s owners (length w) who i → r ≡ Refused n p → SharedRowCall s owners w who i (record { check = r; count = 0; words = zeros 6 })
+  pub row-refused : {r : Check} {n p : ℕ} → r ≡ sharedRowCheck s owners (length w) who i → r ≡ Refused n p
+      → SharedRowCall s owners w who i (record { check = r; count = 0; words = zeros 6 })
   unfolding sharedRowAnswer rowTold
   row-refused {r} {n} {p} e h = let c : sharedRowCheck s owners (length w) who i ≡ Refused n p = sym e ∙ h in row-answer e (rw (c, h) refl)
 
-  pub row-done : {r : Check} {v : ℕ} {six : List ℕ} → r ≡ sharedRowCheck s owners (length w) who i → r ≡ Pass → v ≡ (rowAt s i) .vehicles → six ≡ wordsFrom w (6 * i) 6
+  pub row-done : {r : Check} {v : ℕ} {six : List ℕ} → r ≡ sharedRowCheck s owners (length w) who i → r ≡ Pass
+      → v ≡ (rowAt s i) .vehicles → six ≡ wordsFrom w (6 * i) 6
       → SharedRowCall s owners w who i (record { check = r; count = v; words = six })
   unfolding sharedRowAnswer rowTold
   row-done e h f g = let c : sharedRowCheck s owners (length w) who i ≡ Pass = sym e ∙ h in row-answer e (rw (c, h, f, g) refl)
@@ -120,19 +132,25 @@ module _ (s owners w : List ℕ) (who i : ℕ) where
   unfolding sharedRowCheck
   read-there c =
       let (shared, rest) = then-pass _ _ c in
-      let (right, last) = then-pass _ _ rest in
-      (shared-sheet s owners (length w) shared, leb-false (rowsOf s) i (refuse-pass (leb (rowsOf s) i) 29 0 last), shared-room s owners (length w) shared)
+      let (right, last) = then-pass _ _ rest in (
+        shared-sheet s owners (length w) shared,
+        leb-false (rowsOf s) i (refuse-pass (leb (rowsOf s) i) 29 0 last),
+        shared-room s owners (length w) shared,
+      )
 
 -- A read of the totals.
 module _ (s owners w : List ℕ) (who : ℕ) where
-  totals-answer : {r : TotalsAnswer} → r .check ≡ sharedTotalsCheck s owners (length w) who → r ≡ sharedTotalsAnswer s owners w who → SharedTotalsCall s owners w who r
+  totals-answer : {r : TotalsAnswer} → r .check ≡ sharedTotalsCheck s owners (length w) who
+      → r ≡ sharedTotalsAnswer s owners w who → SharedTotalsCall s owners w who r
   totals-answer e same = record { answer-is = same; says = rw e (totals-says s owners (length w) who) }
 
-  pub totals-refused : {r : Check} {n p : ℕ} → r ≡ sharedTotalsCheck s owners (length w) who → r ≡ Refused n p → SharedTotalsCall s owners w who (record { check = r; words = zeros 26 })
+  pub totals-refused : {r : Check} {n p : ℕ} → r ≡ sharedTotalsCheck s owners (length w) who → r ≡ Refused n p
+      → SharedTotalsCall s owners w who (record { check = r; words = zeros 26 })
   unfolding sharedTotalsAnswer totalsTold
   totals-refused {r} {n} {p} e h = let c : sharedTotalsCheck s owners (length w) who ≡ Refused n p = sym e ∙ h in totals-answer e (rw (c, h) refl)
 
-  pub totals-done : {r : Check} {last : List ℕ} {place : ℕ} → r ≡ sharedTotalsCheck s owners (length w) who → r ≡ Pass → last ≡ wordsFrom w place 26 → place ≡ 6 * rowsOf s
+  pub totals-done : {r : Check} {last : List ℕ} {place : ℕ} → r ≡ sharedTotalsCheck s owners (length w) who → r ≡ Pass
+      → last ≡ wordsFrom w place 26 → place ≡ 6 * rowsOf s
       → SharedTotalsCall s owners w who (record { check = r; words = last })
   unfolding sharedTotalsAnswer totalsTold
   totals-done e h f g = let c : sharedTotalsCheck s owners (length w) who ≡ Pass = sym e ∙ h in totals-answer e (rw (c, h, f, g) refl)

@@ -30,7 +30,8 @@ unfolding counted
 theirs-not owner who v n = rw (ne-eqb owner who n) refl
 
 -- a row's share, by what its test says
-pub share-refused : (s owners : List ℕ) (i : ℕ) {place : ℕ} → shareWrong s owners i ≡ true → place ≡ rowPlace s i → shareCheck s owners i ≡ Refused 31 place
+pub share-refused : (s owners : List ℕ) (i : ℕ) {place : ℕ} → shareWrong s owners i ≡ true → place ≡ rowPlace s i
+    → shareCheck s owners i ≡ Refused 31 place
 unfolding shareCheck refuse
 share-refused s owners i h e = rw (h, e) refl
 
@@ -39,12 +40,14 @@ unfolding shareCheck refuse
 share-passed s owners i h = rw h refl
 
 -- the tests of a row's share, one after the other
-pub share-unowned : (s owners : List ℕ) (i : ℕ) {who : ℕ} → who ≡ at owners i → (ltb who 1 || ltb participants who) ≡ true → shareWrong s owners i ≡ true
+pub share-unowned : (s owners : List ℕ) (i : ℕ) {who : ℕ} → who ≡ at owners i
+    → (ltb who 1 || ltb participants who) ≡ true → shareWrong s owners i ≡ true
 unfolding shareWrong outside
 share-unowned s owners i e h = let q : (ltb (at owners i) 1 || ltb participants (at owners i)) ≡ true = rw (← e) h in rw q refl
 
 pub share-owned : (s owners : List ℕ) (i : ℕ) {who rows vehicles : ℕ} → who ≡ at owners i → (ltb who 1 || ltb participants who) ≡ false
-    → rows ≡ rowsHeld owners who (i + 1) → vehicles ≡ vehiclesHeld s owners who (i + 1) → (ltb rowsEach rows || ltb vehiclesEach vehicles) ≡ shareWrong s owners i
+    → rows ≡ rowsHeld owners who (i + 1) → vehicles ≡ vehiclesHeld s owners who (i + 1)
+    → (ltb rowsEach rows || ltb vehiclesEach vehicles) ≡ shareWrong s owners i
 unfolding shareWrong outside
 share-owned s owners i e h f g = let q : (ltb (at owners i) 1 || ltb participants (at owners i)) ≡ false = rw (← e) h in rw (f, g, e, q) refl
 
@@ -71,21 +74,27 @@ unfolding heldOf sum counted
 held-others owners f n who h = rw (add-one, ne-eqb (at owners n) who h) (omega arith)
 
 -- so in the tally of one row more its owner's entry is raised
-pub tally-more : (owners : List ℕ) (f : ℕ → ℕ) (n who v : ℕ) (sums : List ℕ) → sums ≡ tab (heldOf owners f n) 9 → who ≡ at owners n → who < 9 → v ≡ f n
+pub tally-more : (owners : List ℕ) (f : ℕ → ℕ) (n who v : ℕ) (sums : List ℕ) → sums ≡ tab (heldOf owners f n) 9
+    → who ≡ at owners n → who < 9 → v ≡ f n
     → set sums who (getD sums who 0 + v) ≡ tab (heldOf owners f (n + 1)) 9
 tally-more owners f n who v sums e o l g =
     let long : length sums ≡ 9 = rw e (tab-length (heldOf owners f n) 9) in
-    ext-getD 0 (set sums who (getD sums who 0 + v)) (tab (heldOf owners f (n + 1)) 9) (length-set sums who (getD sums who 0 + v) ∙ long ∙ sym (tab-length (heldOf owners f (n + 1)) 9))
+    ext-getD 0 (set sums who (getD sums who 0 + v)) (tab (heldOf owners f (n + 1)) 9)
+    (length-set sums who (getD sums who 0 + v) ∙ long ∙ sym (tab-length (heldOf owners f (n + 1)) 9))
     (λ j k.
     let inside : j < 9 = omega (arith, length-set sums who (getD sums who 0 + v)) in
     sym (getD-tab (heldOf owners f (n + 1)) 9 j inside ∙
     elim (ℕ-discrete j who) [
-      | yes q ↦ rw q (held-theirs owners f n who (sym o) ∙ sym (getD-set-same sums who (getD sums who 0 + v) 0 (omega arith) ∙ rw g (ap (λ (h : ℕ). h + f n) (rw e (getD-tab (heldOf owners f n) 9 who l)))))
-      | no q ↦ held-others owners f n j (λ h. q (sym h ∙ sym o)) ∙ sym (getD-set-other sums who j (getD sums who 0 + v) 0 q ∙ rw e (getD-tab (heldOf owners f n) 9 j inside))
+      | yes q ↦ rw q (held-theirs owners f n who (sym o) ∙
+          sym (getD-set-same sums who (getD sums who 0 + v) 0 (omega arith) ∙
+          rw g (ap (λ (h : ℕ). h + f n) (rw e (getD-tab (heldOf owners f n) 9 who l)))))
+      | no q ↦ held-others owners f n j (λ h. q (sym h ∙ sym o)) ∙
+          sym (getD-set-other sums who j (getD sums who 0 + v) 0 q ∙ rw e (getD-tab (heldOf owners f n) 9 j inside))
     ]))
 
 -- an entry is not too large
-pub tally-size : (owners : List ℕ) (f : ℕ → ℕ) (n who B : ℕ) (sums : List ℕ) → sums ≡ tab (heldOf owners f n) 9 → who < 9 → ((i : ℕ) → i < n → f i ≤ B)
+pub tally-size : (owners : List ℕ) (f : ℕ → ℕ) (n who B : ℕ) (sums : List ℕ) → sums ≡ tab (heldOf owners f n) 9
+    → who < 9 → ((i : ℕ) → i < n → f i ≤ B)
     → getD sums who 0 ≤ n * B
 tally-size owners f n who B sums e l h = rw (e, getD-tab (heldOf owners f n) 9 who l) (held-size owners f n who B h)
 

@@ -23,7 +23,8 @@ ghost use Rattle.sheet.specs.declared.Check.the-variants.{Pass};
 ghost use Rattle.sheet.specs.Sheet.{sheetCheck};
 ghost use Rattle.ledger.specs.declared.Call.the-variants.{Arrival, Departure};
 ghost use Rattle.shared_ledger.specs.Opening.{vehiclesEach, OpenCall};
-ghost use Rattle.shared_ledger.specs.Calls.{ownerOf, pastShare, sharedChangeCheck, sharedRowCheck, sharedTotalsCheck, wordsFrom, SharedChangeCall, SharedRowCall, SharedTotalsCall};
+ghost use Rattle.shared_ledger.specs.Calls.{ownerOf, pastShare, sharedChangeCheck, sharedRowCheck, sharedTotalsCheck};
+ghost use Rattle.shared_ledger.specs.Calls.{wordsFrom, SharedChangeCall, SharedRowCall, SharedTotalsCall};
 
 mod opening;
 

@@ -11,10 +11,12 @@ use Rattle.exact.specs.declared.Equipment.the-variants.{Absent}
 use Rattle.exact.specs.Classes.{equipment}
 use Rattle.exact.specs.Factors.{total}
 use Rattle.sheet.specs.declared.Check.the-variants.{Pass}
-use Rattle.sheet.specs.Limits.{versionLimit, seasonsLimit, countsLimit, gridLimit, daysLimit, vpLeast, vpLimit, percentLimit, tankLimit, vehiclesLimit, fleetLimit, tripsLimit, minutesLimit}
+use Rattle.sheet.specs.Limits.{versionLimit, seasonsLimit, countsLimit, gridLimit, daysLimit, vpLeast, vpLimit}
+use Rattle.sheet.specs.Limits.{percentLimit, tankLimit, vehiclesLimit, fleetLimit, tripsLimit, minutesLimit}
 use Rattle.sheet.specs.Integers.{u8At, u16At}
 use Rattle.sheet.specs.Versions.{versionOf, rowsMost, seasonsStart}
-use Rattle.sheet.specs.Bytes.{seasonsOf, rowsOf, durationCounts, hourCounts, gridCounts, seasonPlace, rowPlace, seasonFrom, seasonAt, rowFrom, rowAt, equipmentAt, tankOf}
+use Rattle.sheet.specs.Bytes.{seasonsOf, rowsOf, durationCounts, hourCounts, gridCounts, seasonPlace, rowPlace}
+use Rattle.sheet.specs.Bytes.{seasonFrom, seasonAt, rowFrom, rowAt, equipmentAt, tankOf}
 use Rattle.sheet.specs.Sheet.{daysBefore, vehiclesBefore, sheetCheck}
 use Rattle.sheet.specs.Range.{SeasonInRange}
 use Rattle.sheet.specs.Demands.{Met}
@@ -97,7 +99,16 @@ tank-between (suc tenths) class technology n h = (omega arith, h)
 
 pub row-accepted : (s : List ℕ) (i : ℕ) → Met (rowDemands s i) → AcceptedRow s i
 unfolding rowAt rowFrom equipmentAt vehiclesBefore
-row-accepted s i (present, (code, (((carburettor, hot), fill), (vehicles, (fleet, (tank, ((trips, minutes), ((load, none), (exponent, (bytes, mileage)))))))))) =
+row-accepted s i (
+  present,
+  (
+    code,
+    (
+      ((carburettor, hot), fill),
+      (vehicles, (fleet, (tank, ((trips, minutes), ((load, none), (exponent, (bytes, mileage))))))),
+    ),
+  ),
+) =
     let (tank-least, tank-most) = tank-between (u16At s (rowPlace s i + 6)) (u8At s (rowPlace s i)) (u8At s (rowPlace s i + 1)) present tank in
     let (class-least, class-most) = equipment-class (u8At s (rowPlace s i)) (u8At s (rowPlace s i + 1)) present in
     record {

@@ -18,13 +18,15 @@ use Rattle.exact.specs.declared.Row.{Row}
 use Rattle.sheet.specs.Limits.{tankLimit}
 use Rattle.sheet.specs.Integers.{u8At, u16At}
 use Rattle.sheet.specs.Versions.{seasonsStart}
-use Rattle.sheet.specs.Bytes.{seasonsOf, rowsOf, cellsOf, rowPlace, seasonAt, seasonList, rowFrom, rowAt, equipmentAt, fittedCanister, fittedTank, writtenCanister, canisterOf, tankOf}
+use Rattle.sheet.specs.Bytes.{seasonsOf, rowsOf, cellsOf, rowPlace, seasonAt, seasonList, rowFrom, rowAt}
+use Rattle.sheet.specs.Bytes.{equipmentAt, fittedCanister, fittedTank, writtenCanister, canisterOf, tankOf}
 use Rattle.sheet.specs.ByClass.{codeOf, Written}
 use Rattle.sheet.specs.Check.{each}
 use Rattle.sheet.specs.Sheet.{lengthCheck, vehiclesBefore, codeWrong, saturationAbove, mileageWrong, rowCheck, sheetCheck}
 use Rattle.sheet.proofs.Equipment.{equipment-tank}
 use Rattle.sheet.proofs.Local.{Same, byte-at, word-at, equipment-same, row-counts, row-same}
-use Rattle.sheet.proofs.BeforeRows.{BeforeRows, each-cong, version, start, seasons, rows, season, season-list, some, head, parking, cells, season-checks}
+use Rattle.sheet.proofs.BeforeRows.{BeforeRows, each-cong, version, start, seasons, rows, season, season-list}
+use Rattle.sheet.proofs.BeforeRows.{some, head, parking, cells, season-checks}
 
 -- accepted or refused alike, with the same values
 pub record Alike (s s' : List ℕ) : Type 0 where
@@ -93,16 +95,23 @@ same-alike {p} h = record {
 written-alike : {s s' : List ℕ} {p t : ℕ} {c : Canister} → equipmentAt s p ≡ Fitted c t → Written s s' p c t → RowAlike s s' p
 written-alike {s} {s'} {p} {t} {c} fitted w =
     let class : Same s' s p p 2 = record { byte = λ k l. w .elsewhere (p + k) (λ e. omega arith) (λ e. omega arith) (λ e. omega arith) } in
-    let shares : Same s' s (p + 3) (p + 3) 3 = record { byte = λ k l. w .elsewhere (p + 3 + k) (λ e. omega arith) (λ e. omega arith) (λ e. omega arith) } in
-    let rest : Same s' s (p + 8) (p + 8) 16 = record { byte = λ k l. w .elsewhere (p + 8 + k) (λ e. omega arith) (λ e. omega arith) (λ e. omega arith) } in
+    let shares : Same s' s (p + 3) (p + 3) 3 = record {
+      byte = λ k l. w .elsewhere (p + 3 + k) (λ e. omega arith) (λ e. omega arith) (λ e. omega arith);
+    } in
+    let rest : Same s' s (p + 8) (p + 8) 16 = record {
+      byte = λ k l. w .elsewhere (p + 8 + k) (λ e. omega arith) (λ e. omega arith) (λ e. omega arith);
+    } in
     let equipment : equipmentAt s' p ≡ equipmentAt s p = equipment-same class (omega arith) in
-    let (code, canister) : (codeWrong (u8At s' (p + 2)) ≡ codeWrong (u8At s (p + 2))) × (canisterOf (u8At s' (p + 2)) (equipmentAt s p) ≡ canisterOf (u8At s (p + 2)) (equipmentAt s p))
+    let (code, canister) : (codeWrong (u8At s' (p + 2)) ≡ codeWrong (u8At s (p + 2)))
+    × (canisterOf (u8At s' (p + 2)) (equipmentAt s p) ≡ canisterOf (u8At s (p + 2)) (equipmentAt s p))
     = ⊎-elim (λ h. (cc, cc)) (λ (h, g). (cc (code-counts c), cc (canister-counts c t))) (w .canister) in
-    let (limit, tank) : (ltb tankLimit (u16At s' (p + 6)) ≡ ltb tankLimit (u16At s (p + 6))) × (tankOf (u16At s' (p + 6)) (equipmentAt s p) ≡ tankOf (u16At s (p + 6)) (equipmentAt s p))
+    let (limit, tank) : (ltb tankLimit (u16At s' (p + 6)) ≡ ltb tankLimit (u16At s (p + 6)))
+    × (tankOf (u16At s' (p + 6)) (equipmentAt s p) ≡ tankOf (u16At s (p + 6)) (equipmentAt s p))
     = ⊎-elim (λ h. (cc, cc)) (λ (h, g). (cc (tank-passes s p fitted), cc (tank-counts c t))) (w .tank) in
     record { row = row-counts class shares rest (cc) (cc); equipment = equipment; code = code; limit = limit }
 
-module _ (s s' : List ℕ) (i : ℕ) (c : Canister) (t : ℕ) (fitted : equipmentAt s (rowPlace s i) ≡ Fitted c t) (w : Written s s' (rowPlace s i) c t) where
+module _ (s s' : List ℕ) (i : ℕ) (c : Canister) (t : ℕ) (fitted : equipmentAt s (rowPlace s i) ≡ Fitted c t)
+    (w : Written s s' (rowPlace s i) c t) where
   -- bytes before the rows are the same
   before : BeforeRows s s'
   before = record { same-length = w .same-length; early = λ k h. w .elsewhere k (λ e. omega arith) (λ e. omega arith) (λ e. omega arith) }
@@ -110,7 +119,8 @@ module _ (s s' : List ℕ) (i : ℕ) (c : Canister) (t : ℕ) (fitted : equipmen
   -- In another row than i all bytes are the same,
   other : (j : ℕ) → ¬ (j ≡ i) → Same s' s (rowPlace s j) (rowPlace s j) 24
   other j n =
-      let off : (k m : ℕ) → k < 24 → m < 24 → rowPlace s j + k ≡ rowPlace s i + m → ⊥ = λ k m l d e. n (rows-apart (seasonsStart s + 8 * seasonsOf s) j i k m l d e) in
+      let off : (k m : ℕ) → k < 24 → m < 24 → rowPlace s j + k ≡ rowPlace s i + m → ⊥ =
+      λ k m l d e. n (rows-apart (seasonsStart s + 8 * seasonsOf s) j i k m l d e) in
       record { byte = λ k l. w .elsewhere (rowPlace s j + k) (off k 2 l (omega arith)) (off k 6 l (omega arith)) (off k 7 l (omega arith)) }
 
   -- so every row counts and passes alike:
@@ -137,7 +147,19 @@ module _ (s s' : List ℕ) (i : ℕ) (c : Canister) (t : ℕ) (fitted : equipmen
   unfolding rowCheck
   row-check j =
       let r = row-alike j in
-      rw (start before, seasons before, version before, row j, vehicles j, r .equipment, r .code, r .limit, mileage (rowAt s j), some before (saturationAbove 3 ((rowAt s j) .canister) ((rowAt s j) .saturation)) (seasonsOf s) (omega arith))
+      rw (
+        start before,
+        seasons before,
+        version before,
+        row j,
+        vehicles j,
+        r .equipment,
+        r .code,
+        r .limit,
+        mileage (rowAt s j),
+        some before (saturationAbove 3 ((rowAt s j) .canister) ((rowAt s j) .saturation))
+            (seasonsOf s) (omega arith),
+      )
 
   -- accepted or refused alike, with the same values
   pub alike : Alike s s'
@@ -146,7 +168,8 @@ module _ (s s' : List ℕ) (i : ℕ) (c : Canister) (t : ℕ) (fitted : equipmen
     seasons-same = seasons before;
     rows-same = rows before;
     check-same =
-        let rest : each (rowCheck s') (rowsOf s) ≡ each (rowCheck s) (rowsOf s) = each-cong (rowCheck s') (rowCheck s) (rowsOf s) (λ j _. row-check j) in
+        let rest : each (rowCheck s') (rowsOf s) ≡ each (rowCheck s) (rowsOf s) =
+        each-cong (rowCheck s') (rowCheck s) (rowsOf s) (λ j _. row-check j) in
         cc (w .same-length, start before, seasons before, rows before, head before, parking before, season-checks before, rest);
     cells-same = cells before;
     season-same = season before;
@@ -163,7 +186,8 @@ canister-written : {s s' : List ℕ} {p : ℕ} {c : Canister} {t : ℕ} → p + 
     → Written s (set s' (p + 2) (codeOf c)) p c t
 canister-written {s} {s'} {p} {c} inside h w =
     let kept : (k : ℕ) → ¬ (k ≡ p + 2) → u8At (set s' (p + 2) (codeOf c)) k ≡ u8At s' k = λ k a. getD-set-other s' (p + 2) k (codeOf c) 0 a in
-    let tank : u16At (set s' (p + 2) (codeOf c)) (p + 6) ≡ u16At s' (p + 6) = cc (kept (p + 6) (λ e. omega arith), kept (p + 6 + 1) (λ e. omega arith)) in
+    let tank : u16At (set s' (p + 2) (codeOf c)) (p + 6) ≡ u16At s' (p + 6) =
+    cc (kept (p + 6) (λ e. omega arith), kept (p + 6 + 1) (λ e. omega arith)) in
     record {
       same-length = length-set s' (p + 2) (codeOf c) ∙ w .same-length;
       elsewhere = λ k a b d. kept k a ∙ w .elsewhere k a b d;

@@ -12,9 +12,11 @@ use Rattle.sheet.specs.declared.Check.{Check}
 use Rattle.sheet.specs.declared.Check.the-variants.{Pass}
 use Rattle.sheet.specs.Integers.{u8At}
 use Rattle.sheet.specs.Versions.{versionOf, hasGrid, rowsMost, seasonsStart}
-use Rattle.sheet.specs.Bytes.{seasonsOf, rowsOf, durationCounts, hourCounts, gridCounts, cellsOf, seasonPlace, rowPlace, seasonAt, seasonsFrom, seasonList}
+use Rattle.sheet.specs.Bytes.{seasonsOf, rowsOf, durationCounts, hourCounts, gridCounts, cellsOf, seasonPlace}
+use Rattle.sheet.specs.Bytes.{rowPlace, seasonAt, seasonsFrom, seasonList}
 use Rattle.sheet.specs.Check.{_then_, each}
-use Rattle.sheet.specs.Sheet.{lettersMissing, markCheck, numbersCheck, headCheck, lengthCheck, parkingCheck, daysBefore, seasonCheck, someSeason, rowCheck, sheetCheck}
+use Rattle.sheet.specs.Sheet.{lettersMissing, markCheck, numbersCheck, headCheck, lengthCheck, parkingCheck}
+use Rattle.sheet.specs.Sheet.{daysBefore, seasonCheck, someSeason, rowCheck, sheetCheck}
 use Rattle.sheet.proofs.Versions.{start-grid, start-between, start-same}
 use Rattle.sheet.proofs.Checks.{then-pass, each-pass}
 use Rattle.sheet.proofs.Local.{Same, season-same, counts-same}
@@ -97,7 +99,17 @@ module _ {s s' : List ℕ} (b : BeforeRows s s') where
   -- the head passes or is refused alike,
   pub head : headCheck s' ≡ headCheck s
   unfolding headCheck markCheck numbersCheck lettersMissing
-  head = cc (b .same-length, head-byte 0 (omega arith), head-byte 1 (omega arith), head-byte 2 (omega arith), version, seasons, rows, rows-most, head-byte 7 (omega arith))
+  head = cc (
+    b .same-length,
+    head-byte 0 (omega arith),
+    head-byte 1 (omega arith),
+    head-byte 2 (omega arith),
+    version,
+    seasons,
+    rows,
+    rows-most,
+    head-byte 7 (omega arith),
+  )
 
   -- the parking counts are the same,
   durations : durationCounts s' ≡ durationCounts s

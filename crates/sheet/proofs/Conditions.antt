@@ -25,7 +25,10 @@ use Rattle.sheet.specs.Check.{numberOf, placeOf}
 use Rattle.sheet.specs.Demands.{Met, FirstUnmet, Says, markDemands, numbersDemands, headDemands, lengthDemand, parkingDemands, seasonDemands}
 use Rattle.sheet.specs.Demands.{exponentAt, MileageRight, rowDemands, demands}
 use Rattle.sheet.specs.Conditions.{ConditionsTheorem}
-use Rattle.sheet.proofs.Checks.{Tests, Judges, numbers, among, number-among, Once, Unmet, unmet, Broken, broken, met-passes, says, true-is-not-false, below-suc, judges-refuse, judges-then, judges-each, _⊳_, ltb-tests, ||-tests, &&-tests, tests-as, not-tests, eqb-shows, ≤-shows, &&-shows, leb-shows, not-leb-shows, guarded}
+use Rattle.sheet.proofs.Checks.{Tests, Judges, numbers, among, number-among, Once, Unmet, unmet, Broken, broken}
+use Rattle.sheet.proofs.Checks.{met-passes, says, true-is-not-false, below-suc, judges-refuse, judges-then}
+use Rattle.sheet.proofs.Checks.{judges-each, _⊳_, ltb-tests, ||-tests, &&-tests, tests-as, not-tests, eqb-shows}
+use Rattle.sheet.proofs.Checks.{≤-shows, &&-shows, leb-shows, not-leb-shows, guarded}
 
 -- a number outside least to most
 outside-tests : (least most x : ℕ) → Tests (outside least most x) ((least ≤ x) × (x ≤ most))
@@ -170,7 +173,26 @@ once s = (
     (
       refl,
       (refl, tt, (refl, tt, tt)),
-      (refl, (λ i. (refl, (refl, tt, (refl, tt, tt)))), (λ i. (refl, (refl, tt, (refl, tt, (refl, tt, (refl, tt, (refl, tt, (refl, tt, (refl, tt, (refl, tt, (refl, tt, (refl, tt, tt))))))))))))),
+      (
+        refl,
+        (λ i. (refl, (refl, tt, (refl, tt, tt)))),
+        (λ i. (
+          refl,
+          (
+            refl,
+            tt,
+            (
+              refl,
+              tt,
+              (
+                refl,
+                tt,
+                (refl, tt, (refl, tt, (refl, tt, (refl, tt, (refl, tt, (refl, tt, (refl, tt, tt))))))),
+              ),
+            ),
+          ),
+        )),
+      ),
     ),
   ),
 )

@@ -37,7 +37,8 @@ four-are v h =
     let high : v / 256 / 256 / 256 ≡ v / 16777216 = div-div-eq-div-mul (v / 256) 256 256 ∙ div-div-eq-div-mul v 256 65536 in
     let top : v / 16777216 < 256 = omega arith in
     rw (← high, ← low)
-    (digits v (v / 256) (v / 256 / 256) (v / 256 / 256 / 256) (v % 256) (v / 256 % 256) (v / 256 / 256 % 256) (omega arith) (omega arith) (omega arith) (mod-eq-of-lt (rw high top)))
+    (digits v (v / 256) (v / 256 / 256) (v / 256 / 256 / 256) (v % 256) (v / 256 % 256) (v / 256 / 256 % 256)
+    (omega arith) (omega arith) (omega arith) (mod-eq-of-lt (rw high top)))
 
 -- and each is a byte
 four-byte : (v m : ℕ) → getD (fourBytes v) m 0 < 256
@@ -75,7 +76,13 @@ module _ (s : List ℕ) (i v : ℕ) (bits : v < 2 ^ 32) (there : rowPlace s i + 
   -- the four bytes are the count
   stored : u32At s' place ≡ v
   stored =
-      cc (byte-of 0 place (omega arith) (omega arith), byte-of 1 (place + 1) (omega arith) refl, byte-of 2 (place + 2) (omega arith) refl, byte-of 3 (place + 2 + 1) (omega arith) (omega arith), four-are v bits)
+      cc (
+        byte-of 0 place (omega arith) (omega arith),
+        byte-of 1 (place + 1) (omega arith) refl,
+        byte-of 2 (place + 2) (omega arith) refl,
+        byte-of 3 (place + 2 + 1) (omega arith) (omega arith),
+        four-are v bits,
+      )
 
   -- bytes stay bytes
   pub bytes-kept : Bytes s → Bytes (withCount s i v)
@@ -100,10 +107,16 @@ module _ (s : List ℕ) (i v : ℕ) (bits : v < 2 ^ 32) (there : rowPlace s i + 
 
   -- Of row j the first eight bytes and the last twelve are the same,
   front : (j : ℕ) → Same s' s (rowPlace s j) (rowPlace s j) 8
-  front j = record { byte = λ k l. elim (decLe j i) [ yes a ↦ before (rowPlace s j + k) (omega arith) | no a ↦ beyond (rowPlace s j + k) (omega arith) ] }
+  front j = record {
+    byte = λ k l. elim (decLe j i)
+        [ yes a ↦ before (rowPlace s j + k) (omega arith) | no a ↦ beyond (rowPlace s j + k) (omega arith) ];
+  }
 
   back : (j : ℕ) → Same s' s (rowPlace s j + 12) (rowPlace s j + 12) 12
-  back j = record { byte = λ k l. elim (decLe i j) [ yes a ↦ beyond (rowPlace s j + 12 + k) (omega arith) | no a ↦ before (rowPlace s j + 12 + k) (omega arith) ] }
+  back j = record {
+    byte = λ k l. elim (decLe i j)
+        [ yes a ↦ beyond (rowPlace s j + 12 + k) (omega arith) | no a ↦ before (rowPlace s j + 12 + k) (omega arith) ];
+  }
 
   -- so it is the same record but for its count,
   row-from : (j : ℕ) → rowFrom s' (rowPlace s j) ≡ withVehicles (rowFrom s (rowPlace s j)) (u32At s' (rowPlace s j + 8))
@@ -141,7 +154,9 @@ module _ (s : List ℕ) (i v : ℕ) (bits : v < 2 ^ 32) (there : rowPlace s i + 
               | no a ↦ elim (decLe (suc i) j) [ yes b ↦ beyond (rowPlace s j + 8 + k) (omega arith) | no b ↦ absurd (n (omega arith)) ]
             ];
       } in
-      rw (start same, seasons same) (row-from j ∙ rw (long-at other 0 (rowPlace s j + 8) (rowPlace s j + 8) (omega arith) (omega arith) (omega arith)) refl)
+      rw (start same, seasons same)
+      (row-from j ∙ rw (long-at other 0 (rowPlace s j + 8) (rowPlace s j + 8) (omega arith) (omega arith)
+      (omega arith)) refl)
 
   -- The vehicles up to row i are the same; from there on the new count stands for the old one.
   vehicles-early : (n : ℕ) → n ≤ i → vehiclesBefore s' n ≡ vehiclesBefore s n
@@ -159,7 +174,8 @@ module _ (s : List ℕ) (i v : ℕ) (bits : v < 2 ^ 32) (there : rowPlace s i + 
       ]
 
   -- All demands on row j are met still where the new count meets those on vehicles.
-  module _ (inside : i < rowsOf s) (most : v ≤ vehiclesLimit) (fleet : 4 ≤ versionOf s → vehiclesBefore s (rowsOf s) + v ≤ fleetLimit + (rowAt s i) .vehicles) where
+  module _ (inside : i < rowsOf s) (most : v ≤ vehiclesLimit)
+      (fleet : 4 ≤ versionOf s → vehiclesBefore s (rowsOf s) + v ≤ fleetLimit + (rowAt s i) .vehicles) where
     row-but : (j : ℕ) → rowAt s' j ≡ withVehicles (rowAt s j) ((rowAt s' j) .vehicles)
     row-but j = elim (ℕ-discrete j i) [ yes e ↦ rw (e, row-changed) refl | no n ↦ rw (row-kept j n) refl ]
 
@@ -194,8 +210,14 @@ module _ (s : List ℕ) (i v : ℕ) (bits : v < 2 ^ 32) (there : rowPlace s i + 
           bytes = λ old. rw (row-but j) (a .no-mileage (omega (arith, version same)));
           mileage = λ new.
               let right : MileageRight s (rowAt s j) = a .mileage (omega (arith, version same)) in
-              rw (row-but j)
-              (right .0, λ km. (right .1 km .0, λ k l. let in-s : k < seasonsOf s = omega (arith, seasons same) in rw (season same k in-s) (right .1 km .1 k in-s)));
+              rw (row-but j) (
+                right .0,
+                λ km. (
+                  right .1 km .0,
+                  λ k l. let in-s : k < seasonsOf s = omega (arith, seasons same) in
+                      rw (season same k in-s) (right .1 km .1 k in-s),
+                ),
+              );
         }
 
     -- so the sheet is accepted still

@@ -25,7 +25,8 @@ use Rattle.sheet.proofs.Temperature.{season-in-range}
 use Rattle.sheet.proofs.Saturation.{most, reached, saturation-is}
 
 -- a season of 16-bit temperatures that passed its own checks
-pub passed-in-range : (s : List ℕ) (i : ℕ) {r : Season} → seasonCheck s i ≡ Pass → r ≡ seasonAt s i → r .lowest < 65536 → r .highest < 65536 → SeasonInRange r
+pub passed-in-range : (s : List ℕ) (i : ℕ) {r : Season} → seasonCheck s i ≡ Pass → r ≡ seasonAt s i → r .lowest < 65536
+    → r .highest < 65536 → SeasonInRange r
 passed-in-range s i pass e l h =
     let (days, (((cold, order), warm), (least, most))) = (rw (← e) at (season-judged s i)) .passes pass in
     season-in-range l h cold order warm most

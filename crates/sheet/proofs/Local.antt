@@ -80,4 +80,7 @@ pub counts-same : {s t : List ℕ} (p q n : ℕ) → Same s t p q (2 * n) → co
 unfolding countsAt
 counts-same p q zero h = refl
 counts-same p q (suc n) h =
-    cc (word-at h 0 p q (omega arith) (omega arith) (omega arith), counts-same (p + 2) (q + 2) n (part h 2 (2 * n) (p + 2) (q + 2) refl refl (omega arith)))
+    cc (
+      word-at h 0 p q (omega arith) (omega arith) (omega arith),
+      counts-same (p + 2) (q + 2) n (part h 2 (2 * n) (p + 2) (q + 2) refl refl (omega arith)),
+    )

@@ -270,7 +270,10 @@ module _ {s t : List ℕ} (next : FourthVersion s t) (h : sheetCheck s ≡ Pass)
         (
           (omega (arith, seasons fourth, a .seasons-least), omega (arith, seasons fourth, a .seasons-most)),
           (
-            (omega (arith, fourth .rows, a .rows-least), omega (arith, fourth .rows, a .rows-most, most-few s (rw (next .old)), most-many t (rw (next .new)))),
+            (
+              omega (arith, fourth .rows, a .rows-least),
+              omega (arith, fourth .rows, a .rows-most, most-few s (rw (next .old)), most-many t (rw (next .new))),
+            ),
             λ few. absurd (omega (arith, next .new)),
           ),
         ),

@@ -97,7 +97,8 @@ module _ {s t : List ℕ} (g : GridOf s t) where
   )
 
   -- on the grid,
-  grid-met : (1 ≤ total (durationCounts s)) × (total (durationCounts s) ≤ countsLimit) → (1 ≤ total (hourCounts s)) × (total (hourCounts s) ≤ countsLimit)
+  grid-met : (1 ≤ total (durationCounts s)) × (total (durationCounts s) ≤ countsLimit) → (1 ≤ total (hourCounts s))
+      × (total (hourCounts s) ≤ countsLimit)
       → (1 ≤ total (gridCounts t)) × (total (gridCounts t) ≤ gridLimit)
   grid-met (p, P) (q, Q) = (omega (arith, grid-total, mul-le-mul p q), omega (arith, grid-total, mul-le-mul P Q))
 

@@ -83,7 +83,8 @@ above-is limit season s halves m bits warm l size =
     let vp = season .vp in
     let h = warmth (season .highest) in
     let T = signed-is (season .highest) bits warm in
-    let e : a (vp /10^ 1) (signedTenths (season .highest)) +ᶠ b (vp /10^ 1) (signedTenths (season .highest)) *ᶠ s *ᶠ m /10^ 1 ≈ᶠ exponent vp h halves m =
+    let e : a (vp /10^ 1) (signedTenths (season .highest)) +ᶠ b (vp /10^ 1) (signedTenths (season .highest)) *ᶠ s *ᶠ m
+    /10^ 1 ≈ᶠ exponent vp h halves m =
     +-cong (≈-trans (a-cong _ T) (a-is vp h)) (*-cong (*-cong (≈-trans (b-cong _ T) (b-is vp h)) size) (≈-refl _)) in
     tests-same (ltb-tests (most limit vp) (reached vp h halves m))
     (tests-as (λ c. exponent→ limit vp h halves m l (≤-by (≈-sym e) (≈-refl _) c)) (λ c. ≤-by e (≈-refl _) (exponent← limit vp h halves m l c))

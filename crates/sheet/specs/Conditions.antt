@@ -39,21 +39,29 @@ pub record Conditions (s : List ℕ) (p : ℕ) : Type 0 where
   pub durations : sheetCheck s ≡ Refused 8 p → (p ≡ 8) × ¬ (versionOf s < 2 → (1 ≤ total (durationCounts s)) × (total (durationCounts s) ≤ 1000))
   pub hours : sheetCheck s ≡ Refused 9 p → (p ≡ 56) × ¬ (versionOf s < 2 → (1 ≤ total (hourCounts s)) × (total (hourCounts s) ≤ 1000))
   pub grid : sheetCheck s ≡ Refused 24 p → (p ≡ 8) × ¬ (2 ≤ versionOf s → (1 ≤ total (gridCounts s)) × (total (gridCounts s) ≤ 1000000))
-  pub days : sheetCheck s ≡ Refused 10 p → NotInSeason s p (λ (season : Season) (before : ℕ). ((1 ≤ season .days) × (season .days ≤ 366)) × (before + season .days ≤ 366))
+  pub days : sheetCheck s ≡ Refused 10 p
+      → NotInSeason s p
+      (λ (season : Season) (before : ℕ). ((1 ≤ season .days) × (season .days ≤ 366)) × (before + season .days ≤ 366))
   pub temperatures : sheetCheck s ≡ Refused 11 p
-      → NotInSeason s p (λ (season : Season) (before : ℕ). ((negᶠ (300 /10^ 1) ≤ᶠ signedTenths (season .lowest)) × (signedTenths (season .lowest) ≤ᶠ signedTenths (season .highest)))
+      → NotInSeason s p
+      (λ (season : Season) (before : ℕ).
+      ((negᶠ (300 /10^ 1) ≤ᶠ signedTenths (season .lowest))
+      × (signedTenths (season .lowest) ≤ᶠ signedTenths (season .highest)))
       × (signedTenths (season .highest) ≤ᶠ 500 /10^ 1))
   pub vapour-pressure : sheetCheck s ≡ Refused 12 p → NotInSeason s p (λ (season : Season) (before : ℕ). (300 ≤ season .vp) × (season .vp ≤ 1100))
   pub class-technology : sheetCheck s ≡ Refused 13 p → NotInRow s p (λ (row : Row) (place : ℕ). ¬ (equipmentAt s place ≡ Absent))
   pub canister-code : sheetCheck s ≡ Refused 14 p → NotInRow s p (λ (row : Row) (place : ℕ). (u8At s (place + 2) ≤ 3) ⊎ (u8At s (place + 2) ≡ 255))
-  pub percents : sheetCheck s ≡ Refused 15 p → NotInRow s p (λ (row : Row) (place : ℕ). ((row .carburettor ≤ 100) × (row .hot ≤ 100)) × (row .fill ≤ 100))
+  pub percents : sheetCheck s ≡ Refused 15 p
+      → NotInRow s p (λ (row : Row) (place : ℕ). ((row .carburettor ≤ 100) × (row .hot ≤ 100)) × (row .fill ≤ 100))
   pub vehicles : sheetCheck s ≡ Refused 16 p → NotInRow s p (λ (row : Row) (place : ℕ). row .vehicles ≤ 10000000)
   pub fleet : sheetCheck s ≡ Refused 26 p
       → (i : ℕ) × (i < rowsOf s) × ((p ≡ seasonsStart s + 8 * seasonsOf s + 24 * i)
       × ¬ (4 ≤ versionOf s → vehiclesBefore s i + (rowAt s i) .vehicles ≤ 100000000))
   pub tank : sheetCheck s ≡ Refused 17 p → NotInRow s p (λ (row : Row) (place : ℕ). u16At s (place + 6) ≤ 1500)
   pub trips-minutes : sheetCheck s ≡ Refused 18 p → NotInRow s p (λ (row : Row) (place : ℕ). (row .trips ≤ 1200) × (row .minutes ≤ 1440))
-  pub loads : sheetCheck s ≡ Refused 19 p → NotInRow s p (λ (row : Row) (place : ℕ). (row .load ≤ row .saturation) × (row .canister ≡ None → row .saturation ≡ 0))
+  pub loads : sheetCheck s ≡ Refused 19 p
+      → NotInRow s p (λ (row : Row) (place : ℕ). (row .load ≤ row .saturation)
+      × (row .canister ≡ None → row .saturation ≡ 0))
   pub saturation : sheetCheck s ≡ Refused 20 p
       → NotInRow s p (λ (row : Row) (place : ℕ). (j : ℕ) → j < seasonsOf s → ExponentMost 3 row (seasonAt s j))
   pub bytes-20-to-23 : sheetCheck s ≡ Refused 21 p → NotInRow s p (λ (row : Row) (place : ℕ). versionOf s < 3 → row .mileage ≡ 0)

@@ -5,7 +5,9 @@ use mathlib.Core.Path.{_≡_, ap}
 use Prim.Native.Nat.{ℕ, _*_, _^_, _≤_}
 use native.Mathlib.Omega.{arith}
 use Rattle.numbers.specs.Fraction.{Fraction, _≤ᶠ_, _≈ᶠ_, _+ᶠ_, negᶠ, _-ᶠ_, _*ᶠ_, whole, _/10^_, inverse}
-use Rattle.numbers.proofs.Order.{positive→nonNegative, test-true, whole-mono, ≤-refl, ≤-trans, ≈-refl, ≈-sym, ≈-trans, ≈→≤, ≈→≥, +-mono, +-cong, +-zero, sub-mono, *-mono-left, *-mono-right, *-cong, *-zero, inverse-positive, ratio, ratio-nonNegative}
+use Rattle.numbers.proofs.Order.{positive→nonNegative, test-true, whole-mono, ≤-refl, ≤-trans, ≈-refl, ≈-sym, ≈-trans}
+use Rattle.numbers.proofs.Order.{≈→≤, ≈→≥, +-mono, +-cong, +-zero, sub-mono, *-mono-left, *-mono-right, *-cong, *-zero}
+use Rattle.numbers.proofs.Order.{inverse-positive, ratio, ratio-nonNegative}
 use Rattle.bounds.specs.Series.{multiple}
 use Rattle.bounds.specs.Enclosure.{Within}
 use Rattle.bounds.specs.Exponential.{exponent}

@@ -6,7 +6,10 @@ use native.Mathlib.Omega.{arith}
 use native.Mathlib.Decide.{decLe}
 use native.Mathlib.Nat.{mul-le-mul-left, mul-le-mul-right, mul-le-mul, div-mul-le-self, lt-div-mul-add}
 use Rattle.numbers.specs.Fraction.{Fraction, _≤ᶠ_, _≈ᶠ_, _+ᶠ_, _-ᶠ_, _*ᶠ_, whole}
-use Rattle.numbers.proofs.Order.{NonNegative, Positive, ≤-refl, ≤-trans, ≈-refl, ≈-sym, ≈-trans, ≈→≤, ≈→≥, +-mono, +-comm, sub-nonNegative, ≤-sub, ≤-minus, regain, *-mono-left, *-mono-right, *-cong, *-swap, +-times, solve-least, solve-most, ratio, ratio-≤, ratio-nonNegative, ratio-positive, ratio-sum, ratio-product, ratio-one}
+use Rattle.numbers.proofs.Order.{NonNegative, Positive, ≤-refl, ≤-trans, ≈-refl, ≈-sym, ≈-trans, ≈→≤, ≈→≥, +-mono}
+use Rattle.numbers.proofs.Order.{+-comm, sub-nonNegative, ≤-sub, ≤-minus, regain, *-mono-left, *-mono-right, *-cong}
+use Rattle.numbers.proofs.Order.{*-swap, +-times, solve-least, solve-most, ratio, ratio-≤, ratio-nonNegative}
+use Rattle.numbers.proofs.Order.{ratio-positive, ratio-sum, ratio-product, ratio-one}
 use Rattle.bounds.specs.Enclosure.{Within}
 use Rattle.bounds.specs.Short.{short, binary, lineExponent}
 use Rattle.bounds.proofs.Within.{within-above, within-below, within-from}

@@ -73,7 +73,8 @@ module _ (h y : ℕ) (h0 : 0 < h) (y0 : 282 * 10 ^ 12 ≤ y) where
   unfolding net
   net-above =
       let v : ℕ = 813 * y - 2292 * 10 ^ 14 in
-      low-cut h (2 * v / h) v y (2 * v / h * 2 ^ 24 / 5 ^ 16) (omega arith) (div-mul-le-self (2 * v) h) (div-mul-le-self (2 * v / h * 2 ^ 24) (5 ^ 16))
+      low-cut h (2 * v / h) v y (2 * v / h * 2 ^ 24 / 5 ^ 16) (omega arith) (div-mul-le-self (2 * v) h)
+      (div-mul-le-self (2 * v / h * 2 ^ 24) (5 ^ 16))
 
   -- and a margin further it is at most `netError` more
   net-below : 1626 * (y + margin) * 2 ^ 40 ≤ (net h y + netError) * h * 10 ^ 16 + 4584 * 10 ^ 14 * 2 ^ 40
@@ -92,7 +93,8 @@ start-width = lit≤ tt
 
 -- a = A, 2·b·s = K and s = h/2 as they are held, number 25 at m_sat, and m_sat as it is held
 module _ (A K h σ M : ℕ) (vp s saturation T : Fraction) (ea : a vp T ≈ᶠ exponent A) (eb : b vp T *ᶠ s ≈ᶠ rising K) (es : s ≈ᶠ ratio h 2 halves-pos)
-    (h0 : 0 < h) (hK : K ≤ 22 * 2 ^ 41) (hσ : σ ≤ 369 * 2 ^ 40) (top : along A K saturation ≤ᶠ whole 0) (full : Within (2 ^ 40) σ 1 saturation) (least : 17 ≤ M)
+    (h0 : 0 < h) (hK : K ≤ 22 * 2 ^ 41) (hσ : σ ≤ 369 * 2 ^ 40) (top : along A K saturation ≤ᶠ whole 0)
+    (full : Within (2 ^ 40) σ 1 saturation) (least : 17 ≤ M)
     (most : M ≤ 10 ^ 6)
   where
     -- what is kept, as it is computed

@@ -71,7 +71,8 @@ fn round(
     loads: &[u64; 25],
 ) -> [u64; 25]
     requires { ⌜ (now tables ≡ entries) × BalancesReady (now bases) (now growths) saturation net × LoadsBetween saturation net (now loads) ⌝ }
-    ensures { λ r. ⌜ r ≡ tab (λ (d : ℕ). step (at (now (bases .entry)) d) (at (now (growths .entry)) d) saturation net (at (now (loads .entry)) d)) 25 ⌝ }
+    ensures { λ r. ⌜ r ≡ tab
+        (λ (d : ℕ). step (at (now (bases .entry)) d) (at (now (growths .entry)) d) saturation net (at (now (loads .entry)) d)) 25 ⌝ }
 {
     let mut out = [0u64; 25];
     let mut d: usize = 0;

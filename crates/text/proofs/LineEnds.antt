@@ -46,7 +46,8 @@ line-feeds : (name words : List ℕ) → lineFeeds name ≡ 0 → lineFeeds (lin
 unfolding line lineFeeds
 line-feeds name words h = simp feeds-append (omega (arith, h, fields-feeds words))
 
-pub pair-feeds : (first : List ℕ) (a : ℕ) (second : List ℕ) (b : ℕ) → lineFeeds first ≡ 0 → lineFeeds second ≡ 0 → lineFeeds (pairLine first a second b) ≡ 1
+pub pair-feeds : (first : List ℕ) (a : ℕ) (second : List ℕ) (b : ℕ) → lineFeeds first ≡ 0 → lineFeeds second ≡ 0
+    → lineFeeds (pairLine first a second b) ≡ 1
 unfolding pairLine lineFeeds
 pair-feeds first a second b f g = simp feeds-append (omega (arith, digits-feeds a, digits-feeds b))
 
@@ -98,7 +99,8 @@ sums-ended : (words : List ℕ) (at : ℕ) → Ended (sumLines words at)
 unfolding sumLines
 sums-ended words at =
     ended-behind
-    (line (bytes "cars") (six at words) ++ line (bytes "light") (six (at + 6) words) ++ line (bytes "two") (six (at + 12) words) ++ line (bytes "all") (six (at + 18) words))
+    (line (bytes "cars") (six at words) ++ line (bytes "light") (six (at + 6) words) ++ line (bytes "two")
+    (six (at + 12) words) ++ line (bytes "all") (six (at + 18) words))
     (line-ended (bytes "total") (between (at + 24) (at + 26) words))
 
 pub report-ended : (version rows : ℕ) (words : List ℕ) → Ended (reportLines version rows words)

@@ -48,7 +48,8 @@ line-most name a e words w =
     let few : length part ≤ e - a = rw (length-take (e - a) (drop a words)) (min-le-left (e - a) (length (drop a words))) in
     simp length-append (omega (arith, few, fields-most part (words-between a e words w)))
 
-pub pair-most : (first : List ℕ) (a : ℕ) (second : List ℕ) (b : ℕ) → a < 2 ^ 64 → b < 2 ^ 64 → length (pairLine first a second b) ≤ length first + length second + 41
+pub pair-most : (first : List ℕ) (a : ℕ) (second : List ℕ) (b : ℕ) → a < 2 ^ 64 → b < 2 ^ 64
+    → length (pairLine first a second b) ≤ length first + length second + 41
 unfolding pairLine
 pair-most first a second b f g = simp length-append (omega (arith, word-digits a f, word-digits b g))
 
@@ -77,7 +78,8 @@ sums-most words at w =
     ))
 
 -- all lines of an accepted sheet
-pub report-most : (version rows : ℕ) (words : List ℕ) → version < 2 ^ 64 → rows < 2 ^ 64 → Words words → length (reportLines version rows words) ≤ 151 * rows + 622
+pub report-most : (version rows : ℕ) (words : List ℕ) → version < 2 ^ 64 → rows < 2 ^ 64 → Words words
+    → length (reportLines version rows words) ≤ 151 * rows + 622
 unfolding reportLines headLine
 report-most version rows words v r w =
     simp length-append

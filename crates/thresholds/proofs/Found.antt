@@ -141,7 +141,8 @@ module _ (M : ℕ) (least : 17 ≤ M) (most : M ≤ 10 ^ 6) where
   too-far : (p : ℕ) → p < 14 → within M p 0 ≡ false → within M (suc p) (0 + 2 ^ 47) ≡ false
   too-far p h e =
       no-within M (suc p) (0 + 2 ^ 47)
-      (spread (getD far p 0) (getD far (suc p) 0) (exponential (16 * 10 ^ 14 + 2 ^ 47)) (rw exponential-at-0 at (within-no M p 0 e)) (triple p h) exponential-at-1·41)
+      (spread (getD far p 0) (getD far (suc p) 0) (exponential (16 * 10 ^ 14 + 2 ^ 47))
+      (rw exponential-at-0 at (within-no M p 0 e)) (triple p h) exponential-at-1·41)
     where
       spread : (f f' x : ℕ) → f * 2 ^ 10 < M * (2 ^ 40 + nearError) → f' ≤ 3 * f → 4 * 2 ^ 40 ≤ x → f' * 2 ^ 10 < M * (x + nearError)
       spread f f' x a b c = omega (arith, a, b, mul-le-mul-left M c)

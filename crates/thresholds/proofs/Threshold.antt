@@ -11,7 +11,8 @@ use Rattle.numbers.specs.Fraction.{Fraction, _≤ᶠ_, _≈ᶠ_, _+ᶠ_, _*ᶠ_
 use Rattle.bounds.specs.Series.{E}
 use Rattle.bounds.specs.Enclosure.{Within}
 use Rattle.bounds.specs.Exponential.{exponential, exponent}
-use Rattle.numbers.proofs.Order.{NonNegative, positive→nonNegative, whole-nonNegative, ≤-trans, ≈→≤, ≈→≥, +-nonNegative, *-mono, *-mono-right, *-nonNegative, *-cancel, ratio, ratio-nonNegative, ratio-sum}
+use Rattle.numbers.proofs.Order.{NonNegative, positive→nonNegative, whole-nonNegative, ≤-trans, ≈→≤, ≈→≥, +-nonNegative}
+use Rattle.numbers.proofs.Order.{*-mono, *-mono-right, *-nonNegative, *-cancel, ratio, ratio-nonNegative, ratio-sum}
 use Rattle.bounds.proofs.Exponential.{E-cong, E-mono, E-positive}
 use Rattle.bounds.proofs.Sums.{E-product-above, E-product-below, one-plus}
 use Rattle.bounds.proofs.ExponentialBound.{exponential-within, exponentialError-1·41}

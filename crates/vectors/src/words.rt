@@ -7,7 +7,8 @@ ghost use lib.ListN.{length};
 // What the buffer holds before a call, larger than any mass
 pub const OLD: u64 = 17361641481138401520;
 
-const WORDS: usize = 6144;
+// The words of the buffer
+pub const WORDS: usize = 6144;
 
 // The words of the subtotals, six each for cars, light-duty, two-wheelers and all rows
 const SUMS: usize = 24;

@@ -8,12 +8,10 @@ use vectors::input::u16_at;
 use vectors::input::u64_at;
 use vectors::tally::smaller;
 use vectors::words::OLD;
+use vectors::words::WORDS;
 use vectors::words::stands;
 ghost use Prim.Native.Nat.{_≤_};
 ghost use lib.ListN.{length};
-
-// The words of the buffer
-const WORDS: usize = 6144;
 
 // Whether the answer is the one that is expected
 fn answers(found: Check, number: u64, place: u64) -> bool {

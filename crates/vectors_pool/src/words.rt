@@ -2,10 +2,8 @@
 use sheet::Check;
 use vectors::input::u16_at;
 use vectors::tally::smaller;
+use vectors::words::WORDS;
 ghost use Prim.Native.Nat.{_+_, _*_, _≤_};
-
-// The words of a buffer
-const WORDS: usize = 6144;
 
 // The words after those of the rows: subtotals and totals
 const SUMS: usize = 26;

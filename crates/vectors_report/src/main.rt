@@ -19,13 +19,11 @@ use vectors::tally::Verdict;
 use vectors::tally::next;
 use vectors::tally::smaller;
 use vectors::words::OLD;
+use vectors::words::WORDS;
 use vectors::words::kept;
 use vectors::words::sums_right;
 ghost use Prim.Native.Nat.{_+_, _/_, _<_, _≤_};
 ghost use lib.ListN.{length};
-
-// The words of the buffer
-const WORDS: usize = 6144;
 
 // The bytes before each sheet, five numbers of two: its length and rows, the words of the buffer, and the number and place at which it is
 // refused, both 0 where it is accepted

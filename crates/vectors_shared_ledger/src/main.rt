@@ -1,6 +1,7 @@
-// Runs the lists of calls on shared ledgers that tools/vectors/shared.py put into standard input: how many openings and calls are answered as expected
-// and, where they are refused, leave every byte of the sheet and every word of the buffer as it was; how many ledgers end with the words of a
-// fresh report; and how many participants are told the same, answer by answer, by two lists on two ledgers that agree for them.
+// Runs the lists of calls on shared ledgers that tools/vectors/shared.py put into standard input: how many openings
+// and calls are answered as expected and, where they are refused, leave every byte of the sheet and every word of
+// the buffer as it was; how many ledgers end with the words of a fresh report; and how many participants are told
+// the same, answer by answer, by two lists on two ledgers that agree for them.
 use libc::STDIN_FILENO;
 use sheet::Check;
 use vectors::bytes::LONGEST;

@@ -9,7 +9,8 @@ use native.Mathlib.Omega.{arith}
 use Rattle.exact.proofs.Volatile.{atPressure, MoreVolatile, none, next}
 use Rattle.sheet.specs.Integers.{u16At}
 use Rattle.sheet.specs.Versions.{versionOf, hasGrid, hasManyRows, seasonsStart}
-use Rattle.sheet.specs.Bytes.{seasonsOf, rowsOf, durationCounts, hourCounts, gridCounts, cellsOf, seasonPlace, rowPlace, seasonFrom, seasonAt, seasonsFrom, seasonList, rowAt}
+use Rattle.sheet.specs.Bytes.{seasonsOf, rowsOf, durationCounts, hourCounts, gridCounts, cellsOf, seasonPlace, rowPlace}
+use Rattle.sheet.specs.Bytes.{seasonFrom, seasonAt, seasonsFrom, seasonList, rowAt}
 use Rattle.sheet.proofs.Versions.{rows-many, rows-few, start-grid, start-lists, start-same, start-between, cells-grid, cells-lists}
 use Rattle.sheet.proofs.Local.{Same, word-at, row-same, counts-same}
 use Rattle.volatility.specs.Pressure.{HigherPressure, pressurePlace}

@@ -17,7 +17,8 @@ head-there : (c : tie.After-enum-told2) → 8 ≤ length (c .before .before .bef
 head-there c = head-judged _ .passes (sym (c .before .before .head-check .ensures) ∙ c .enum-told2 .given .1) .0 .0
 
 -- and where the length has: it is where a row past the last would start
-length-is : (c : tie.After-enum-told4) → let s = c .before .before .before .before .before .before .before .args .s .now in length s ≡ rowPlace s (rowsOf s)
+length-is : (c : tie.After-enum-told4) → let s =
+    c .before .before .before .before .before .before .before .args .s .now in length s ≡ rowPlace s (rowsOf s)
 length-is c = length-judged _ .passes (sym (c .before .before .length-check .ensures) ∙ c .enum-told4 .given .1)
 
 returns : tie.Need-returns
@@ -73,8 +74,7 @@ pub stages-spec : {M : Type 1} → statement M
 stages-spec =
     tie.close
     (tie.spec
-    (λ c κs. search needs)
-    (λ c. search needs)
+    (λ c κs. search needs) (λ c. search needs)
     returns
     (λ c. search needs)
     (λ c κs. head-there c)

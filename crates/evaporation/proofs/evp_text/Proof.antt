@@ -11,4 +11,6 @@ returns c =
     text-numbers (text .before .before .before .report-check .ensures) (text .report-text .ensures) (c .text-numbers .ensures)
 
 pub evp-text-spec : {M : Type 1} → statement M
-evp-text-spec = tie.close (tie.spec (λ c κs. search needs) (λ c κs. search needs) (λ c κs. search needs) (λ c. search needs) (λ c. search needs) returns)
+evp-text-spec = tie.close
+    (tie.spec (λ c κs. search needs) (λ c κs. search needs) (λ c κs. search needs) (λ c. search needs)
+    (λ c. search needs) returns)

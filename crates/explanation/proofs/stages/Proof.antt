@@ -18,7 +18,9 @@ there : (c : tie.Else1) → 8 ≤ length (c .before .before .before .before .arg
 there c = head-there _ (number-of (c .before .before .mark-finding .ensures) (c .if1 .left))
 
 -- and where the length is right: it is where a row past the last would start
-ends : (c : tie.Else3) → let s = c .before .before .before .before .before .before .before .before .before .before .args .s .now in length s ≡ rowPlace s (rowsOf s)
+ends : (c : tie.Else3) → let s =
+    c .before .before .before .before .before .before .before .before .before .before .args .s .now in
+    length s ≡ rowPlace s (rowsOf s)
 ends c = length-is _ (number-of (c .before .before .length-finding .ensures) (c .if3 .left))
 
 returns : tie.Need-returns
@@ -85,8 +87,13 @@ rows-finding-requires c κs =
     let l = c .before .before .before .before .before .before in
     let start = l .before .before .before .before .before .before .before .before .before in
     let end = ends l in
-    let bytes : Bytes (start .before .args .s .now) = record { byte = λ k. start .shared-slice-known .given k .fits } in
-    (record { there = omega arith; passed = seasons-passed _ bytes (number-of (c .before .before .seasons-finding .ensures) (c .if5 .left)) }, omega arith)
+    let bytes : Bytes (start .before .args .s .now) = record { byte = λ k. start .shared-slice-known .given k .fits } in (
+      record {
+        there = omega arith;
+        passed = seasons-passed _ bytes (number-of (c .before .before .seasons-finding .ensures) (c .if5 .left));
+      },
+      omega arith,
+    )
 
 pub stages-spec : {M : Type 1} → statement M
 stages-spec =

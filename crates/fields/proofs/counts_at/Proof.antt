@@ -20,8 +20,11 @@ abbrev μ-loop : tie.MeasureT-loop
 
 loop-again : tie.Need-loop-again Inv-loop μ-loop
 loop-again c =
-    let l = c .before .before .loop in
-    (search needs, simp length-set (l .inv .1), stored-more _ (l .counts) _ 24 (l .i) _ (omega arith) (omega arith) (l .inv .2) (c .u16-at .ensures .0))
+    let l = c .before .before .loop in (
+      search needs,
+      simp length-set (l .inv .1),
+      stored-more _ (l .counts) _ 24 (l .i) _ (omega arith) (omega arith) (l .inv .2) (c .u16-at .ensures .0),
+    )
 
 returns : tie.Need-returns Inv-loop μ-loop
 returns c = let l = c .before .loop in stored-all _ _ _ 24 (l .i) (omega arith) (omega arith) (l .inv .2)
@@ -33,12 +36,7 @@ counts-at-spec =
     Inv-loop
     μ-loop
     (λ c. (search needs, refl, left-all _ _ 24))
-    (λ c. search needs)
-    (λ c. search needs)
-    (λ c κs. search needs)
-    (λ c. search needs)
-    (λ c. search needs)
-    (λ c. search needs)
-    (λ c. search needs)
+    (λ c. search needs) (λ c. search needs) (λ c κs. search needs) (λ c. search needs) (λ c. search needs)
+    (λ c. search needs) (λ c. search needs)
     loop-again
     returns)

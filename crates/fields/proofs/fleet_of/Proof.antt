@@ -24,7 +24,13 @@ add-fleet c =
     let start = c .before .before .before .before .before in
     let s = start .args .s .now in
     let rows = c .before .before .before .rows-of .ensures .0 in
-    record { fits = omega (arith, vehicles-more s (l .i) (l .inv .1) (c .vehicles-of .ensures .0), vehicles-most (accepted s (start .pre)) (l .i + 1) (omega arith)) }
+    record {
+      fits = omega (
+        arith,
+        vehicles-more s (l .i) (l .inv .1) (c .vehicles-of .ensures .0),
+        vehicles-most (accepted s (start .pre)) (l .i + 1) (omega arith),
+      );
+    }
 
 loop-again : tie.Need-loop-again Inv-loop μ-loop
 loop-again c =
@@ -49,7 +55,6 @@ fleet-of-spec =
     (λ c. (search needs, vehicles-none _))
     (λ c κs. row-there _ (c .before .before .before .before .pre) (omega arith))
     add-fleet
-    (λ c. search needs)
-    (λ c. search needs)
+    (λ c. search needs) (λ c. search needs)
     loop-again
     returns)

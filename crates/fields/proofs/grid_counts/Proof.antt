@@ -20,8 +20,11 @@ abbrev μ-loop : tie.MeasureT-loop
 
 loop-again : tie.Need-loop-again Inv-loop μ-loop
 loop-again c =
-    let l = c .before .before .loop in
-    (search needs, simp length-set (l .inv .1), stored-more _ (l .counts) _ 576 (l .i) _ (omega arith) (omega arith) (l .inv .2) (c .cell-at .ensures))
+    let l = c .before .before .loop in (
+      search needs,
+      simp length-set (l .inv .1),
+      stored-more _ (l .counts) _ 576 (l .i) _ (omega arith) (omega arith) (l .inv .2) (c .cell-at .ensures),
+    )
 
 returns : tie.Need-returns Inv-loop μ-loop
 unfolding gridCounts
@@ -34,10 +37,6 @@ grid-counts-spec =
     Inv-loop
     μ-loop
     (λ c. (search needs, refl, left-all _ _ 576))
-    (λ c κs. search needs)
-    (λ c. search needs)
-    (λ c. search needs)
-    (λ c. search needs)
-    (λ c. search needs)
+    (λ c κs. search needs) (λ c. search needs) (λ c. search needs) (λ c. search needs) (λ c. search needs)
     loop-again
     returns)

@@ -12,8 +12,4 @@ row-place-spec =
     (tie.spec
     (λ c κs. omega (arith, start-between (c .before .args .s .now)))
     (λ c κs. omega (arith, start-between (c .before .before .args .s .now)))
-    (λ c. search needs)
-    (λ c. search needs)
-    (λ c. search needs)
-    (λ c. search needs)
-    (λ c. search needs))
+    (λ c. search needs) (λ c. search needs) (λ c. search needs) (λ c. search needs) (λ c. search needs))

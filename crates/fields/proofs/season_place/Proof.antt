@@ -11,6 +11,4 @@ season-place-spec =
     tie.close
     (tie.spec
     (λ c κs. omega (arith, start-between (c .before .args .s .now)))
-    (λ c. search needs)
-    (λ c. search needs)
-    (λ c. search needs))
+    (λ c. search needs) (λ c. search needs) (λ c. search needs))

@@ -21,17 +21,16 @@ returns-2 c =
     let known = c .before .before .before .before .before .before in
     let check = c .before .before .before in
     promised _ _ _ _ (bytes known)
-    (band-is _ _ _ _ (bytes known) (sym (check .before .before .factor-check .ensures) ∙ check .enum-told .given .1) (c .before .before .units-at .ensures .0) (c .before .low-micrograms .ensures) (c .high-micrograms .ensures))
+    (band-is _ _ _ _ (bytes known) (sym (check .before .before .factor-check .ensures) ∙ check .enum-told .given .1)
+    (c .before .before .units-at .ensures .0) (c .before .low-micrograms .ensures) (c .high-micrograms .ensures))
 
 pub factor-spec : {M : Type 1} → statement M
 factor-spec =
     tie.close
     (tie.spec
-    (λ c κs. search needs)
-    (λ c. search needs)
+    (λ c κs. search needs) (λ c. search needs)
     returns
     (λ c. search needs)
     (λ c κs. sym (c .before .before .factor-check .ensures) ∙ c .enum-told .given .1)
-    (λ c κs. search needs)
-    (λ c κs. search needs)
+    (λ c κs. search needs) (λ c κs. search needs)
     returns-2)

@@ -45,8 +45,11 @@ returns : tie.Need-returns
 returns c =
     let start = c .before .before in
     let x = start .args in
-    let (least, most) = asked start in
-    (ap (λ (units : List ℕ). getD units (x .k - 1) 0) (c .factors-at .ensures .0) ∙ seventh (x .s .now) (x .season) (x .row) (x .k) least most, units-fit (c .factors-at .ensures .1) (x .k - 1))
+    let (least, most) = asked start in (
+      ap (λ (units : List ℕ). getD units (x .k - 1) 0) (c .factors-at .ensures .0) ∙
+          seventh (x .s .now) (x .season) (x .row) (x .k) least most,
+      units-fit (c .factors-at .ensures .1) (x .k - 1),
+    )
 
 pub units-at-spec : {M : Type 1} → statement M
 units-at-spec =

@@ -52,8 +52,6 @@ largest-of-spec =
     loop-holds
     (λ c κs. search needs)
     largest-in-requires
-    (λ c κs. search needs)
-    (λ c. search needs)
-    (λ c. search needs)
+    (λ c κs. search needs) (λ c. search needs) (λ c. search needs)
     loop-again
     returns)

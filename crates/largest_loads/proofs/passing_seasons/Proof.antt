@@ -61,9 +61,6 @@ passing-seasons-spec =
     loop-holds
     (λ c κs. search needs)
     (λ c κs. (in-range c, search needs))
-    (λ c. search needs)
-    (λ c κs. search needs)
-    (λ c. search needs)
-    (λ c. search needs)
+    (λ c. search needs) (λ c κs. search needs) (λ c. search needs) (λ c. search needs)
     loop-again
     returns)

@@ -32,7 +32,8 @@ renew-row-requires c κs =
     let stored = c .before .before .before .before in
     let start = stored .before .before .before .before .before .before .before in
     let x = start .args in
-    rw (stored-is stored, stored .before .before .row-named .ensures) (right-room (x .s .now) (x .words .now) (x .call) (start .pre .0) (start .pre .1))
+    rw (stored-is stored, stored .before .before .row-named .ensures)
+    (right-room (x .s .now) (x .words .now) (x .call) (start .pre .0) (start .pre .1))
 
 returns : tie.Need-returns
 unfolding sheetAfter wordsAfter
@@ -50,6 +51,5 @@ apply-spec =
     (λ c κs. search needs)
     set-vehicles-requires
     renew-row-requires
-    (λ c. search needs)
-    (λ c. search needs)
+    (λ c. search needs) (λ c. search needs)
     returns)

@@ -15,11 +15,14 @@ use Rattle.ledger_calls.proofs.change.Statement.{statement}
 use Rattle.ledger_calls.proofs.change.Tie as tie
 
 -- the buffers hold a ledger
-opens : (c : tie.After-enum-told2) → let x = c .before .before .before .before .before .before .args in reportCheck (x .s .now) (length (x .words .now)) ≡ Pass
+opens : (c : tie.After-enum-told2) → let x =
+    c .before .before .before .before .before .before .args in reportCheck (x .s .now) (length (x .words .now)) ≡ Pass
 opens c = sym (c .before .before .report-check .ensures) ∙ c .enum-told2 .given .1
 
 -- and the call is allowed
-allowed : (c : tie.Else1) → let x = c .before .before .before .before .before .before .before .before .before .args in wrong (hasManyRows (x .s .now)) (countsOf (x .s .now)) (x .call) ≡ false
+allowed : (c : tie.Else1) → let x =
+    c .before .before .before .before .before .before .before .before .before .args in
+    wrong (hasManyRows (x .s .now)) (countsOf (x .s .now)) (x .call) ≡ false
 allowed c = sym (c .before .call-wrong .ensures) ∙ c .if1 .left
 
 returns : tie.Need-returns
@@ -42,15 +45,12 @@ pub change-spec : {M : Type 1} → statement M
 change-spec =
     tie.close
     (tie.spec
-    (λ c κs. search needs)
-    (λ c. search needs)
-    (λ c. search needs)
+    (λ c κs. search needs) (λ c. search needs) (λ c. search needs)
     returns
     (λ c. search needs)
     (λ c κs. report-sheet _ _ (opens (c .before)))
     (λ c. search needs)
     returns-2
     apply-requires
-    (λ c. search needs)
-    (λ c. search needs)
+    (λ c. search needs) (λ c. search needs)
     returns-3)

@@ -27,7 +27,9 @@ entry c =
     entry-is _ (start .pre .0) _ named (rw named (row-named-there _ (start .pre .0) _ (start .pre .1))) (c .vehicles-of .ensures .0)
 
 -- and the call does not pass them
-within : (c : tie.After-vehicles-of) → let x = c .before .before .before .args in past (hasManyRows (x .s .now)) (total (countsOf (x .s .now))) (c .vehicles-of .result) (x .call) ≡ false
+within : (c : tie.After-vehicles-of) → let x =
+    c .before .before .before .args in
+    past (hasManyRows (x .s .now)) (total (countsOf (x .s .now))) (c .vehicles-of .result) (x .call) ≡ false
 within c =
     let start = c .before .before .before in
     let named = c .before .row-named .ensures in

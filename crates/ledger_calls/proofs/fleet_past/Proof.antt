@@ -15,6 +15,5 @@ fleet-past-spec =
     tie.close
     (tie.spec
     (λ c κs. omega (arith, parking-there _ (c .before .pre .0)))
-    (λ c κs. search needs)
-    (λ c. search needs)
+    (λ c κs. search needs) (λ c. search needs)
     returns)

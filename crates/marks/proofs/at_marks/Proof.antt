@@ -14,7 +14,9 @@ use Rattle.marks.proofs.at_marks.Tie as tie
 
 -- what a list of raises requires is known once there are the temperatures and the exponentials
 raises-ready : (c : tie.After-heats) {r : ℕ} → r ≤ 6 * 10 ^ 10
-    → (now (c .before .before .args .tables) ≡ entries) × AllAtMost (80 * 10 ^ 10) (c .before .season-temperatures .result) × AllAtMost (56 * 2 ^ 40) (c .heats .result) × (r ≤ 6 * 10 ^ 10)
+    → (now (c .before .before .args .tables) ≡ entries)
+    × AllAtMost (80 * 10 ^ 10) (c .before .season-temperatures .result) × AllAtMost (56 * 2 ^ 40) (c .heats .result)
+    × (r ≤ 6 * 10 ^ 10)
 raises-ready c h =
     (c .before .before .pre .0, c .before .season-temperatures .ensures .1, c .heats .ensures .1, h)
 
@@ -44,16 +46,8 @@ pub at-marks-spec : {M : Type 1} → statement M
 at-marks-spec =
     tie.close
     (tie.spec
-    (λ c κs. search needs)
-    (λ c κs. search needs)
-    (λ c κs. search needs)
-    (λ c κs. search needs)
-    (λ c κs. search needs)
-    (λ c. search needs)
-    (λ c κs. search needs)
-    (λ c. search needs)
-    (λ c κs. search needs)
-    (λ c. search needs)
+    (λ c κs. search needs) (λ c κs. search needs) (λ c κs. search needs) (λ c κs. search needs) (λ c κs. search needs)
+    (λ c. search needs) (λ c κs. search needs) (λ c. search needs) (λ c κs. search needs) (λ c. search needs)
     (λ c κs. raises-ready (c .before .before .before .before .before) (omega arith))
     (λ c. search needs)
     (λ c κs. raises-ready (c .before .before .before .before .before .before) (omega arith))

@@ -31,12 +31,8 @@ heats-spec =
     Inv-loop
     μ-loop
     (λ c. filled-none _ (replicate 48 0) refl)
-    (λ c. search needs)
-    (λ c. search needs)
+    (λ c. search needs) (λ c. search needs)
     (λ c κs. (search needs, omega (arith, c .before .before .pre .1 .at-most (c .before .loop .i))))
-    (λ c. search needs)
-    (λ c. search needs)
-    (λ c. search needs)
-    (λ c. search needs)
+    (λ c. search needs) (λ c. search needs) (λ c. search needs) (λ c. search needs)
     loop-again
     returns)

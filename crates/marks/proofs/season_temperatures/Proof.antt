@@ -12,7 +12,11 @@ use Rattle.marks.proofs.season_temperatures.Tie as tie
 same : (c : tie.After-temperatures) → c .temperatures .result ≡ tab (markWarmth (c .before .before .before .before .args .season)) 48
 unfolding markWarmth
 same c =
-    rw (c .before .before .before .warmth .ensures, c .before .before .warmth2 .ensures, c .before .weights-table .ensures) at (c .temperatures .ensures)
+    rw (
+      c .before .before .before .warmth .ensures,
+      c .before .before .warmth2 .ensures,
+      c .before .weights-table .ensures,
+    ) at (c .temperatures .ensures)
 
 returns : tie.Need-returns
 returns c =
@@ -22,9 +26,6 @@ pub season-temperatures-spec : {M : Type 1} → statement M
 season-temperatures-spec =
     tie.close
     (tie.spec
-    (λ c κs. search needs)
-    (λ c κs. search needs)
-    (λ c. search needs)
-    (λ c κs. search needs)
+    (λ c κs. search needs) (λ c κs. search needs) (λ c. search needs) (λ c κs. search needs)
     (λ c κs. (search needs, search needs, record { at-most = λ k. rw (c .weights-table .ensures) (w-most k) }))
     returns)

@@ -27,12 +27,8 @@ temperatures-spec =
     Inv-loop
     μ-loop
     (λ c. filled-none _ (replicate 48 0) refl)
-    (λ c. search needs)
-    (λ c. search needs)
+    (λ c. search needs) (λ c. search needs)
     (λ c κs. (search needs, search needs, c .before .before .pre .2 .at-most _))
-    (λ c. search needs)
-    (λ c. search needs)
-    (λ c. search needs)
-    (λ c. search needs)
+    (λ c. search needs) (λ c. search needs) (λ c. search needs) (λ c. search needs)
     loop-again
     returns)

@@ -10,7 +10,13 @@ use Rattle.pool.proofs.refuse.Statement.{statement}
 use Rattle.pool.proofs.refuse.Tie as tie
 
 put-refusal-requires : tie.Need-put-refusal-requires
-put-refusal-requires c κs = record { fits = omega (arith, refusal-most (c .before .before .args .number) (c .before .before .args .place) (search needs) (search needs)) }
+put-refusal-requires c κs = record {
+  fits = omega (
+    arith,
+    refusal-most (c .before .before .args .number) (c .before .before .args .place) (search needs)
+        (search needs),
+  );
+}
 
 array-share-prefix-line : tie.Need-array-share-prefix-line
 array-share-prefix-line c =
@@ -30,5 +36,4 @@ refuse-spec =
     (λ c κs. search needs)
     array-share-prefix-line
     slice-aggregate-write-all
-    (λ c κs. search needs)
-    (λ c. search needs))
+    (λ c κs. search needs) (λ c. search needs))

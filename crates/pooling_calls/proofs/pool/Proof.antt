@@ -23,9 +23,7 @@ pub pool-spec : {M : Type 1} → statement M
 pool-spec =
     tie.close
     (tie.spec
-    (λ c κs. search needs)
-    (λ c κs. search needs)
-    (λ c. search needs)
+    (λ c κs. search needs) (λ c κs. search needs) (λ c. search needs)
     returns
     (λ c. search needs)
     (λ c κs.

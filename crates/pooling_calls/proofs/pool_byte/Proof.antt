@@ -44,7 +44,8 @@ returns-4 c =
     let a = x .args .a .now in
     let k = x .args .k in
     rw (place-there c)
-    (sym (second-byte a (x .args .b .now) (k - length a)) ∙ ap (u8At (pool a (x .args .b .now))) {x = length a + (k - length a)} {y = k} (omega arith))
+    (sym (second-byte a (x .args .b .now) (k - length a)) ∙
+    ap (u8At (pool a (x .args .b .now))) {x = length a + (k - length a)} {y = k} (omega arith))
 
 pub pool-byte-spec : {M : Type 1} → statement M
 pool-byte-spec =
@@ -52,8 +53,7 @@ pool-byte-spec =
     (tie.spec
     (λ c κs. omega (arith, length-is (region _ (c .before .before .before .pre .0 .first))))
     (λ c κs. omega (arith, length-is (region _ (c .before .before .before .before .pre .0 .second))))
-    (λ c. search needs)
-    (λ c. search needs)
+    (λ c. search needs) (λ c. search needs)
     returns
     (λ c κs. omega (arith, length-is (region _ (c .before .before .before .before .pre .0 .first))))
     (λ c κs. omega (arith, length-is (region _ (c .before .before .before .before .before .pre .0 .second))))

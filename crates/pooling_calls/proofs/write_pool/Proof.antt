@@ -41,8 +41,7 @@ write-pool-spec =
     (λ c. (search needs, refl, filled-none _ _))
     (λ c κs. let x = c .before .before .before .before .before .before in (x .pre .0, omega arith))
     (λ c. omega arith)
-    (λ c. search needs)
-    (λ c. search needs)
+    (λ c. search needs) (λ c. search needs)
     loop-again
     (λ c. c .before .loop .inv .1)
     returns)

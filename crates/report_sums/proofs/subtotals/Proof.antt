@@ -34,7 +34,10 @@ loop-again c =
     let x = c .before .before .before .before .before .before .before .args in
     let s = x .s .now in
     let word : c .sum-of .result ≡ sumWord s (x .words .now) (l .k) =
-    c .sum-of .ensures ∙ ap (λ (v : ℕ). v % 2 ^ 64) (rw (l .inv .2) (sum-kept s (x .words .now) (tab (sumWord s (x .words .now)) (l .k)) (6 * rows .result) (category (l .k / 6)) (rowsOf s) (l .k % 6) (omega arith) (omega arith))) in
+    c .sum-of .ensures ∙
+    ap (λ (v : ℕ). v % 2 ^ 64)
+    (rw (l .inv .2) (sum-kept s (x .words .now) (tab (sumWord s (x .words .now)) (l .k)) (6 * rows .result)
+    (category (l .k / 6)) (rowsOf s) (l .k % 6) (omega arith) (omega arith))) in
     (search needs, simp length-set (l .inv .1), run-more _ _ (6 * rows .result) (l .k) (l .inv .2) word)
 
 returns : tie.Need-returns Inv-loop μ-loop
@@ -54,12 +57,11 @@ subtotals-spec =
     (λ c κs. omega (arith, parking-there _ (c .before .before .pre .0)))
     (λ c. search needs)
     loop-holds
-    (λ c κs. let l = c .before .before .loop in let start = c .before .before .before .before .before .before in (start .pre .0, omega arith, omega arith))
-    (λ c. search needs)
-    (λ c. search needs)
+    (λ c κs. let l = c .before .before .loop in let start = c .before .before .before .before .before .before in
+    (start .pre .0, omega arith, omega arith))
+    (λ c. search needs) (λ c. search needs)
     (λ c. omega arith)
-    (λ c. search needs)
-    (λ c. search needs)
+    (λ c. search needs) (λ c. search needs)
     loop-again
     (λ c. c .before .loop .inv .1)
     returns)

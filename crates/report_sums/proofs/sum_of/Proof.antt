@@ -22,8 +22,12 @@ loop-again : tie.Need-loop-again Inv-loop μ-loop
 loop-again c =
     let told = c .before .before .before in
     let l = c .before .before .before .before .before .before .loop in
-    let x = c .before .before .before .before .before .before .before .before .before .before .args in
-    (search needs, c .wrapping-add-u64 .ensures ∙ sum-more (x .s .now) (x .words .now) (category (x .c)) (l .i) (x .j) (l .sum) (l .inv .1) (cc (c .before .counted .ensures, told .belongs .ensures, told .before .class-of .ensures)))
+    let x = c .before .before .before .before .before .before .before .before .before .before .args in (
+      search needs,
+      c .wrapping-add-u64 .ensures ∙
+          sum-more (x .s .now) (x .words .now) (category (x .c)) (l .i) (x .j) (l .sum) (l .inv .1)
+          (cc (c .before .counted .ensures, told .belongs .ensures, told .before .class-of .ensures)),
+    )
 
 returns : tie.Need-returns Inv-loop μ-loop
 returns c =
@@ -41,14 +45,8 @@ sum-of-spec =
     (λ c κs. omega (arith, parking-there _ (c .before .before .pre .0)))
     (λ c. (search needs, sum-none _ _ _ _))
     (λ c κs. row-there _ (c .before .before .before .before .before .pre .0) (omega arith))
-    (λ c κs. search needs)
-    (λ c. search needs)
-    (λ c. search needs)
-    (λ c. search needs)
+    (λ c κs. search needs) (λ c. search needs) (λ c. search needs) (λ c. search needs)
     (λ c. omega arith)
-    (λ c κs. search needs)
-    (λ c κs. search needs)
-    (λ c. search needs)
-    (λ c. search needs)
+    (λ c κs. search needs) (λ c κs. search needs) (λ c. search needs) (λ c. search needs)
     loop-again
     returns)

@@ -46,11 +46,9 @@ put-accepted-spec =
     tie.close
     (tie.spec
     (λ c κs. head-there (c .before .before .before .pre))
-    (λ c. search needs)
-    (λ c. search needs)
+    (λ c. search needs) (λ c. search needs)
     (λ c κs. head-there (c .before .before .before .before .before .pre))
-    (λ c. search needs)
-    (λ c. search needs)
+    (λ c. search needs) (λ c. search needs)
     part-put-report-end
     put-report-requires
     (λ c. search needs)

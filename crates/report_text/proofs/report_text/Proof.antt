@@ -30,12 +30,10 @@ pub report-text-spec : {M : Type 1} → statement M
 report-text-spec =
     tie.close
     (tie.spec
-    (λ c κs. search needs)
-    (λ c. search needs)
+    (λ c κs. search needs) (λ c. search needs)
     put-text-requires
     (λ c. search needs)
     returns
     put-text-requires-2
-    (λ c. search needs)
-    (λ c. search needs)
+    (λ c. search needs) (λ c. search needs)
     returns-2)

@@ -43,11 +43,7 @@ rows-finding-spec =
     (λ c κs. omega (arith, start-between (c .before .args .s .now)))
     (λ c κs. search needs)
     (λ c. (search needs, each-none _ (c .no-finding .ensures), vehicles-none _, omega arith))
-    (λ c κs. search needs)
-    (λ c κs. search needs)
-    (λ c κs. search needs)
-    (λ c. search needs)
-    (λ c. search needs)
+    (λ c κs. search needs) (λ c κs. search needs) (λ c κs. search needs) (λ c. search needs) (λ c. search needs)
     (λ c. search needs)
     loop-again
     returns)

@@ -26,9 +26,7 @@ pub season-finding-spec : {M : Type 1} → statement M
 season-finding-spec =
     tie.close
     (tie.spec
-    (λ c κs. search needs)
-    (λ c κs. search needs)
-    (λ c κs. search needs)
+    (λ c κs. search needs) (λ c κs. search needs) (λ c κs. search needs)
     weather-finding-requires
     (λ c κs. search needs)
     returns)

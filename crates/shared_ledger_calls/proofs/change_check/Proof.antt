@@ -21,19 +21,28 @@ use Rattle.shared_ledger_calls.proofs.change_check.Statement.{statement
 use Rattle.shared_ledger_calls.proofs.change_check.Tie as tie
 
 -- the buffers hold a shared ledger
-shared : (c : tie.After-enum-told2) → let x = c .before .before .before .before .before .args in sharedCheck (x .s .now) (x .owners .now) (x .room) ≡ Pass
+shared : (c : tie.After-enum-told2) → let x =
+    c .before .before .before .before .before .args in sharedCheck (x .s .now) (x .owners .now) (x .room) ≡ Pass
 shared c = sym (c .before .before .shared-check .ensures) ∙ c .enum-told2 .given .1
 
 -- the test of 30
-right-is : (c : tie.After-owner-of) → let x = c .before .before .before .before .before .before .before .args in (ltb 0 (x .who) && eqb (c .owner-of .result) (x .who)) ≡ mayChange (x .s .now) (x .owners .now) (x .who) (rowOf (x .call))
+right-is : (c : tie.After-owner-of) → let x =
+    c .before .before .before .before .before .before .before .args in
+    (ltb 0 (x .who) && eqb (c .owner-of .result) (x .who)) ≡ mayChange (x .s .now) (x .owners .now) (x .who)
+    (rowOf (x .call))
 right-is c = may-change-is _ _ _ (c .owner-of .ensures) (c .before .row-named .ensures)
 
 -- the test of 31
-past-is : (c : tie.After-past-share) → let x = c .before .before .before .before .before .before .before .before .before .before .before .before .before .args in c .past-share .result ≡ pastShare (vehiclesHeld (x .s .now) (x .owners .now) (x .who) (rowsOf (x .s .now))) (x .call)
+past-is : (c : tie.After-past-share) → let x =
+    c .before .before .before .before .before .before .before .before .before .before .before .before .before .args in
+    c .past-share .result ≡ pastShare (vehiclesHeld (x .s .now) (x .owners .now) (x .who) (rowsOf (x .s .now)))
+    (x .call)
 past-is c =
     let x = c .before .before .before .before .before .before .before .before .before .before .before .before .before .args in
     c .past-share .ensures ∙
-    ap (λ (v : ℕ). pastShare v (x .call)) (c .before .vehicles-held .ensures ∙ ap (vehiclesHeld (x .s .now) (x .owners .now) (x .who)) (c .before .before .rows-of .ensures .0))
+    ap (λ (v : ℕ). pastShare v (x .call))
+    (c .before .vehicles-held .ensures ∙
+    ap (vehiclesHeld (x .s .now) (x .owners .now) (x .who)) (c .before .before .rows-of .ensures .0))
 
 returns : tie.Need-returns
 unfolding sharedChangeCheck
@@ -45,7 +54,9 @@ vehicles-held-requires c κs = (shared-sheet _ _ _ (shared (c .before .before .b
 past-share-requires : tie.Need-past-share-requires
 past-share-requires c κs =
     let x = c .before .before .before .before .before .before .before .before .before .before .before .before .args in
-    rw (c .vehicles-held .ensures) (held-most _ _ _ (shared (c .before .before .before .before .before .before .before)) (x .who) (c .before .rows-of .result) (omega (arith, c .before .rows-of .ensures .0)))
+    rw (c .vehicles-held .ensures)
+    (held-most _ _ _ (shared (c .before .before .before .before .before .before .before)) (x .who)
+    (c .before .rows-of .result) (omega (arith, c .before .rows-of .ensures .0)))
 
 -- 30, then 29, then 31
 returns-2 : tie.Need-returns-2
@@ -66,11 +77,9 @@ pub change-check-spec : {M : Type 1} → statement M
 change-check-spec =
     tie.close
     (tie.spec
-    (λ c κs. search needs)
-    (λ c. search needs)
+    (λ c κs. search needs) (λ c. search needs)
     returns
-    (λ c. search needs)
-    (λ c κs. search needs)
+    (λ c. search needs) (λ c κs. search needs)
     (λ c κs. shared-sheet _ _ _ (shared (c .before)))
     (λ c κs. search needs)
     (λ c κs. shared-sheet _ _ _ (shared (c .before .before .before)))
@@ -78,7 +87,5 @@ change-check-spec =
     (λ c κs. omega (arith, parking-there _ (shared-sheet _ _ _ (shared (c .before .before .before .before .before)))))
     vehicles-held-requires
     past-share-requires
-    (λ c κs. search needs)
-    (λ c κs. search needs)
-    (λ c κs. search needs)
+    (λ c κs. search needs) (λ c κs. search needs) (λ c κs. search needs)
     returns-2)

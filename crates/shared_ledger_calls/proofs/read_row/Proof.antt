@@ -31,7 +31,14 @@ returns c = row-refused _ _ _ _ _ (c .before .before .row-check .ensures) (c .en
 mul-copy-words : tie.Need-mul-copy-words
 mul-copy-words c =
     let at = there c in
-    record { fits = omega (arith, at .1, accepted _ (at .0) .rows-most, rows-limit (c .before .before .before .before .before .before .args .s .now)) }
+    record {
+      fits = omega (
+        arith,
+        at .1,
+        accepted _ (at .0) .rows-most,
+        rows-limit (c .before .before .before .before .before .before .args .s .now),
+      );
+    }
 
 copy-words-requires : tie.Need-copy-words-requires
 copy-words-requires c κs = let at = there (c .before) in omega (arith, at .1, at .2)
@@ -42,14 +49,14 @@ vehicles-of-requires c κs = let at = there (c .before .before .before) in row-t
 returns-2 : tie.Need-returns-2
 returns-2 c =
     let told = c .before .before .before .before in
-    row-done _ _ _ _ _ (told .before .before .row-check .ensures) (told .enum-told2 .given .1) (c .vehicles-of .ensures .0) (c .before .before .copy-words .ensures)
+    row-done _ _ _ _ _ (told .before .before .row-check .ensures) (told .enum-told2 .given .1)
+    (c .vehicles-of .ensures .0) (c .before .before .copy-words .ensures)
 
 pub read-row-spec : {M : Type 1} → statement M
 read-row-spec =
     tie.close
     (tie.spec
-    (λ c κs. search needs)
-    (λ c. search needs)
+    (λ c κs. search needs) (λ c. search needs)
     returns
     (λ c. search needs)
     mul-copy-words

@@ -42,12 +42,10 @@ pub read-totals-spec : {M : Type 1} → statement M
 read-totals-spec =
     tie.close
     (tie.spec
-    (λ c κs. search needs)
-    (λ c. search needs)
+    (λ c κs. search needs) (λ c. search needs)
     returns
     (λ c. search needs)
     rows-of-requires
-    (λ c. search needs)
-    (λ c. search needs)
+    (λ c. search needs) (λ c. search needs)
     copy-words-requires
     returns-2)

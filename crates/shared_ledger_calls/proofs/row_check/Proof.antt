@@ -19,14 +19,19 @@ use Rattle.shared_ledger_calls.proofs.row_check.Statement.{statement}
 use Rattle.shared_ledger_calls.proofs.row_check.Tie as tie
 
 -- the buffers hold a shared ledger
-shared : (c : tie.After-enum-told2) → let x = c .before .before .before .before .before .args in sharedCheck (x .s .now) (x .owners .now) (x .room) ≡ Pass
+shared : (c : tie.After-enum-told2) → let x =
+    c .before .before .before .before .before .args in sharedCheck (x .s .now) (x .owners .now) (x .room) ≡ Pass
 shared c = sym (c .before .before .shared-check .ensures) ∙ c .enum-told2 .given .1
 
 -- the test of 30
-right-is : (c : tie.After-owner-of) → let x = c .before .before .before .before .before .before .args in (eqb (x .who) 0 || eqb (c .owner-of .result) (x .who)) ≡ mayRead (x .s .now) (x .owners .now) (x .who) (x .row)
+right-is : (c : tie.After-owner-of) → let x =
+    c .before .before .before .before .before .before .args in
+    (eqb (x .who) 0 || eqb (c .owner-of .result) (x .who)) ≡ mayRead (x .s .now) (x .owners .now) (x .who) (x .row)
 right-is c = may-read-is _ _ _ _ (c .owner-of .ensures)
 
-right : (c : tie.Else1) → let x = c .before .before .before .before .before .before .before .args in not (mayRead (x .s .now) (x .owners .now) (x .who) (x .row)) ≡ false
+right : (c : tie.Else1) → let x =
+    c .before .before .before .before .before .before .before .args in
+    not (mayRead (x .s .now) (x .owners .now) (x .who) (x .row)) ≡ false
 right c = ap not (sym (right-is (c .before))) ∙ c .if1 .left
 
 returns : tie.Need-returns
@@ -60,8 +65,7 @@ pub row-check-spec : {M : Type 1} → statement M
 row-check-spec =
     tie.close
     (tie.spec
-    (λ c κs. search needs)
-    (λ c. search needs)
+    (λ c κs. search needs) (λ c. search needs)
     returns
     (λ c. search needs)
     (λ c κs. shared-sheet _ _ _ (shared c))

@@ -33,8 +33,7 @@ pub totals-check-spec : {M : Type 1} → statement M
 totals-check-spec =
     tie.close
     (tie.spec
-    (λ c κs. search needs)
-    (λ c. search needs)
+    (λ c κs. search needs) (λ c. search needs)
     returns
     (λ c. search needs)
     returns-2

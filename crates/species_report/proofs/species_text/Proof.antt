@@ -35,14 +35,11 @@ pub species-text-spec : {M : Type 1} → statement M
 species-text-spec =
     tie.close
     (tie.spec
-    (λ c κs. search needs)
-    (λ c. search needs)
-    (λ c. search needs)
+    (λ c κs. search needs) (λ c. search needs) (λ c. search needs)
     put-text-requires
     (λ c. search needs)
     returns
     (λ c. search needs)
     put-text-requires-2
-    (λ c. search needs)
-    (λ c. search needs)
+    (λ c. search needs) (λ c. search needs)
     returns-2)

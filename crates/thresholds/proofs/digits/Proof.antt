@@ -45,8 +45,12 @@ loop-again c =
     let l = c .before .before .loop in
     let a = c .before .before .before .args in
     let more : 0 < l .left = omega arith in
-    let half : l .bit / 2 ≡ 2 ^ (l .left - 1) = ap (λ (x : ℕ). x / 2) (l .inv .1) ∙ halved (l .left) more in
-    (step (a .mileage) (a .c) (l .left) (l .d) (l .bit / 2) more half (c .digit .ensures .0) ∙ l .inv .0, half, omega (arith, l .inv .2, c .digit .ensures .1), omega (arith, l .inv .3))
+    let half : l .bit / 2 ≡ 2 ^ (l .left - 1) = ap (λ (x : ℕ). x / 2) (l .inv .1) ∙ halved (l .left) more in (
+      step (a .mileage) (a .c) (l .left) (l .d) (l .bit / 2) more half (c .digit .ensures .0) ∙ l .inv .0,
+      half,
+      omega (arith, l .inv .2, c .digit .ensures .1),
+      omega (arith, l .inv .3),
+    )
 
 returns : tie.Need-returns Inv-loop μ-loop
 returns c =

@@ -12,4 +12,7 @@ abbrev μ-loop : tie.MeasureT-loop
 μ-loop s n tally₀ i₀ tally i = length s / 88 - i
 
 pub tally-sums-spec : {M : Type 1} → statement M
-tally-sums-spec = tie.close (tie.spec Inv-loop μ-loop (λ c κs. search needs) (λ c. search needs) (λ c. search needs) (λ c κs. search needs) (λ c κs. search needs) (λ c. search needs) (λ c. search needs) (λ c. search needs) (λ c. search needs))
+tally-sums-spec =
+    tie.close (tie.spec Inv-loop μ-loop (λ c κs. search needs) (λ c. search needs) (λ c. search needs)
+    (λ c κs. search needs) (λ c κs. search needs) (λ c. search needs) (λ c. search needs) (λ c. search needs)
+    (λ c. search needs))

@@ -19,17 +19,11 @@ store-spec =
     (tie.spec
     Inv-loop
     μ-loop
-    (λ c. search needs)
-    (λ c. search needs)
-    (λ c. search needs)
+    (λ c. search needs) (λ c. search needs) (λ c. search needs)
     (λ c. (search needs, refl))
-    (λ c. search needs)
-    (λ c. search needs)
-    (λ c. search needs)
-    (λ c. search needs)
+    (λ c. search needs) (λ c. search needs) (λ c. search needs) (λ c. search needs)
     (λ c. omega (arith, c .before .before .loop .inv .1))
-    (λ c. search needs)
-    (λ c. search needs)
+    (λ c. search needs) (λ c. search needs)
     (λ c. (search needs, simp length-set (c .before .before .loop .inv .1)))
     (λ c. c .before .loop .inv .1)
     (λ c. search needs))

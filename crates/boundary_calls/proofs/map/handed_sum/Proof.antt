@@ -14,4 +14,6 @@ returns-3 : tie.Need-returns-3
 returns-3 c = both-given _ (c .before .before .before .before .before .a .given .1) _ (c .before .before .b .given .1) (c .add-cells .ensures .0)
 
 pub handed-sum-spec : {M : Type 1} → statement M
-handed-sum-spec = tie.close (tie.spec (λ c. search needs) (λ c. search needs) returns (λ c. search needs) (λ c. search needs) returns-2 (λ c κs. search needs) returns-3)
+handed-sum-spec =
+    tie.close (tie.spec (λ c. search needs) (λ c. search needs) returns (λ c. search needs) (λ c. search needs)
+    returns-2 (λ c κs. search needs) returns-3)

@@ -32,11 +32,7 @@ pool-numbers-spec =
     (tie.spec
     (λ c. search needs)
     pool-length-requires
-    (λ c. search needs)
-    (λ c κs. search needs)
-    (λ c. search needs)
-    (λ c κs. search needs)
-    (λ c. search needs)
+    (λ c. search needs) (λ c κs. search needs) (λ c. search needs) (λ c κs. search needs) (λ c. search needs)
     (λ c κs. search needs)
     returns
     returns-2

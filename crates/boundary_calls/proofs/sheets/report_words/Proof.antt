@@ -18,4 +18,6 @@ returns-2 c =
     all-counted _ (sym (told .before .before .check-sheet .ensures .0) ∙ told .enum-told2 .given .1) (c .rows-of .ensures .0)
 
 pub report-words-spec : {M : Type 1} → statement M
-report-words-spec = tie.close (tie.spec (λ c κs. search needs) (λ c. search needs) returns (λ c. search needs) rows-of-requires (λ c. search needs) (λ c. search needs) returns-2)
+report-words-spec =
+    tie.close (tie.spec (λ c κs. search needs) (λ c. search needs) returns (λ c. search needs) rows-of-requires
+    (λ c. search needs) (λ c. search needs) returns-2)

@@ -1,4 +1,5 @@
--- `bounds::exp::exponential` meets its contract: the entry and the rest of the exponential fit a product, and the computed exponential encloses the exact one.
+-- `bounds::exp::exponential` meets its contract: the entry and the rest of the exponential fit a product, and the
+-- computed exponential encloses the exact one.
 use mathlib.Core.Path.{_≡_}
 use Prim.Native.Nat.{_+_, _/_, _%_}
 use native.Mathlib.Omega.{arith}
@@ -33,11 +34,7 @@ pub exponential-spec : {M : Type 1} → statement M
 exponential-spec =
     tie.close
     (tie.spec
-    (λ c. search needs)
-    (λ c. search needs)
-    (λ c. search needs)
-    (λ c. search needs)
-    (λ c. search needs)
+    (λ c. search needs) (λ c. search needs) (λ c. search needs) (λ c. search needs) (λ c. search needs)
     (λ c κs. (second (c .before .before), omega arith))
     (λ c κs. omega (arith, entry (c .before .before .before), coarse-below (c .before .before .before .args .x / 6250000000000) (omega arith)))
     returns)

@@ -25,8 +25,7 @@ pub exponential-error-spec : {M : Type 1} → statement M
 exponential-error-spec =
     tie.close
     (tie.spec
-    (λ c. search needs)
-    (λ c. search needs)
+    (λ c. search needs) (λ c. search needs)
     (λ c. omega (arith, entry-below (c .before)))
     (λ c. omega (arith, entry-below (c .before)))
     (λ c. omega (arith, entry-below (c .before)))

@@ -17,8 +17,7 @@ pub quadratic-spec : {M : Type 1} → statement M
 quadratic-spec =
     tie.close
     (tie.spec
-    (λ c κs. search needs)
-    (λ c. search needs)
+    (λ c κs. search needs) (λ c. search needs)
     (λ c. omega (arith, rest-square _ (c .rest .ensures .1)))
     (λ c. omega (arith, rest-square _ (c .rest .ensures .1)))
     (λ c. (same c, rw (same c) (quadratic-least _), rw (same c) (quadratic-size _ (c .before .pre)))))

@@ -29,9 +29,6 @@ tables-spec =
     μ-loop
     (λ c. filled-none _ (replicate 1907 0) refl)
     entry-requires
-    (λ c. search needs)
-    (λ c. search needs)
-    (λ c. search needs)
-    (λ c. search needs)
+    (λ c. search needs) (λ c. search needs) (λ c. search needs) (λ c. search needs)
     (λ c. filled-more (c .before .before .before .loop .inv) (omega arith) (c .entry .ensures))
     (λ c. filled-all (c .before .loop .inv) (omega arith) ∙ tab-at entries entries-length))

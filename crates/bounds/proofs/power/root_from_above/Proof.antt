@@ -28,12 +28,19 @@ square-below x r l = omega (arith, mul-le-mul-right r l, div-mul-le-self x r)
 
 loop-again : tie.Need-loop-again Inv-loop μ-loop
 loop-again c =
-    let two : 2 ≤ c .before .loop .r = above-one (c .before .before .args .x) (c .before .loop .r) (c .before .before .pre) (c .before .loop .inv .1) (omega arith) in
+    let two : 2 ≤ c .before .loop .r =
+    above-one (c .before .before .args .x) (c .before .loop .r) (c .before .before .pre) (c .before .loop .inv .1)
+    (omega arith) in
     (halved-above (c .before .before .args .x) (c .before .loop .r) (c .before .loop .inv .1), omega arith, omega arith)
 
 returns : tie.Need-returns Inv-loop μ-loop
-returns c =
-    (root-one (record { low = square-below (c .before .before .args .x) (c .before .loop .r) (omega arith); high = c .before .loop .inv .0 }) (root-is _), c .before .loop .inv .2)
+returns c = (
+  root-one (record {
+    low = square-below (c .before .before .args .x) (c .before .loop .r) (omega arith);
+    high = c .before .loop .inv .0;
+  }) (root-is _),
+  c .before .loop .inv .2,
+)
 
 pub root-from-above-spec : {M : Type 1} → statement M
 root-from-above-spec =

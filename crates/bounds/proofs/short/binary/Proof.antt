@@ -13,7 +13,5 @@ pub binary-spec : {M : Type 1} → statement M
 binary-spec =
     tie.close
     (tie.spec
-    (λ c. search needs)
-    (λ c. search needs)
-    (λ c. search needs)
+    (λ c. search needs) (λ c. search needs) (λ c. search needs)
     returns)

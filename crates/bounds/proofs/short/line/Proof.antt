@@ -13,7 +13,6 @@ pub line-spec : {M : Type 1} → statement M
 line-spec =
     tie.close
     (tie.spec
-    (λ c κs. search needs)
-    (λ c. search needs)
+    (λ c κs. search needs) (λ c. search needs)
     (λ c. omega (arith, size (c .before), c .mul-shift .ensures .0))
     (λ c. (omega (arith, c .mul-shift .ensures .0), omega (arith, size (c .before), c .mul-shift .ensures .0))))

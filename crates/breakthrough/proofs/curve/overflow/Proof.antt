@@ -13,8 +13,6 @@ pub overflow-spec : {M : Type 1} → statement M
 overflow-spec =
     tie.close
     (tie.spec
-    (λ c. search needs)
-    (λ c κs. search needs)
-    (λ c κs. search needs)
+    (λ c. search needs) (λ c κs. search needs) (λ c κs. search needs)
     returns
     (λ c. search needs))

@@ -32,16 +32,11 @@ bases-spec =
     Inv-loop
     μ-loop
     (λ c. filled-none _ (replicate 25 0) refl)
-    (λ c. search needs)
-    (λ c. search needs)
+    (λ c. search needs) (λ c. search needs)
     (λ c. omega (arith, c .before .before .before .pre .0 .at-most (c .before .before .loop .d)))
     (λ c. omega (arith, c .before .before .before .pre .0 .at-most (c .before .before .loop .d)))
-    (λ c. search needs)
-    (λ c. search needs)
+    (λ c. search needs) (λ c. search needs)
     binary-requires
-    (λ c. search needs)
-    (λ c. search needs)
-    (λ c. search needs)
-    (λ c. search needs)
+    (λ c. search needs) (λ c. search needs) (λ c. search needs) (λ c. search needs)
     loop-again
     (λ c. filled-all (c .before .loop .inv) (omega arith)))

@@ -23,14 +23,10 @@ first-losses-spec =
     Inv-loop
     μ-loop
     (λ c. filled-none _ (replicate 25 0) refl)
-    (λ c. search needs)
-    (λ c. search needs)
+    (λ c. search needs) (λ c. search needs)
     (λ c κs. let p = c .before .before .before .pre in (p .0, omega (arith, p .1 .at-most (c .before .before .loop .d))))
+    (λ c. search needs) (λ c. search needs) (λ c. search needs) (λ c. search needs) (λ c. search needs)
     (λ c. search needs)
-    (λ c. search needs)
-    (λ c. search needs)
-    (λ c. search needs)
-    (λ c. search needs)
-    (λ c. search needs)
-    (λ c. filled-more (c .before .before .before .loop .inv) (omega arith) (ap (λ (x : ℕ). x * 2 ^ 4 + c .before .before .before .before .args .error) (c .short .ensures .0)))
+    (λ c. filled-more (c .before .before .before .loop .inv) (omega arith)
+    (ap (λ (x : ℕ). x * 2 ^ 4 + c .before .before .before .before .args .error) (c .short .ensures .0)))
     (λ c. filled-all (c .before .loop .inv) (omega arith)))

@@ -71,7 +71,8 @@ curves-of-requires c κs =
     let p = b .before .pre in
     let f = p .1 in (
       p .0,
-      curves-fit (f .season-in) (f .row-in) (f .canister-there) (bases-known b) (growths-known g) (loads-known w) (t .tenth-grams .ensures) (f .vapour-is)
+      curves-fit (f .season-in) (f .row-in) (f .canister-there) (bases-known b) (growths-known g) (loads-known w)
+          (t .tenth-grams .ensures) (f .vapour-is)
           (c .loss-error .ensures .1),
     )
 

@@ -26,7 +26,11 @@ small w vp times h g =
 binary-requires : tie.Need-binary-requires Inv-loop μ-loop
 binary-requires c κs =
     let s = c .before .before .before in
-    omega (arith, small (at (s .args .warmths .now) (c .before .before .loop .d)) (s .args .vp) (s .args .times) (s .pre .0 .at-most (c .before .before .loop .d)) (s .pre .2))
+    omega (
+      arith,
+      small (at (s .args .warmths .now) (c .before .before .loop .d)) (s .args .vp) (s .args .times)
+          (s .pre .0 .at-most (c .before .before .loop .d)) (s .pre .2),
+    )
 
 pub growths-spec : {M : Type 1} → statement M
 growths-spec =
@@ -35,18 +39,17 @@ growths-spec =
     Inv-loop
     μ-loop
     (λ c. filled-none _ (replicate 25 0) refl)
-    (λ c. search needs)
-    (λ c. search needs)
+    (λ c. search needs) (λ c. search needs)
     (λ c. omega (arith, c .before .before .before .pre .0 .at-most (c .before .before .loop .d)))
-    (λ c. search needs)
-    (λ c. search needs)
+    (λ c. search needs) (λ c. search needs)
     (λ c.
     let s = c .before .before .before in
-    omega (arith, small (at (s .args .warmths .now) (c .before .before .loop .d)) (s .args .vp) (s .args .times) (s .pre .0 .at-most (c .before .before .loop .d)) (s .pre .2)))
+    omega (
+      arith,
+      small (at (s .args .warmths .now) (c .before .before .loop .d)) (s .args .vp) (s .args .times)
+          (s .pre .0 .at-most (c .before .before .loop .d)) (s .pre .2),
+    ))
     binary-requires
-    (λ c. search needs)
-    (λ c. search needs)
-    (λ c. search needs)
-    (λ c. search needs)
+    (λ c. search needs) (λ c. search needs) (λ c. search needs) (λ c. search needs)
     (λ c. filled-more (c .before .before .before .loop .inv) (omega arith) (c .binary .ensures .0))
     (λ c. filled-all (c .before .loop .inv) (omega arith)))

@@ -23,19 +23,12 @@ lines-spec =
     Inv-loop
     μ-loop
     (λ c. filled-none _ (replicate 25 0) refl)
-    (λ c. search needs)
-    (λ c. search needs)
-    (λ c. search needs)
-    (λ c. search needs)
-    (λ c. search needs)
+    (λ c. search needs) (λ c. search needs) (λ c. search needs) (λ c. search needs) (λ c. search needs)
     (λ c. search needs)
     (λ c κs.
     let l = c .before .before .before .before in
     let p = l .before .pre in
     (omega (arith, p .0 .at-most (l .loop .d)), omega (arith, p .1 .at-most (l .loop .d)), omega (arith, p .2 .at-most (l .loop .d))))
-    (λ c. search needs)
-    (λ c. search needs)
-    (λ c. search needs)
-    (λ c. search needs)
+    (λ c. search needs) (λ c. search needs) (λ c. search needs) (λ c. search needs)
     (λ c. filled-more (c .before .before .before .before .before .loop .inv) (omega arith) (c .line .ensures .0))
     (λ c. filled-all (c .before .loop .inv) (omega arith)))

@@ -23,12 +23,11 @@ reaches-spec =
     Inv-loop
     μ-loop
     (λ c. filled-none _ (replicate 25 0) refl)
-    (λ c. search needs)
-    (λ c. search needs)
-    (λ c κs. (omega (arith, c .before .before .before .pre .0 .at-most (c .before .before .loop .d)), omega (arith, c .before .before .before .pre .1)))
-    (λ c. search needs)
-    (λ c. search needs)
-    (λ c. search needs)
-    (λ c. search needs)
+    (λ c. search needs) (λ c. search needs)
+    (λ c κs. (
+      omega (arith, c .before .before .before .pre .0 .at-most (c .before .before .loop .d)),
+      omega (arith, c .before .before .before .pre .1),
+    ))
+    (λ c. search needs) (λ c. search needs) (λ c. search needs) (λ c. search needs)
     (λ c. filled-more (c .before .before .before .loop .inv) (omega arith) (omega (arith, c .mul-shift .ensures .0)))
     (λ c. filled-all (c .before .loop .inv) (omega arith)))

@@ -22,13 +22,8 @@ rooms-spec =
     Inv-loop
     μ-loop
     (λ c. filled-none _ (replicate 25 0) refl)
-    (λ c. search needs)
-    (λ c. search needs)
-    (λ c. search needs)
+    (λ c. search needs) (λ c. search needs) (λ c. search needs)
     (λ c. omega (arith, c .before .before .before .pre .0 .at-most (c .before .before .loop .d)))
-    (λ c. search needs)
-    (λ c. search needs)
-    (λ c. search needs)
-    (λ c. search needs)
+    (λ c. search needs) (λ c. search needs) (λ c. search needs) (λ c. search needs)
     (λ c. filled-more (c .before .before .loop .inv) (omega arith) refl)
     (λ c. filled-all (c .before .loop .inv) (omega arith)))

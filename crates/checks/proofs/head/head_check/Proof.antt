@@ -22,8 +22,7 @@ pub head-check-spec : {M : Type 1} → statement M
 head-check-spec =
     tie.close
     (tie.spec
-    (λ c κs. search needs)
-    (λ c. search needs)
+    (λ c κs. search needs) (λ c. search needs)
     returns
     (λ c. search needs)
     (λ c κs. mark-judged _ .passes (sym (c .before .before .mark-check .ensures) ∙ c .enum-told2 .given .1) .0)

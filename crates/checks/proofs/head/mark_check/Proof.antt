@@ -21,6 +21,5 @@ mark-check-spec =
     tie.close
     (tie.spec
     returns
-    (λ c κs. search needs)
-    (λ c κs. search needs)
+    (λ c κs. search needs) (λ c κs. search needs)
     returns-2)

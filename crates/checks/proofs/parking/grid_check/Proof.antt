@@ -13,7 +13,5 @@ pub grid-check-spec : {M : Type 1} → statement M
 grid-check-spec =
     tie.close
     (tie.spec
-    (λ c κs. search needs)
-    (λ c κs. search needs)
-    (λ c κs. search needs)
+    (λ c κs. search needs) (λ c κs. search needs) (λ c κs. search needs)
     returns)

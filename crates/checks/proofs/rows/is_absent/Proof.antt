@@ -17,7 +17,6 @@ pub is-absent-spec : {M : Type 1} → statement M
 is-absent-spec =
     tie.close
     (tie.spec
-    (λ c. search needs)
-    (λ c. search needs)
+    (λ c. search needs) (λ c. search needs)
     returns
     returns-2)

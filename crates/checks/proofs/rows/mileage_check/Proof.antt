@@ -21,8 +21,7 @@ mileage-check-spec =
     tie.close
     (tie.spec
     (λ c κs. omega (arith, start-between (c .before .args .s .now)))
-    (λ c κs. search needs)
-    (λ c κs. search needs)
+    (λ c κs. search needs) (λ c κs. search needs)
     returns
     (λ c κs. search needs)
     returns-2)

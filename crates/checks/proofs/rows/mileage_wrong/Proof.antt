@@ -13,6 +13,5 @@ pub mileage-wrong-spec : {M : Type 1} → statement M
 mileage-wrong-spec =
     tie.close
     (tie.spec
-    (λ c κs. search needs)
-    (λ c κs. search needs)
+    (λ c κs. search needs) (λ c κs. search needs)
     returns)

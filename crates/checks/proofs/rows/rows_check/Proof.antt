@@ -48,13 +48,8 @@ rows-check-spec =
     μ-loop
     (λ c κs. omega (arith, start-between (c .before .args .s .now)))
     (λ c. (search needs, each-none _, vehicles-none _, omega arith))
-    (λ c κs. search needs)
-    (λ c. search needs)
+    (λ c κs. search needs) (λ c. search needs)
     returns
-    (λ c. search needs)
-    (λ c κs. search needs)
-    (λ c. search needs)
-    (λ c. search needs)
-    (λ c. search needs)
+    (λ c. search needs) (λ c κs. search needs) (λ c. search needs) (λ c. search needs) (λ c. search needs)
     loop-again
     returns-2)

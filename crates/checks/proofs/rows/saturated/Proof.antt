@@ -51,7 +51,6 @@ saturated-spec =
     loop-holds
     (λ c κs. search needs)
     saturation-above-requires
-    (λ c. search needs)
-    (λ c. search needs)
+    (λ c. search needs) (λ c. search needs)
     loop-again
     returns)

@@ -7,10 +7,15 @@ use Rattle.sheet.proofs.Saturation.{b-size, load-size, saturation-is}
 use Rattle.checks.proofs.rows.saturation_above.Statement.{statement}
 use Rattle.checks.proofs.rows.saturation_above.Tie as tie
 
-size-fits : (c : tie.After-halves) → let w = c .before .before .before in (112000 + 10 * w .warmth .result - 15 * w .before .args .season .vp) * c .halves .result ≤ 480000
+size-fits : (c : tie.After-halves) → let w =
+    c .before .before .before in
+    (112000 + 10 * w .warmth .result - 15 * w .before .args .season .vp) * c .halves .result ≤ 480000
 size-fits c = b-size (omega arith) (search needs)
 
-load-fits : (c : tie.After-halves) → let w = c .before .before .before in (112000 + 10 * w .warmth .result - 15 * w .before .args .season .vp) * c .halves .result * w .before .args .m ≤ 31457280000
+load-fits : (c : tie.After-halves) → let w =
+    c .before .before .before in
+    (112000 + 10 * w .warmth .result - 15 * w .before .args .season .vp) * c .halves .result * w .before .args .m ≤
+    31457280000
 load-fits c = load-size (omega arith) (search needs) (search needs)
 
 returns : tie.Need-returns
@@ -23,16 +28,8 @@ pub saturation-above-spec : {M : Type 1} → statement M
 saturation-above-spec =
     tie.close
     (tie.spec
-    (λ c κs. search needs)
-    (λ c. search needs)
-    (λ c. search needs)
-    (λ c. search needs)
-    (λ c. search needs)
-    (λ c. search needs)
-    (λ c. search needs)
-    (λ c. search needs)
-    (λ c. search needs)
-    (λ c. search needs)
+    (λ c κs. search needs) (λ c. search needs) (λ c. search needs) (λ c. search needs) (λ c. search needs)
+    (λ c. search needs) (λ c. search needs) (λ c. search needs) (λ c. search needs) (λ c. search needs)
     (λ c κs. search needs)
     (λ c. record { fits = omega (arith, size-fits c) })
     (λ c. record { fits = omega (arith, load-fits c) })

@@ -39,8 +39,12 @@ loop-again c =
     let at = told .before .before .before .before in
     let s = at .before .before .before .args .s .now in
     let l = at .loop in
-    let (days, rest) = season-judged s (l .i) .passes (sym (one .ensures) ∙ told .enum-told .given .1) in
-    (search needs, each-more _ (l .i) (l .inv .1) (one .ensures) (told .enum-told .given .1), rw (add-one, l .inv .2, c .before .season-at .ensures .0), rw (l .inv .2, c .before .season-at .ensures .0) (days .1))
+    let (days, rest) = season-judged s (l .i) .passes (sym (one .ensures) ∙ told .enum-told .given .1) in (
+      search needs,
+      each-more _ (l .i) (l .inv .1) (one .ensures) (told .enum-told .given .1),
+      rw (add-one, l .inv .2, c .before .season-at .ensures .0),
+      rw (l .inv .2, c .before .season-at .ensures .0) (days .1),
+    )
 
 returns-2 : tie.Need-returns-2 Inv-loop μ-loop
 returns-2 c =
@@ -55,13 +59,8 @@ seasons-check-spec =
     μ-loop
     (λ c κs. omega (arith, start-between (c .before .args .s .now)))
     loop-holds
-    (λ c κs. search needs)
-    (λ c. search needs)
+    (λ c κs. search needs) (λ c. search needs)
     returns
-    (λ c. search needs)
-    (λ c κs. search needs)
-    (λ c. search needs)
-    (λ c. search needs)
-    (λ c. search needs)
+    (λ c. search needs) (λ c κs. search needs) (λ c. search needs) (λ c. search needs) (λ c. search needs)
     loop-again
     returns-2)

@@ -12,7 +12,5 @@ pub temperatures-wrong-spec : {M : Type 1} → statement M
 temperatures-wrong-spec =
     tie.close
     (tie.spec
-    (λ c κs. search needs)
-    (λ c κs. search needs)
-    (λ c. search needs)
+    (λ c κs. search needs) (λ c κs. search needs) (λ c. search needs)
     returns)

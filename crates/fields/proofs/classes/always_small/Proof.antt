@@ -11,7 +11,9 @@ use Rattle.fields.proofs.classes.always_small.Tie as tie
 
 returns : tie.Need-returns
 unfolding alwaysSmall atTechnology
-returns c = let x = c .before .args in in-range (Has alwaysSmall Small (x .litres)) 0 3 (refl, (refl, (refl, tt))) (x .technology) (omega arith) (omega arith)
+returns c = let x =
+    c .before .args in in-range (Has alwaysSmall Small (x .litres)) 0 3 (refl, (refl, (refl, tt))) (x .technology)
+    (omega arith) (omega arith)
 
 returns-2 : tie.Need-returns-2
 unfolding alwaysSmall

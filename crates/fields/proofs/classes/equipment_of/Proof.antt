@@ -42,7 +42,9 @@ returns-6 c =
     let t = x .technology in
     let (least, most) = litres-without-requires (litres .before) tt in
     c .without .ensures ∙
-    in-range (OfKind without t) 5 4 (of-kind without t 5, (of-kind without t 8, (of-kind without t 10, (of-kind without t 18, tt)))) (x .class) least (omega (arith, most)) _ (litres .litres-without .ensures .0)
+    in-range (OfKind without t) 5 4
+    (of-kind without t 5, (of-kind without t 8, (of-kind without t 10, (of-kind without t 18, tt)))) (x .class)
+    least (omega (arith, most)) _ (litres .litres-without .ensures .0)
 
 returns-7 : tie.Need-returns-7
 unfolding equipment
@@ -57,11 +59,7 @@ pub equipment-of-spec : {M : Type 1} → statement M
 equipment-of-spec =
     tie.close
     (tie.spec
-    (λ c κs. search needs)
-    (λ c κs. search needs)
-    (λ c κs. search needs)
-    (λ c κs. search needs)
-    (λ c κs. search needs)
+    (λ c κs. search needs) (λ c κs. search needs) (λ c κs. search needs) (λ c κs. search needs) (λ c κs. search needs)
     litres-without-requires
     (λ c κs. search needs)
     returns

@@ -17,7 +17,6 @@ pub fitted-canister-spec : {M : Type 1} → statement M
 fitted-canister-spec =
     tie.close
     (tie.spec
-    (λ c. search needs)
-    (λ c. search needs)
+    (λ c. search needs) (λ c. search needs)
     returns
     returns-2)

@@ -17,7 +17,6 @@ pub fitted-tank-spec : {M : Type 1} → statement M
 fitted-tank-spec =
     tie.close
     (tie.spec
-    (λ c. search needs)
-    (λ c. search needs)
+    (λ c. search needs) (λ c. search needs)
     returns
     returns-2)

@@ -15,11 +15,16 @@ returns c = let x = c .before .args in in-range (Has mediumFirst None (x .litres
 
 returns-2 : tie.Need-returns-2
 unfolding mediumFirst atTechnology
-returns-2 c = let x = c .before .before .args in in-range (Has mediumFirst Medium (x .litres)) 1 2 (refl, (refl, tt)) (x .technology) (omega arith) (omega arith)
+returns-2 c = let x =
+    c .before .before .args in in-range (Has mediumFirst Medium (x .litres)) 1 2 (refl, (refl, tt)) (x .technology)
+    (omega arith) (omega arith)
 
 returns-3 : tie.Need-returns-3
 unfolding mediumFirst atTechnology
-returns-3 c = let x = c .before .before .before .args in in-range (Has mediumFirst Large (x .litres)) 3 3 (refl, (refl, (refl, tt))) (x .technology) (omega arith) (omega arith)
+returns-3 c = let x =
+    c .before .before .before .args in
+    in-range (Has mediumFirst Large (x .litres)) 3 3 (refl, (refl, (refl, tt))) (x .technology) (omega arith)
+    (omega arith)
 
 returns-4 : tie.Need-returns-4
 unfolding mediumFirst
@@ -29,9 +34,7 @@ pub medium-first-spec : {M : Type 1} → statement M
 medium-first-spec =
     tie.close
     (tie.spec
-    (λ c. search needs)
-    (λ c. search needs)
-    (λ c. search needs)
+    (λ c. search needs) (λ c. search needs) (λ c. search needs)
     returns
     returns-2
     returns-3

@@ -15,11 +15,16 @@ returns c = let x = c .before .args in in-range (Has smallFirst None (x .litres)
 
 returns-2 : tie.Need-returns-2
 unfolding smallFirst atTechnology
-returns-2 c = let x = c .before .before .args in in-range (Has smallFirst Small (x .litres)) 1 2 (refl, (refl, tt)) (x .technology) (omega arith) (omega arith)
+returns-2 c = let x =
+    c .before .before .args in in-range (Has smallFirst Small (x .litres)) 1 2 (refl, (refl, tt)) (x .technology)
+    (omega arith) (omega arith)
 
 returns-3 : tie.Need-returns-3
 unfolding smallFirst atTechnology
-returns-3 c = let x = c .before .before .before .args in in-range (Has smallFirst Medium (x .litres)) 3 3 (refl, (refl, (refl, tt))) (x .technology) (omega arith) (omega arith)
+returns-3 c = let x =
+    c .before .before .before .args in
+    in-range (Has smallFirst Medium (x .litres)) 3 3 (refl, (refl, (refl, tt))) (x .technology) (omega arith)
+    (omega arith)
 
 returns-4 : tie.Need-returns-4
 unfolding smallFirst
@@ -29,9 +34,7 @@ pub small-first-spec : {M : Type 1} → statement M
 small-first-spec =
     tie.close
     (tie.spec
-    (λ c. search needs)
-    (λ c. search needs)
-    (λ c. search needs)
+    (λ c. search needs) (λ c. search needs) (λ c. search needs)
     returns
     returns-2
     returns-3

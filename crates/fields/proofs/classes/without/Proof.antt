@@ -11,7 +11,9 @@ use Rattle.fields.proofs.classes.without.Tie as tie
 
 returns : tie.Need-returns
 unfolding without atTechnology
-returns c = let x = c .before .args in in-range (Has without None (x .litres)) 0 4 (refl, (refl, (refl, (refl, tt)))) (x .technology) (omega arith) (omega arith)
+returns c = let x =
+    c .before .args in in-range (Has without None (x .litres)) 0 4 (refl, (refl, (refl, (refl, tt)))) (x .technology)
+    (omega arith) (omega arith)
 
 returns-2 : tie.Need-returns-2
 unfolding without

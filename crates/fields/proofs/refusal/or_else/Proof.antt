@@ -17,7 +17,6 @@ pub or-else-spec : {M : Type 1} → statement M
 or-else-spec =
     tie.close
     (tie.spec
-    (λ c. search needs)
-    (λ c. search needs)
+    (λ c. search needs) (λ c. search needs)
     returns
     returns-2)

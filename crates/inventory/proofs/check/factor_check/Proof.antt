@@ -35,8 +35,7 @@ pub factor-check-spec : {M : Type 1} → statement M
 factor-check-spec =
     tie.close
     (tie.spec
-    (λ c κs. search needs)
-    (λ c. search needs)
+    (λ c κs. search needs) (λ c. search needs)
     returns
     (λ c. search needs)
     absent-requires

@@ -39,8 +39,7 @@ pub report-check-spec : {M : Type 1} → statement M
 report-check-spec =
     tie.close
     (tie.spec
-    (λ c κs. search needs)
-    (λ c. search needs)
+    (λ c κs. search needs) (λ c. search needs)
     returns
     (λ c. search needs)
     report-length-requires

@@ -37,19 +37,16 @@ returns-3 c =
     let a = b .before .before in
     kept
     (c .add-masses .ensures
-    ∙ sym (sum-both _ _ (a .before .before .masses-of .ensures) _ _ _ _ (a .first .given .1) (b .masses-of2 .ensures) (c .before .before .second .given .1)))
+    ∙ sym (sum-both _ _ (a .before .before .masses-of .ensures) _ _ _ _ (a .first .given .1) (b .masses-of2 .ensures)
+    (c .before .before .second .given .1)))
 
 pub add-cells-spec : {M : Type 1} → statement M
 add-cells-spec =
     tie.close
     (tie.spec
-    (λ c κs. search needs)
-    (λ c. search needs)
-    (λ c. search needs)
+    (λ c κs. search needs) (λ c. search needs) (λ c. search needs)
     returns
-    (λ c κs. search needs)
-    (λ c. search needs)
-    (λ c. search needs)
+    (λ c κs. search needs) (λ c. search needs) (λ c. search needs)
     returns-2
     add-masses-requires
     returns-3)

@@ -9,7 +9,8 @@ returns : tie.Need-returns
 returns c = sum-over _ _ _ _ (omega arith)
 
 returns-2 : tie.Need-returns-2
-returns-2 c = sum-within _ _ _ _ _ _ _ (omega arith) (omega arith) (omega arith) (c .before .before .add-whole .ensures) (c .before .add-whole2 .ensures) (c .cell-between .ensures)
+returns-2 c = sum-within _ _ _ _ _ _ _ (omega arith) (omega arith) (omega arith) (c .before .before .add-whole .ensures)
+    (c .before .add-whole2 .ensures) (c .cell-between .ensures)
 
 cell-between-requires : tie.Need-cell-between-requires
 cell-between-requires c κs = record {
@@ -27,7 +28,6 @@ add-masses-spec =
     (tie.spec
     (λ c. search needs)
     returns
-    (λ c κs. search needs)
-    (λ c κs. search needs)
+    (λ c κs. search needs) (λ c κs. search needs)
     cell-between-requires
     returns-2)

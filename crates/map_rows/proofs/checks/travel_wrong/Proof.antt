@@ -9,4 +9,6 @@ unfolding travelWrong
 returns c = cc
 
 pub travel-wrong-spec : {M : Type 1} → statement M
-travel-wrong-spec = tie.close (tie.spec (λ c κs. search needs) (λ c κs. search needs) (λ c κs. search needs) (λ c κs. search needs) (λ c κs. search needs) returns)
+travel-wrong-spec =
+    tie.close (tie.spec (λ c κs. search needs) (λ c κs. search needs) (λ c κs. search needs) (λ c κs. search needs)
+    (λ c κs. search needs) returns)

@@ -12,7 +12,10 @@ road-shares-requires-2 : tie.Need-road-shares-requires-2
 road-shares-requires-2 c κs = (c .before .before .before .pre .0, rw (c .rural-road .ensures) (rural-in _ (c .before .before .before .pre .1)))
 
 road-shares-requires-3 : tie.Need-road-shares-requires-3
-road-shares-requires-3 c κs = (c .before .before .before .before .before .pre .0, rw (c .highway-road .ensures) (highway-in _ (c .before .before .before .before .before .pre .1)))
+road-shares-requires-3 c κs = (
+  c .before .before .before .before .before .pre .0,
+  rw (c .highway-road .ensures) (highway-in _ (c .before .before .before .before .before .pre .1)),
+)
 
 returns : tie.Need-returns
 unfolding rowShares

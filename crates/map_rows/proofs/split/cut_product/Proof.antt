@@ -9,7 +9,11 @@ use Rattle.map_rows.proofs.split.cut_product.Statement.{statement}
 use Rattle.map_rows.proofs.split.cut_product.Tie as tie
 
 mul-n : tie.Need-mul-n
-mul-n c = omega (arith, digit-product {digit = c .args .mass / 262144 / 262144} {part = c .args .part} {all = c .args .all} (omega arith) (omega arith) (omega arith))
+mul-n c = omega (
+  arith,
+  digit-product {digit = c .args .mass / 262144 / 262144} {part = c .args .part} {all = c .args .all} (omega arith)
+      (omega arith) (omega arith),
+)
 
 next-digit-requires : tie.Need-next-digit-requires
 next-digit-requires c κs =
@@ -22,8 +26,13 @@ next-digit-requires-2 c κs =
     let m = c .before .args .mass in
     let a = c .before .args in
     let w = c .next-digit .ensures .whole-is ∙ digit-whole (m / 262144) (a .part) (a .all) 262144 (omega arith) in
-    let r = c .next-digit .ensures .rest-is ∙ digit-rest (m / 262144) (a .part) (a .all) 262144 (omega arith) in
-    (omega (arith, w, part-below (m / 262144) (a .part) (a .all) (omega arith) (omega arith)), rw r (mod-lt _ (omega arith)), omega arith, omega arith, omega arith)
+    let r = c .next-digit .ensures .rest-is ∙ digit-rest (m / 262144) (a .part) (a .all) 262144 (omega arith) in (
+      omega (arith, w, part-below (m / 262144) (a .part) (a .all) (omega arith) (omega arith)),
+      rw r (mod-lt _ (omega arith)),
+      omega arith,
+      omega arith,
+      omega arith,
+    )
 
 returns : tie.Need-returns
 returns c =
@@ -40,8 +49,7 @@ cut-product-spec =
     tie.close
     (tie.spec
     mul-n
-    (λ c. search needs)
-    (λ c. search needs)
+    (λ c. search needs) (λ c. search needs)
     next-digit-requires
     next-digit-requires-2
     returns)

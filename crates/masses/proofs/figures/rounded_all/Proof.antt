@@ -25,12 +25,8 @@ rounded-all-spec =
     Inv-loop
     μ-loop
     (λ c. filled-none _ (replicate 7 0) refl)
-    (λ c. search needs)
-    (λ c. search needs)
+    (λ c. search needs) (λ c. search needs)
     (λ c κs. units-fit (c .before .before .pre) (c .before .loop .k))
-    (λ c. search needs)
-    (λ c. search needs)
-    (λ c. search needs)
-    (λ c. search needs)
+    (λ c. search needs) (λ c. search needs) (λ c. search needs) (λ c. search needs)
     (λ c. filled-more (c .before .before .loop .inv) (omega arith) (c .rounded .ensures))
     (λ c. filled-all (c .before .loop .inv) (omega arith)))

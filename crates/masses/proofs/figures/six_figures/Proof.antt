@@ -10,7 +10,9 @@ three-figures-requires : tie.Need-three-figures-requires
 three-figures-requires c κs = rw (c .rounded-all .ensures) (micrograms-in-range _ (c .before .pre .0), c .before .pre .1)
 
 three-figures-requires-2 : tie.Need-three-figures-requires-2
-three-figures-requires-2 c κs = rw (c .rounded-all2 .ensures) (micrograms-in-range _ (c .before .before .before .pre .0), c .before .before .before .pre .1)
+three-figures-requires-2 c κs =
+    rw (c .rounded-all2 .ensures)
+    (micrograms-in-range _ (c .before .before .before .pre .0), c .before .before .before .pre .1)
 
 returns : tie.Need-returns
 returns c =
@@ -25,10 +27,6 @@ six-figures-spec =
     three-figures-requires
     (λ c κs. search needs)
     three-figures-requires-2
-    (λ c. search needs)
-    (λ c. search needs)
-    (λ c. search needs)
-    (λ c. search needs)
-    (λ c. search needs)
+    (λ c. search needs) (λ c. search needs) (λ c. search needs) (λ c. search needs) (λ c. search needs)
     (λ c. search needs)
     returns)

@@ -27,8 +27,7 @@ trip-figure-spec =
     (λ c. let p = c .before .before .pre in record { fits = omega (arith, mixed-fits (p .0) (p .1) (p .2) (p .3)) })
     (λ c. let p = c .before .before .pre in record { fits = omega (arith, mixed-fits (p .0) (p .1) (p .2) (p .3)) })
     (λ c. let p = c .before .before .before .pre in record { fits = omega (arith, blend-fits (p .0) (p .1) (p .2) (p .3)) })
-    (λ c. search needs)
-    (λ c. search needs)
+    (λ c. search needs) (λ c. search needs)
     (λ c. let p = c .before .before .before .before .pre in record { fits = omega (arith, blend-fits (p .0) (p .1) (p .2) (p .3)) })
     (λ c. let p = c .before .before .before .before .pre in record { fits = omega (arith, blend-fits (p .0) (p .1) (p .2) (p .3)) })
     product-fits

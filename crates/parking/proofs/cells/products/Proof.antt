@@ -22,7 +22,8 @@ product : tie.Need-mul-out-3 Inv-loop μ-loop
 product c =
     let s = c .before .before in
     let fits : at (s .args .t1) (c .before .loop .cell % 24) * at (s .args .t2) (c .before .loop .cell / 24) ≤ 1000 * 1000
-    = mul-le-mul {n₂ = 1000} {m₂ = 1000} (omega (arith, at-le-total (s .args .t1) (c .before .loop .cell % 24))) (omega (arith, at-le-total (s .args .t2) (c .before .loop .cell / 24))) in
+    = mul-le-mul {n₂ = 1000} {m₂ = 1000} (omega (arith, at-le-total (s .args .t1) (c .before .loop .cell % 24)))
+    (omega (arith, at-le-total (s .args .t2) (c .before .loop .cell / 24))) in
     omega arith
 
 pub products-spec : {M : Type 1} → statement M
@@ -32,15 +33,9 @@ products-spec =
     Inv-loop
     μ-loop
     (λ c. filled-none _ (replicate 576 0) refl)
-    (λ c. search needs)
-    (λ c. search needs)
-    (λ c. search needs)
-    (λ c. search needs)
+    (λ c. search needs) (λ c. search needs) (λ c. search needs) (λ c. search needs)
     product
-    (λ c. search needs)
-    (λ c. search needs)
-    (λ c. search needs)
-    (λ c. search needs)
+    (λ c. search needs) (λ c. search needs) (λ c. search needs) (λ c. search needs)
     (λ c. filled-more (c .before .loop .inv) (omega arith) refl)
     (λ c.
     let s = c .before .before in

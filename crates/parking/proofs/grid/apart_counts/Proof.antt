@@ -38,14 +38,8 @@ apart-counts-spec =
     Inv-loop
     μ-loop
     (λ c. (search needs, tally-none _ _ _))
-    (λ c κs. search needs)
-    (λ c. search needs)
-    (λ c. search needs)
-    (λ c. search needs)
-    (λ c. search needs)
+    (λ c κs. search needs) (λ c. search needs) (λ c. search needs) (λ c. search needs) (λ c. search needs)
     add-out
-    (λ c. search needs)
-    (λ c. search needs)
-    (λ c. search needs)
+    (λ c. search needs) (λ c. search needs) (λ c. search needs)
     loop-again
     (λ c. c .before .loop .inv .1 ∙ ap (tally _ _ _) {y = 576} (omega arith)))

@@ -10,8 +10,11 @@ use Rattle.parking.proofs.grid.grid_of.Tie as tie
 joined-requires : tie.Need-joined-requires
 joined-requires c κs =
     let ends = c .before .before .before in
-    let starts = ends .before .before in
-    (starts .before .before .pre .length-is, ap length (starts .apart-counts .ensures) ∙ tally-length _ _ _ 576, ap length (ends .apart-counts2 .ensures) ∙ tally-length _ _ _ 576)
+    let starts = ends .before .before in (
+      starts .before .before .pre .length-is,
+      ap length (starts .apart-counts .ensures) ∙ tally-length _ _ _ 576,
+      ap length (ends .apart-counts2 .ensures) ∙ tally-length _ _ _ 576,
+    )
 
 returns : tie.Need-returns
 returns c =

@@ -14,12 +14,14 @@ returns c =
 returns-2 : tie.Need-returns-2
 returns-2 c =
     let s = c .before .before in
-    start-place (s .args .cells .now) (s .args .t2) (s .args .t3) (s .args .sum) (s .pre .0) (s .pre .1) (s .pre .2) (s .args .k) (omega arith) (omega arith)
+    start-place (s .args .cells .now) (s .args .t2) (s .args .t3) (s .args .sum) (s .pre .0) (s .pre .1) (s .pre .2)
+    (s .args .k) (omega arith) (omega arith)
 
 returns-3 : tie.Need-returns-3
 returns-3 c =
     let s = c .before .before .before in
-    end-place (s .args .cells .now) (s .args .t2) (s .args .t3) (s .args .sum) (s .pre .0) (s .pre .1) (s .pre .2) (s .args .k) (omega arith) (omega arith)
+    end-place (s .args .cells .now) (s .args .t2) (s .args .t3) (s .args .sum) (s .pre .0) (s .pre .1) (s .pre .2)
+    (s .args .k) (omega arith) (omega arith)
 
 returns-4 : tie.Need-returns-4
 returns-4 c =
@@ -31,13 +33,10 @@ pub part-spec : {M : Type 1} → statement M
 part-spec =
     tie.close
     (tie.spec
-    (λ c. search needs)
-    (λ c. search needs)
+    (λ c. search needs) (λ c. search needs)
     returns
-    (λ c. search needs)
-    (λ c. search needs)
+    (λ c. search needs) (λ c. search needs)
     returns-2
-    (λ c. search needs)
-    (λ c. search needs)
+    (λ c. search needs) (λ c. search needs)
     returns-3
     returns-4)

@@ -30,11 +30,9 @@ total-spec =
     Inv-loop
     μ-loop
     (λ c. (search needs, sum-none _))
-    (λ c. search needs)
-    (λ c. search needs)
+    (λ c. search needs) (λ c. search needs)
     add-sum
-    (λ c. search needs)
-    (λ c. search needs)
+    (λ c. search needs) (λ c. search needs)
     (λ c. (search needs, sum-more _ _ (c .before .before .loop .inv .1) refl))
     (λ c.
     let cells = c .before .before .args .cells .now in

@@ -23,12 +23,7 @@ by-distance-spec =
     Inv-loop
     μ-loop
     (λ c. filled-none _ (replicate 25 0) refl)
-    (λ c. search needs)
-    (λ c. search needs)
-    (λ c. search needs)
-    (λ c. search needs)
-    (λ c. search needs)
-    (λ c. search needs)
-    (λ c. search needs)
+    (λ c. search needs) (λ c. search needs) (λ c. search needs) (λ c. search needs) (λ c. search needs)
+    (λ c. search needs) (λ c. search needs)
     (λ c. filled-more (c .before .before .loop .inv) (omega arith) refl)
     (λ c. filled-all (c .before .loop .inv) (omega arith)))

@@ -41,14 +41,10 @@ mean-by-cell-spec =
     Inv-loop
     μ-loop
     (λ c. (search needs, sum-none _))
-    (λ c. search needs)
-    (λ c. search needs)
-    (λ c. search needs)
-    (λ c. search needs)
+    (λ c. search needs) (λ c. search needs) (λ c. search needs) (λ c. search needs)
     (λ c. omega (arith, fits (c .before .before)))
     (λ c. omega (arith, fits (c .before .before)))
-    (λ c. search needs)
-    (λ c. search needs)
+    (λ c. search needs) (λ c. search needs)
     (λ c. (search needs, sum-more _ _ (c .before .before .before .loop .inv .1) refl))
     (λ c. search needs)
     (λ c. omega (arith, c .before .before .before .pre .0 .sum-is, c .before .before .before .pre .0 .cells-in .total-least))

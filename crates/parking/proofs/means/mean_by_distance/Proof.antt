@@ -35,7 +35,8 @@ added c = rw (c .before .before .apart-place .ensures .0)
 fits : (c : tie.In-loop Inv-loop μ-loop)
     → let p = c .before .before in
     let a = p .before .args in
-    c .before .loop .sum + at (a .grid .now) (p .apart-place .result + c .before .loop .d) * (at (a .values .now) (c .before .loop .d) / 2 ^ 12) < 2 ^ 64
+    c .before .loop .sum + at (a .grid .now) (p .apart-place .result + c .before .loop .d) *
+    (at (a .values .now) (c .before .loop .d) / 2 ^ 12) < 2 ^ 64
 fits c =
     let s = c .before .before .before in
     let all = distance-fits (s .pre .0) (s .args .ends) (at (s .args .values .now)) (s .pre .1 .at-most) in
@@ -56,15 +57,10 @@ mean-by-distance-spec =
     μ-loop
     (λ c κs. search needs)
     (λ c. (search needs, sum-none _))
-    (λ c. search needs)
-    (λ c. search needs)
-    (λ c. search needs)
-    (λ c. search needs)
-    (λ c. search needs)
+    (λ c. search needs) (λ c. search needs) (λ c. search needs) (λ c. search needs) (λ c. search needs)
     (λ c. omega (arith, fits (c .before .before)))
     (λ c. omega (arith, fits (c .before .before)))
-    (λ c. search needs)
-    (λ c. search needs)
+    (λ c. search needs) (λ c. search needs)
     (λ c. (search needs, sum-more _ _ (c .before .before .before .loop .inv .1) (added (c .before .before))))
     (λ c. search needs)
     (λ c. omega (arith, c .before .before .before .before .pre .0 .sum-is, c .before .before .before .before .pre .0 .cells-in .total-least))

@@ -17,7 +17,9 @@ mean-by-distance-requires c κs =
 returns : tie.Need-returns
 returns c =
     let b = c .before .before in
-    c .mean-by-distance .ensures ∙ mean-distances _ (b .before .args .ends) (λ (d : ℕ). at (b .before .args .values .now) (ahead d)) (b .by-distance .ensures)
+    c .mean-by-distance .ensures ∙
+    mean-distances _ (b .before .args .ends) (λ (d : ℕ). at (b .before .args .values .now) (ahead d))
+    (b .by-distance .ensures)
 
 pub mean-by-mark-spec : {M : Type 1} → statement M
 mean-by-mark-spec = tie.close (tie.spec (λ c κs. search needs) mean-by-distance-requires returns)

@@ -31,10 +31,6 @@ entries-joined-spec =
     Inv-loop
     μ-loop
     (λ c. filled-none _ (replicate 1732 0) refl)
-    (λ c κs. search needs)
-    (λ c. search needs)
-    (λ c. search needs)
-    (λ c. search needs)
-    (λ c. search needs)
+    (λ c κs. search needs) (λ c. search needs) (λ c. search needs) (λ c. search needs) (λ c. search needs)
     (λ c. filled-more (c .before .before .loop .inv) (omega arith) (c .entry-part .ensures))
     returns)

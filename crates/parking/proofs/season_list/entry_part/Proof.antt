@@ -39,13 +39,10 @@ pub entry-part-spec : {M : Type 1} → statement M
 entry-part-spec =
     tie.close
     (tie.spec
-    (λ c. search needs)
-    (λ c. search needs)
+    (λ c. search needs) (λ c. search needs)
     returns
-    (λ c. search needs)
-    (λ c. search needs)
+    (λ c. search needs) (λ c. search needs)
     returns-2
-    (λ c. search needs)
-    (λ c. search needs)
+    (λ c. search needs) (λ c. search needs)
     returns-3
     returns-4)

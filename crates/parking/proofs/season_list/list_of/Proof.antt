@@ -76,11 +76,7 @@ list-of-spec =
     Inv-loop
     μ-loop
     (λ c. (omega arith, counted-none _ _, blank-most 48 576, length-replicate {A = ℕ} 48 0))
-    (λ c κs. search needs)
-    (λ c κs. search needs)
-    (λ c. search needs)
-    (λ c. search needs)
-    (λ c. search needs)
+    (λ c κs. search needs) (λ c κs. search needs) (λ c. search needs) (λ c. search needs) (λ c. search needs)
     (λ c. search needs)
     (λ c κs. (omega (arith, entry-inside (c .before .before)), omega (arith, c .before .before .before .apart .ensures .1)))
     (λ c κs. search needs)
@@ -88,17 +84,15 @@ list-of-spec =
     (λ c. omega (arith, place-below c))
     (λ c. omega (arith, place-below c))
     (λ c. omega (arith, place-below c))
-    (λ c. search needs)
-    (λ c. search needs)
+    (λ c. search needs) (λ c. search needs)
     (λ c. omega (arith, place-below (c .before)))
     (λ c. omega (arith, place-below (c .before)))
     add-counts
     (λ c. omega (arith, place-below (c .before)))
-    (λ c. search needs)
-    (λ c. search needs)
-    (λ c κs. let l = c .before .before .before .before .before .before .before .before in omega (arith, l .before .loop .inv .1 .few, l .loop-test .taken))
-    (λ c. search needs)
-    (λ c. search needs)
+    (λ c. search needs) (λ c. search needs)
+    (λ c κs. let l = c .before .before .before .before .before .before .before .before in
+    omega (arith, l .before .loop .inv .1 .few, l .loop-test .taken))
+    (λ c. search needs) (λ c. search needs)
     loop-again
     (λ c κs. let i = c .before .before .before .before .loop .inv .1 in (i .long-starts, i .long-values, i .long-counts))
     (λ c.

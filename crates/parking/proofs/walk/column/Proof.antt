@@ -28,15 +28,24 @@ loop-holds c = (filled-none _ _ (c .before .pre .2), none-passed (c .before .arg
 step-back-requires : tie.Need-step-back-requires Inv-loop μ-loop
 step-back-requires c κs =
     let s = c .before .before .before .before .before in
-    let l = c .before .before .before .loop in
-    (omega (arith, s .pre .0 .at-most (c .before .start-mark .result), passed-most (at (s .args .values .now)) (2 ^ 50) (s .pre .0 .at-most) (s .args .hour) (l .d), mul-le-mul-right (2 ^ 50) (l .inv .0 .places)), omega arith)
+    let l = c .before .before .before .loop in (
+      omega (
+        arith,
+        s .pre .0 .at-most (c .before .start-mark .result),
+        passed-most (at (s .args .values .now)) (2 ^ 50) (s .pre .0 .at-most) (s .args .hour) (l .d),
+        mul-le-mul-right (2 ^ 50) (l .inv .0 .places),
+      ),
+      omega arith,
+    )
 
 loop-again : tie.Need-loop-again Inv-loop μ-loop
 loop-again c =
     let s = c .before .before .before .before .before .before in
     let l = c .before .before .before .before .loop in
     let next : c .step-back .result .passed ≡ passed (at (s .args .values .now)) (s .args .hour) (l .d + 1)
-    = c .step-back .ensures .0 ∙ passed-more (at (s .args .values .now)) (s .args .hour) (l .d) (l .inv .1) (ap (at (s .args .values .now)) (c .before .before .start-mark .ensures .0)) in
+    = c .step-back .ensures .0 ∙
+    passed-more (at (s .args .values .now)) (s .args .hour) (l .d) (l .inv .1)
+    (ap (at (s .args .values .now)) (c .before .before .start-mark .ensures .0)) in
     (filled-more (l .inv .0) (omega arith) (rw add-one at next), next, omega arith)
 
 same-length : tie.Need-same-length Inv-loop μ-loop
@@ -52,15 +61,9 @@ column-spec =
     Inv-loop
     μ-loop
     loop-holds
-    (λ c. search needs)
-    (λ c κs. search needs)
-    (λ c. search needs)
-    (λ c. search needs)
+    (λ c. search needs) (λ c κs. search needs) (λ c. search needs) (λ c. search needs)
     step-back-requires
-    (λ c. search needs)
-    (λ c. search needs)
-    (λ c. search needs)
-    (λ c. search needs)
+    (λ c. search needs) (λ c. search needs) (λ c. search needs) (λ c. search needs)
     loop-again
     same-length
     returns)

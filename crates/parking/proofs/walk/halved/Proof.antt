@@ -22,11 +22,7 @@ halved-spec =
     Inv-loop
     μ-loop
     (λ c. filled-none _ (replicate 576 0) refl)
-    (λ c. search needs)
-    (λ c. search needs)
-    (λ c. search needs)
-    (λ c. search needs)
-    (λ c. search needs)
+    (λ c. search needs) (λ c. search needs) (λ c. search needs) (λ c. search needs) (λ c. search needs)
     (λ c. search needs)
     (λ c. filled-more (c .before .before .loop .inv) (omega arith) refl)
     (λ c. filled-all (c .before .loop .inv) (omega arith)))

@@ -26,12 +26,7 @@ lowered-spec =
     Inv-loop
     μ-loop
     (λ c. filled-none _ (replicate 576 0) refl)
-    (λ c. search needs)
-    (λ c. search needs)
-    (λ c. search needs)
-    (λ c. search needs)
-    (λ c. search needs)
-    (λ c. search needs)
-    (λ c. search needs)
+    (λ c. search needs) (λ c. search needs) (λ c. search needs) (λ c. search needs) (λ c. search needs)
+    (λ c. search needs) (λ c. search needs)
     loop-again
     (λ c. filled-all (c .before .loop .inv) (omega arith)))

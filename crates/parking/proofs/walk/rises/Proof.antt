@@ -13,12 +13,12 @@ returns : tie.Need-returns
 returns c =
     let w = c .before .before .before in
     c .lowered .ensures ∙
-    tab-ext 576 (λ cell h. ap (λ (x : ℕ). x - riseError) (rw (w .walk .ensures .0 ∙ walked-is _) (getD-tab (passedIn (w .before .args .steps .now)) 576 cell h)))
+    tab-ext 576 (λ cell h. ap (λ (x : ℕ). x - riseError)
+    (rw (w .walk .ensures .0 ∙ walked-is _) (getD-tab (passedIn (w .before .args .steps .now)) 576 cell h)))
 
 pub rises-spec : {M : Type 1} → statement M
 rises-spec =
     tie.close
     (tie.spec
-    (λ c κs. search needs)
-    (λ c κs. search needs)
+    (λ c κs. search needs) (λ c κs. search needs)
     returns)

@@ -25,7 +25,9 @@ returns-2 c =
     let a = x .args .a .now in
     let r = region _ (x .pre .first) in
     rw (eq-eqb (seasonsOf a) (seasonsOf (x .args .b .now)) (omega arith))
-    (c .bytes-differ .ensures ∙ ap (someDiffers a (x .args .b .now)) {x = c .before .row-place .result - 8} {y = sharedBytes (seasonsOf a)} (omega (arith, start r)))
+    (c .bytes-differ .ensures ∙
+    ap (someDiffers a (x .args .b .now)) {x = c .before .row-place .result - 8} {y = sharedBytes (seasonsOf a)}
+    (omega (arith, start r)))
 
 pub differ-spec : {M : Type 1} → statement M
 differ-spec =

@@ -73,7 +73,6 @@ fleet-check-spec =
     let p = c .before .before .before .before .before .before .before .before .pre in
     omega (arith, length-most (region _ (p .first)), rows-most (region _ (p .second))))
     returns
-    (λ c. search needs)
-    (λ c. search needs)
+    (λ c. search needs) (λ c. search needs)
     loop-again
     returns-2)

@@ -33,7 +33,9 @@ returns-3 c =
     let l = e .before .before in
     let a = x .args .a .now in
     passed 32 0 _ (sym (l .before .before .differ .ensures) ∙ l .before .if1 .left)
-    (go _ _ (l .late-check .ensures) (e .enum-told2 .given .1) (refused 22 0 (lt-ltb (x .args .room) (length a + 24 * rowsOf (x .args .b .now)) (omega (arith, pool-long a (region _ (x .pre .second))))))) ∙
+    (go _ _ (l .late-check .ensures) (e .enum-told2 .given .1)
+    (refused 22 0 (lt-ltb (x .args .room) (length a + 24 * rowsOf (x .args .b .now))
+    (omega (arith, pool-long a (region _ (x .pre .second))))))) ∙
     sym (late _ _ _ (x .pre .first) (x .pre .second))
 
 returns-4 : tie.Need-returns-4
@@ -43,7 +45,9 @@ returns-4 c =
     let l = e .before .before in
     let a = x .args .a .now in
     passed 32 0 _ (sym (l .before .before .differ .ensures) ∙ l .before .if1 .left)
-    (go _ _ (l .late-check .ensures) (e .enum-told2 .given .1) (allowed 22 0 (le-ltb (x .args .room) (length a + 24 * rowsOf (x .args .b .now)) (omega (arith, pool-long a (region _ (x .pre .second))))))) ∙
+    (go _ _ (l .late-check .ensures) (e .enum-told2 .given .1)
+    (allowed 22 0 (le-ltb (x .args .room) (length a + 24 * rowsOf (x .args .b .now))
+    (omega (arith, pool-long a (region _ (x .pre .second))))))) ∙
     sym (late _ _ _ (x .pre .first) (x .pre .second))
 
 pub pair-check-spec : {M : Type 1} → statement M
@@ -52,10 +56,8 @@ pair-check-spec =
     (tie.spec
     (λ c κs. search needs)
     returns
-    (λ c κs. search needs)
-    (λ c. search needs)
+    (λ c κs. search needs) (λ c. search needs)
     returns-2
-    (λ c. search needs)
-    (λ c κs. search needs)
+    (λ c. search needs) (λ c κs. search needs)
     returns-3
     returns-4)

@@ -31,23 +31,22 @@ returns-3 : tie.Need-returns-3
 returns-3 c =
     let told = c .before in
     let check = told .before .before in
-    pooled-is _ _ _ (first-passes (check .before .before .before .before)) (second-passes (check .before)) (sym (check .pair-check .ensures) ∙ told .number3 .given .1)
+    pooled-is _ _ _ (first-passes (check .before .before .before .before)) (second-passes (check .before))
+    (sym (check .pair-check .ensures) ∙ told .number3 .given .1)
 
 returns-4 : tie.Need-returns-4
 returns-4 c =
     let check = c .before .before in
-    accepted-is _ _ _ (first-passes (check .before .before .before .before)) (second-passes (check .before)) (sym (check .pair-check .ensures) ∙ c .enum-told3 .given .1)
+    accepted-is _ _ _ (first-passes (check .before .before .before .before)) (second-passes (check .before))
+    (sym (check .pair-check .ensures) ∙ c .enum-told3 .given .1)
 
 pub pool-answer-spec : {M : Type 1} → statement M
 pool-answer-spec =
     tie.close
     (tie.spec
-    (λ c κs. search needs)
-    (λ c. search needs)
+    (λ c κs. search needs) (λ c. search needs)
     returns
-    (λ c. search needs)
-    (λ c κs. search needs)
-    (λ c. search needs)
+    (λ c. search needs) (λ c κs. search needs) (λ c. search needs)
     returns-2
     (λ c. search needs)
     (λ c κs. record { first = first-passes (c .before .before .before); second = second-passes c })

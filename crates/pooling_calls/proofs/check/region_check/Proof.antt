@@ -36,8 +36,7 @@ pub region-check-spec : {M : Type 1} → statement M
 region-check-spec =
     tie.close
     (tie.spec
-    (λ c κs. search needs)
-    (λ c. search needs)
+    (λ c κs. search needs) (λ c. search needs)
     returns
     (λ c. search needs)
     (λ c κs. mark-judged _ .passes (sym (c .before .before .mark-check .ensures) ∙ c .enum-told2 .given .1) .0)

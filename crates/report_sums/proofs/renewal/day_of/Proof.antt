@@ -15,7 +15,10 @@ row-at-requires c κs = let p = c .before .before .pre in row-there _ (p .0 .pas
 six-figures-requires : tie.Need-six-figures-requires
 six-figures-requires c κs =
     let start = c .before .before .before in
-    rw (c .row-at .ensures .0) (c .before .units-with .ensures .1, use-in-range (accepted (start .args .s .now) (start .pre .0 .passes)) (start .pre .2))
+    rw (c .row-at .ensures .0) (
+      c .before .units-with .ensures .1,
+      use-in-range (accepted (start .args .s .now) (start .pre .0 .passes)) (start .pre .2),
+    )
 
 returns : tie.Need-returns
 returns c = c .six-figures .ensures ∙ rw (c .before .before .units-with .ensures .0, c .before .row-at .ensures .0) (figures-are _ _ _)

@@ -18,16 +18,13 @@ returns c =
     let stored = c .before .before .before .before .before .before in
     let start = stored .before .before .before .before .before in
     let x = start .args in
-    let six : tab (at (stored .before .words-of .result)) 6 ≡ wordsOf (x .s .now) (x .i) = rw (stored .before .words-of .ensures) (words-tab (x .s .now) (x .i)) in
+    let six : tab (at (stored .before .words-of .result)) 6 ≡ wordsOf (x .s .now) (x .i) =
+    rw (stored .before .words-of .ensures) (words-tab (x .s .now) (x .i)) in
     c .before .before .write-sums .ensures ∙ ap (resummed (x .s .now)) (stored .store .ensures ∙ ap (sets (x .words .now) (6 * x .i)) six)
 
 pub renew-row-spec : {M : Type 1} → statement M
 renew-row-spec =
     tie.close
     (tie.spec
-    (λ c. search needs)
-    (λ c κs. search needs)
-    (λ c κs. search needs)
-    (λ c κs. search needs)
-    (λ c. search needs)
+    (λ c. search needs) (λ c κs. search needs) (λ c κs. search needs) (λ c κs. search needs) (λ c. search needs)
     returns)

@@ -49,7 +49,10 @@ loop-again c =
     let l = c .before .before .loop in
     let start = c .before .before .before .before .before .before .before .before .before .before in
     let x = start .args in
-    filled-more (l .inv) (omega arith) (c .milligrams .ensures ∙ rw (figure (c .before), c .before .before .before .vehicles-of .ensures .0) (word-from-year (x .s .now) (x .i) (l .m) (omega arith)))
+    filled-more (l .inv) (omega arith)
+    (c .milligrams .ensures ∙
+    rw (figure (c .before), c .before .before .before .vehicles-of .ensures .0)
+    (word-from-year (x .s .now) (x .i) (l .m) (omega arith)))
 
 returns : tie.Need-returns Inv-loop μ-loop
 returns c = let l = c .before .loop in filled-all (l .inv) (omega arith) ∙ words-tab _ _
@@ -60,18 +63,12 @@ words-of-spec =
     (tie.spec
     Inv-loop
     μ-loop
-    (λ c κs. search needs)
-    (λ c κs. search needs)
+    (λ c κs. search needs) (λ c κs. search needs)
     year-of-requires
     (λ c κs. let p = c .before .before .before .before .before .before .pre in row-there _ (p .0) (p .1))
     (λ c. filled-none _ _ refl)
-    (λ c. search needs)
-    (λ c. search needs)
-    (λ c. search needs)
+    (λ c. search needs) (λ c. search needs) (λ c. search needs)
     milligrams-requires
-    (λ c. search needs)
-    (λ c. search needs)
-    (λ c. search needs)
-    (λ c. search needs)
+    (λ c. search needs) (λ c. search needs) (λ c. search needs) (λ c. search needs)
     loop-again
     returns)

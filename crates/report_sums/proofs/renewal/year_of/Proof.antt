@@ -41,8 +41,11 @@ loop-again c =
     let season = c .before .before in
     let day = season .before .before in
     let l = day .before .before .loop in
-    let start = day .before .before .before .before .before .before in
-    (search needs, rw (season .season-at .ensures .0, day .day-of .ensures) at (c .before .add-days .ensures) ∙ season-more (start .args .s .now) (start .args .i) (l .j) (l .inv .1))
+    let start = day .before .before .before .before .before .before in (
+      search needs,
+      rw (season .season-at .ensures .0, day .day-of .ensures) at (c .before .add-days .ensures) ∙
+          season-more (start .args .s .now) (start .args .i) (l .j) (l .inv .1),
+    )
 
 returns : tie.Need-returns Inv-loop μ-loop
 returns c =
@@ -64,7 +67,6 @@ year-of-spec =
     slice-aggregate-add-days
     (λ c κs. season-there _ (c .before .before .before .before .before .before .before .pre .0 .passes) (omega arith))
     add-days-requires
-    (λ c. search needs)
-    (λ c. search needs)
+    (λ c. search needs) (λ c. search needs)
     loop-again
     returns)

@@ -17,7 +17,11 @@ add-result c = record { fits = omega (arith, rest-part-most (c .args .year) (c .
 add-result-2 : tie.Need-add-result-2
 add-result-2 c = record {
   fits =
-      omega (arith, whole-part-most (c .args .year) (c .args .vehicles) (omega arith) (omega arith), rest-part-most (c .args .year) (c .args .vehicles) (omega arith));
+      omega (
+        arith,
+        whole-part-most (c .args .year) (c .args .vehicles) (omega arith) (omega arith),
+        rest-part-most (c .args .year) (c .args .vehicles) (omega arith),
+      );
 }
 
 returns : tie.Need-returns

@@ -53,7 +53,9 @@ loop-again c =
     let in-loop = c .before .before .before in
     let l = in-loop .before .loop in
     let s = in-loop .before .before .before .before .before .args .s .now in
-    let word : c .milligrams .result ≡ reportWord s (l .k) = c .milligrams .ensures ∙ rw (figure in-loop, c .before .vehicles-of .ensures .0) (report-from-year s (l .k) (omega arith)) in
+    let word : c .milligrams .result ≡ reportWord s (l .k) =
+    c .milligrams .ensures ∙
+    rw (figure in-loop, c .before .vehicles-of .ensures .0) (report-from-year s (l .k) (omega arith)) in
     (search needs, simp length-set (l .inv .1), rw (l .inv .2) (filled-more _ _ (l .k) (omega arith) word))
 
 returns : tie.Need-returns Inv-loop μ-loop
@@ -68,16 +70,13 @@ row-words-spec =
     (λ c κs. omega (arith, parking-there _ (c .before .before .pre .0)))
     (λ c. search needs)
     (λ c. (search needs, refl, filled-none _ _))
-    (λ c. search needs)
-    (λ c. search needs)
-    (λ c. search needs)
+    (λ c. search needs) (λ c. search needs) (λ c. search needs)
     (λ c. omega arith)
     vehicles-of-requires
     milligrams-requires
     (λ c. omega arith)
     (λ c. omega arith)
-    (λ c. search needs)
-    (λ c. search needs)
+    (λ c. search needs) (λ c. search needs)
     loop-again
     (λ c. c .before .loop .inv .1)
     returns)

@@ -14,7 +14,9 @@ use Rattle.report_words.proofs.words.write_rows.Statement.{statement}
 use Rattle.report_words.proofs.words.write_rows.Tie as tie
 
 -- the words of the rows are 0
-zeros : (c : tie.After-clear) → let x = c .before .before .before .before .before .args in c .clear .last .0 ≡ filled (λ (k : ℕ). 0) (6 * rowsOf (x .s .now)) (x .words .now)
+zeros : (c : tie.After-clear) → let x =
+    c .before .before .before .before .before .args in
+    c .clear .last .0 ≡ filled (λ (k : ℕ). 0) (6 * rowsOf (x .s .now)) (x .words .now)
 zeros c = rw (c .before .rows-of .ensures .0) at (c .clear .ensures)
 
 add-year-requires : tie.Need-add-year-requires
@@ -34,16 +36,18 @@ row-words-requires c κs =
 returns : tie.Need-returns
 returns c =
     let year = c .before .before .before .before .before .before in
-    let n = 6 * rowsOf (c .before .before .before .before .before .before .before .before .before .before .before .before .before .before .before .args .s .now) in
-    filled-twice _ _ _ n n (omega arith) (zeros (c .before .before .before .before .before .before .before .before .before .before)) (filled-twice _ _ _ n n (omega arith) (year .add-year .ensures) (c .before .before .row-words .ensures))
+    let n = 6 * rowsOf
+    (c .before .before .before .before .before .before .before .before .before .before .before .before .before .before .before .args .s .now) in
+    filled-twice _ _ _ n n (omega arith)
+    (zeros (c .before .before .before .before .before .before .before .before .before .before))
+    (filled-twice _ _ _ n n (omega arith) (year .add-year .ensures) (c .before .before .row-words .ensures))
 
 pub write-rows-spec : {M : Type 1} → statement M
 write-rows-spec =
     tie.close
     (tie.spec
     (λ c κs. omega (arith, parking-there _ (c .before .before .before .pre .0)))
-    (λ c. search needs)
-    (λ c κs. search needs)
+    (λ c. search needs) (λ c κs. search needs)
     add-year-requires
     row-words-requires
     (λ c. search needs)

@@ -43,14 +43,26 @@ row-figures-requires c κs =
     let p = start .pre .0 in
     let inside = r .before .loop-test .taken in
     let a = accepted (start .args .s .now) (p .sheet .passes) in
-    rw (r .row-at .ensures .0) (p .lent, p .rows-in _ (omega arith), use-in-range a (omega arith), record { ready = λ h. start .pre .1 }, start .pre .4 .kept-of _ (omega arith))
+    rw (r .row-at .ensures .0) (
+      p .lent,
+      p .rows-in _ (omega arith),
+      use-in-range a (omega arith),
+      record {
+        ready = λ h. start .pre .1;
+      },
+      start .pre .4 .kept-of _ (omega arith),
+    )
 
 add-days-requires : tie.Need-add-days-requires Inv-loop μ-loop
 add-days-requires c κs =
     let l = c .before .before .before .before .before .loop in
     let start = c .before .before .before .before .before .before .before .before .before .before in
     let x = start .args in
-    rw (figures (c .before)) (omega arith, row-sums-fit (x .s .now) (x .at .season) (x .words .now) (l .words) (l .i) (l .inv .2) (omega arith) (start .pre .3))
+    rw (figures (c .before)) (
+      omega arith,
+      row-sums-fit (x .s .now) (x .at .season) (x .words .now) (l .words) (l .i) (l .inv .2)
+          (omega arith) (start .pre .3),
+    )
 
 loop-again : tie.Need-loop-again Inv-loop μ-loop
 loop-again c =
@@ -60,8 +72,12 @@ loop-again c =
     let rows = in-loop .before .before in
     let start = rows .before .before .before .before in
     let x = start .args in
-    let room : 6 * l .i + 6 ≤ length (x .words .now) = omega (arith, start .pre .2, in-loop .loop-test .taken, rows .rows-of .ensures .0) in
-    (search needs, cc, rw (figures (done .before .before)) at (done .add-days .ensures) ∙ row-stored (x .s .now) (x .at .season) (x .words .now) (l .words) (l .i) (l .inv .2) room _ (omega arith))
+    let room : 6 * l .i + 6 ≤ length (x .words .now) = omega (arith, start .pre .2, in-loop .loop-test .taken, rows .rows-of .ensures .0) in (
+      search needs,
+      cc,
+      rw (figures (done .before .before)) at (done .add-days .ensures) ∙
+          row-stored (x .s .now) (x .at .season) (x .words .now) (l .words) (l .i) (l .inv .2) room _ (omega arith),
+    )
 
 pub add-rows-spec : {M : Type 1} → statement M
 add-rows-spec =
@@ -77,8 +93,7 @@ add-rows-spec =
     row-figures-requires
     (λ c. search needs)
     add-days-requires
-    (λ c. search needs)
-    (λ c. search needs)
+    (λ c. search needs) (λ c. search needs)
     loop-again
     (λ c. c .before .loop .inv .1)
     (λ c. let l = c .before .loop in l .inv .2 ∙ filled-all _ _ _ _ (omega arith) (omega arith)))

@@ -36,8 +36,13 @@ add-rows-requires c κs =
     let p = start .pre in
     let x = start .args in
     let s = x .s .now in
-    let fits = season-fits s (x .words .now) (x .j) (p .2 .words-are) (bytes (d .before .before)) (accepted s (p .0 .passes)) (p .1) in
-    (ready d, rw (d .prepare .ensures .0) (d .prepare .ensures .2 refl), p .2 .room, rw (d .prepare .ensures .0, d .before .season-at .ensures .0) fits, p .3)
+    let fits = season-fits s (x .words .now) (x .j) (p .2 .words-are) (bytes (d .before .before)) (accepted s (p .0 .passes)) (p .1) in (
+      ready d,
+      rw (d .prepare .ensures .0) (d .prepare .ensures .2 refl),
+      p .2 .room,
+      rw (d .prepare .ensures .0, d .before .season-at .ensures .0) fits,
+      p .3,
+    )
 
 returns : tie.Need-returns
 returns c =

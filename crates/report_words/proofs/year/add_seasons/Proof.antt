@@ -51,8 +51,7 @@ add-seasons-spec =
     (λ c κs. omega (arith, parking-there _ (c .before .before .pre .0 .passes)))
     (λ c. (search needs, refl, filled-same _ _ _ (c .before .before .before .pre .1 .words-are)))
     add-season-requires
-    (λ c. search needs)
-    (λ c. search needs)
+    (λ c. search needs) (λ c. search needs)
     loop-again
     (λ c. c .before .loop .inv .1)
     returns)

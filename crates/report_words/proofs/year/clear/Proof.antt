@@ -31,10 +31,7 @@ clear-spec =
     Inv-loop
     μ-loop
     (λ c. (search needs, refl, filled-none _ _))
-    (λ c. search needs)
-    (λ c. search needs)
-    (λ c. search needs)
-    (λ c. search needs)
+    (λ c. search needs) (λ c. search needs) (λ c. search needs) (λ c. search needs)
     loop-again
     (λ c. c .before .loop .inv .1)
     returns)

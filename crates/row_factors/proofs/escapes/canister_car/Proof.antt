@@ -32,5 +32,6 @@ canister-car-spec =
     (λ c κs. fit-needs (c .before .before .before .before .before .pre) (c .before .by-distance .ensures))
     (λ c κs. parking-needs (start c .pre) (c .fit .ensures))
     (λ c κs. let f = c .before .before .before in raise-needs (start f .pre) (f .fit .ensures) 45 (λ m. m .raise45-is) (omega arith))
-    (λ c κs. let f = c .before .before .before .before .before .before in raise-needs (start f .pre) (f .fit .ensures) 60 (λ m. m .raise60-is) (omega arith))
+    (λ c κs. let f = c .before .before .before .before .before .before in
+    raise-needs (start f .pre) (f .fit .ensures) 60 (λ m. m .raise60-is) (omega arith))
     returns)

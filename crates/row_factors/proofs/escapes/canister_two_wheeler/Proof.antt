@@ -16,8 +16,10 @@ returns c =
     let q = start f .pre in
     let e = f .fit .ensures in
     record {
-      parking-is = parking-right q e (c .before .before .before .before .before .before .before .before .before .before .before .before .parking-through .ensures);
-      soak-is = raise-right q e 15 (λ m. m .raise15-is) false (c .before .before .before .before .before .before .before .before .before .raise-through .ensures);
+      parking-is = parking-right q e
+          (c .before .before .before .before .before .before .before .before .before .before .before .before .parking-through .ensures);
+      soak-is = raise-right q e 15 (λ m. m .raise15-is) false
+          (c .before .before .before .before .before .before .before .before .before .raise-through .ensures);
       hotsoak-is = raise-right q e 35 (λ m. m .raise35-is) false (c .before .before .before .before .before .before .raise-through2 .ensures);
       trip-is = raise-right q e 10 (λ m. m .raise10-is) true (c .before .before .before .raise-through3 .ensures);
       hottrip-is = raise-right q e 25 (λ m. m .raise25-is) true (c .raise-through4 .ensures);
@@ -31,7 +33,10 @@ canister-two-wheeler-spec =
     (λ c κs. fit-needs (c .before .before .before .before .before .pre) (c .before .by-distance .ensures))
     (λ c κs. parking-needs (start c .pre) (c .fit .ensures))
     (λ c κs. let f = c .before .before .before in raise-needs (start f .pre) (f .fit .ensures) 15 (λ m. m .raise15-is) (omega arith))
-    (λ c κs. let f = c .before .before .before .before .before .before in raise-needs (start f .pre) (f .fit .ensures) 35 (λ m. m .raise35-is) (omega arith))
-    (λ c κs. let f = c .before .before .before .before .before .before .before .before .before in raise-needs (start f .pre) (f .fit .ensures) 10 (λ m. m .raise10-is) (omega arith))
-    (λ c κs. let f = c .before .before .before .before .before .before .before .before .before .before .before .before in raise-needs (start f .pre) (f .fit .ensures) 25 (λ m. m .raise25-is) (omega arith))
+    (λ c κs. let f = c .before .before .before .before .before .before in
+    raise-needs (start f .pre) (f .fit .ensures) 35 (λ m. m .raise35-is) (omega arith))
+    (λ c κs. let f = c .before .before .before .before .before .before .before .before .before in
+    raise-needs (start f .pre) (f .fit .ensures) 10 (λ m. m .raise10-is) (omega arith))
+    (λ c κs. let f = c .before .before .before .before .before .before .before .before .before .before .before .before
+    in raise-needs (start f .pre) (f .fit .ensures) 25 (λ m. m .raise25-is) (omega arith))
     returns)

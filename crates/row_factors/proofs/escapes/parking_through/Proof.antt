@@ -12,7 +12,6 @@ pub parking-through-spec : {M : Type 1} → statement M
 parking-through-spec =
     tie.close
     (tie.spec
-    (λ c κs. search needs)
-    (λ c. search needs)
+    (λ c κs. search needs) (λ c. search needs)
     (λ c. omega (arith, c .before .before .pre .1 .sum-is, c .before .before .pre .1 .cells-in .total-least))
     (λ c. ap (λ (x : ℕ). x / at (c .before .before .args .grid .now) sumPlace) (c .before .through-list .ensures)))

@@ -12,7 +12,5 @@ pub high-micrograms-spec : {M : Type 1} → statement M
 high-micrograms-spec =
     tie.close
     (tie.spec
-    (λ c. search needs)
-    (λ c. search needs)
-    (λ c. search needs)
+    (λ c. search needs) (λ c. search needs) (λ c. search needs)
     returns)

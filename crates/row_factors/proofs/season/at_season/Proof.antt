@@ -4,7 +4,8 @@ use mathlib.Core.Path.{refl, _∙_, ap}
 use Prim.Native.Nat.{ℕ, _/_}
 use native.Mathlib.Omega.{arith}
 use Rattle.parking.proofs.Weighted.{mean-tab, mean-ext, mean-marks}
-use Rattle.row_factors.proofs.Escaping.{raises-alike, rates-alike, raise-list-fits, rate-list-most, rate-list-fits, rates-plain, rates-in, rises-most}
+use Rattle.row_factors.proofs.Escaping.{raises-alike, rates-alike, raise-list-fits, rate-list-most}
+use Rattle.row_factors.proofs.Escaping.{rate-list-fits, rates-plain, rates-in, rises-most}
 use Rattle.row_factors.proofs.season.at_season.Statement.{statement}
 use Rattle.row_factors.proofs.season.at_season.Tie as tie
 
@@ -56,14 +57,24 @@ at-season-spec =
     tie.close
     (tie.spec
     (λ c κs. (c .pre .0, record { at-most = λ k. omega (arith, rises-most (c .pre .1 .season-in) (c .pre .2) .at-most k) }))
-    (λ c κs. let p = c .before .before .before .pre in (p .0, rate-list-most (p .1 .season-in) 0 (omega arith) (rates-plain (p .1 .season-in) (p .1 .marks-are .rate-is))))
+    (λ c κs. let p = c .before .before .before .pre in (
+      p .0,
+      rate-list-most (p .1 .season-in) 0 (omega arith)
+          (rates-plain (p .1 .season-in) (p .1 .marks-are .rate-is)),
+    ))
     (λ c κs. let p = s0 (c .before .before) .pre in (p .0, rate-list-fits (p .1 .season-in) 110 (omega arith) (p .1 .marks-are .soak-is)))
-    (λ c κs. let p = s0 (c .before .before .before .before .before) .pre in (p .0, rate-list-fits (p .1 .season-in) 150 (omega arith) (p .1 .marks-are .run-is)))
-    (λ c κs. let p = s0 (c .before .before .before .before .before .before .before .before) .pre in (p .0, raise-list-fits (p .1 .season-in) 10 (omega arith) (p .1 .marks-are .raise10-is)))
+    (λ c κs. let p = s0 (c .before .before .before .before .before) .pre in
+    (p .0, rate-list-fits (p .1 .season-in) 150 (omega arith) (p .1 .marks-are .run-is)))
+    (λ c κs. let p = s0 (c .before .before .before .before .before .before .before .before) .pre in
+    (p .0, raise-list-fits (p .1 .season-in) 10 (omega arith) (p .1 .marks-are .raise10-is)))
     (λ c κs. let p = s3 (c .before .before) .pre in (p .0, raise-list-fits (p .1 .season-in) 15 (omega arith) (p .1 .marks-are .raise15-is)))
-    (λ c κs. let p = s3 (c .before .before .before .before .before) .pre in (p .0, raise-list-fits (p .1 .season-in) 25 (omega arith) (p .1 .marks-are .raise25-is)))
-    (λ c κs. let p = s3 (c .before .before .before .before .before .before .before .before) .pre in (p .0, raise-list-fits (p .1 .season-in) 35 (omega arith) (p .1 .marks-are .raise35-is)))
+    (λ c κs. let p = s3 (c .before .before .before .before .before) .pre in
+    (p .0, raise-list-fits (p .1 .season-in) 25 (omega arith) (p .1 .marks-are .raise25-is)))
+    (λ c κs. let p = s3 (c .before .before .before .before .before .before .before .before) .pre in
+    (p .0, raise-list-fits (p .1 .season-in) 35 (omega arith) (p .1 .marks-are .raise35-is)))
     (λ c κs. let p = s6 (c .before .before) .pre in (p .0, raise-list-fits (p .1 .season-in) 45 (omega arith) (p .1 .marks-are .raise45-is)))
-    (λ c κs. let p = s6 (c .before .before .before .before .before) .pre in (p .0, raise-list-fits (p .1 .season-in) 50 (omega arith) (p .1 .marks-are .raise50-is)))
-    (λ c κs. let p = s6 (c .before .before .before .before .before .before .before .before) .pre in (p .0, raise-list-fits (p .1 .season-in) 60 (omega arith) (p .1 .marks-are .raise60-is)))
+    (λ c κs. let p = s6 (c .before .before .before .before .before) .pre in
+    (p .0, raise-list-fits (p .1 .season-in) 50 (omega arith) (p .1 .marks-are .raise50-is)))
+    (λ c κs. let p = s6 (c .before .before .before .before .before .before .before .before) .pre in
+    (p .0, raise-list-fits (p .1 .season-in) 60 (omega arith) (p .1 .marks-are .raise60-is)))
     returns)

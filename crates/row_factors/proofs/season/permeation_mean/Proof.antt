@@ -17,7 +17,9 @@ halved-known : (c : tie.After-halved)
     → c .halved .result ≡ tab (λ (cell : ℕ). passedIn (c .before .before .before .before .args .rates .now) cell / 2) 576
 halved-known c =
     c .halved .ensures ∙
-    tab-ext 576 (λ cell h. ap (λ (x : ℕ). x / 2) (rw (c .before .before .before .walk .ensures .0 ∙ walked-is _) (getD-tab (passedIn (c .before .before .before .before .args .rates .now)) 576 cell h)))
+    tab-ext 576 (λ cell h. ap (λ (x : ℕ). x / 2)
+    (rw (c .before .before .before .walk .ensures .0 ∙ walked-is _)
+    (getD-tab (passedIn (c .before .before .before .before .args .rates .now)) 576 cell h)))
 
 walk-requires : tie.Need-walk-requires
 walk-requires c κs = record { at-most = λ k. omega (arith, c .pre .1 .at-most k) }

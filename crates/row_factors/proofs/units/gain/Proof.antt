@@ -17,13 +17,16 @@ share s = mul-le-mul {n₂ = percentLimit} {m₂ = tankLimit} (omega arith) (s .
 
 -- times E(0.0205·vp)
 product : (c : tie.After-exponential)
-    → (100 - c .before .before .before .before .args .row .fill) * c .before .before .before .before .args .row .tank * c .exponential .result ≤ 150000 * 2 ^ 46
+    → (100 - c .before .before .before .before .args .row .fill) * c .before .before .before .before .args .row .tank *
+    c .exponential .result ≤ 150000 * 2 ^ 46
 product c =
     mul-le-mul {n₂ = 150000} {m₂ = 2 ^ 46} (share (c .before .before .before .before)) (le-of-lt (c .exponential .ensures .1))
 
 -- the result is the gain
 same : (c : tie.After-exponential)
-    → (100 - c .before .before .before .before .args .row .fill) * c .before .before .before .before .args .row .tank * c .exponential .result / 40000 ≡ gain (c .before .before .before .before .args .season) (c .before .before .before .before .args .row)
+    → (100 - c .before .before .before .before .args .row .fill) * c .before .before .before .before .args .row .tank *
+    c .exponential .result / 40000 ≡ gain (c .before .before .before .before .args .season)
+    (c .before .before .before .before .args .row)
 unfolding gain
 same c =
     let a = c .before .before .before .before .args in
@@ -41,8 +44,6 @@ gain-spec =
     (tie.spec
     (λ c. search needs)
     (λ c. omega (arith, share (c .before .before)))
-    (λ c. search needs)
-    (λ c. search needs)
-    (λ c κs. search needs)
+    (λ c. search needs) (λ c. search needs) (λ c κs. search needs)
     (λ c. omega (arith, product c))
     returns)

@@ -21,19 +21,22 @@ two-wheeler-units-requires c κs =
 returns : tie.Need-returns
 returns c =
     let s = c .before .before .before .before .before .before in
-    c .car-units .ensures ∙ car-seven (s .args .at .season) (s .args .row) _ (s .pre .0 .means-are) (lt-leb 5 _ (c .before .before .if1 .taken)) (c .before .car .ensures)
+    c .car-units .ensures ∙
+    car-seven (s .args .at .season) (s .args .row) _ (s .pre .0 .means-are)
+    (lt-leb 5 _ (c .before .before .if1 .taken)) (c .before .car .ensures)
 
 returns-2 : tie.Need-returns-2
 returns-2 c =
     let s = c .before .before .before .before .before .before in
-    c .two-wheeler-units .ensures ∙ two-wheeler-seven (s .args .at .season) (s .args .row) _ (s .pre .0 .means-are) (le-leb 5 _ (c .before .before .if1 .left)) (c .before .two-wheeler .ensures)
+    c .two-wheeler-units .ensures ∙
+    two-wheeler-seven (s .args .at .season) (s .args .row) _ (s .pre .0 .means-are)
+    (le-leb 5 _ (c .before .before .if1 .left)) (c .before .two-wheeler .ensures)
 
 pub row-units-spec : {M : Type 1} → statement M
 row-units-spec =
     tie.close
     (tie.spec
-    (λ c κs. search needs)
-    (λ c κs. search needs)
+    (λ c κs. search needs) (λ c κs. search needs)
     car-units-requires
     (λ c κs. search needs)
     two-wheeler-units-requires

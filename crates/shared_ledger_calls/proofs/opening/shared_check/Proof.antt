@@ -23,8 +23,7 @@ pub shared-check-spec : {M : Type 1} → statement M
 shared-check-spec =
     tie.close
     (tie.spec
-    (λ c κs. search needs)
-    (λ c. search needs)
+    (λ c κs. search needs) (λ c. search needs)
     returns
     (λ c. search needs)
     shares-check-requires

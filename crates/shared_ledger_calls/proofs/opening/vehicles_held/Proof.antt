@@ -28,15 +28,29 @@ vehicles-of-requires c κs = let p = c .before .before .before .before .before .
 add-sum : tie.Need-add-sum Inv-loop μ-loop
 add-sum c =
     let p = c .before .before .before .before .before .before .before .pre in
-    record { fits = omega (arith, accepted _ (p .0) .rows-most, rows-limit (c .before .before .before .before .before .before .before .args .s .now), p .1, c .before .vehicles-of .ensures .1, c .theirs .ensures .1, c .before .before .before .before .loop .inv .1) }
+    record {
+      fits = omega (
+        arith,
+        accepted _ (p .0) .rows-most,
+        rows-limit (c .before .before .before .before .before .before .before .args .s .now),
+        p .1,
+        c .before .vehicles-of .ensures .1,
+        c .theirs .ensures .1,
+        c .before .before .before .before .loop .inv .1,
+      );
+    }
 
 loop-again : tie.Need-loop-again Inv-loop μ-loop
 unfolding vehiclesHeld
 loop-again c =
     let l = c .before .before .before .before .loop in
     let x = c .before .before .before .before .before .before .before .args in
-    let one = c .theirs .ensures in
-    (search needs, omega (arith, one .1, c .before .vehicles-of .ensures .1), sum-more _ (l .i) (l .inv .2) (one .0 ∙ cc (c .before .before .owner-at .ensures, c .before .vehicles-of .ensures .0)))
+    let one = c .theirs .ensures in (
+      search needs,
+      omega (arith, one .1, c .before .vehicles-of .ensures .1),
+      sum-more _ (l .i) (l .inv .2)
+          (one .0 ∙ cc (c .before .before .owner-at .ensures, c .before .vehicles-of .ensures .0)),
+    )
 
 returns : tie.Need-returns Inv-loop μ-loop
 unfolding vehiclesHeld
@@ -53,7 +67,6 @@ vehicles-held-spec =
     vehicles-of-requires
     (λ c κs. search needs)
     add-sum
-    (λ c. search needs)
-    (λ c. search needs)
+    (λ c. search needs) (λ c. search needs)
     loop-again
     returns)

@@ -54,8 +54,7 @@ rows-kept-spec =
     row-kept-requires
     (λ c. omega (arith, inside (c .before)))
     (λ c. omega (arith, inside (c .before)))
-    (λ c. search needs)
-    (λ c. search needs)
+    (λ c. search needs) (λ c. search needs)
     loop-again
     (λ c.
     let n = c .before .before in

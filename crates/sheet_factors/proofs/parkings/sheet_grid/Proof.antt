@@ -11,6 +11,5 @@ pub sheet-grid-spec : {M : Type 1} → statement M
 sheet-grid-spec =
     tie.close
     (tie.spec
-    (λ c κs. search needs)
-    (λ c κs. search needs)
+    (λ c κs. search needs) (λ c κs. search needs)
     returns)

@@ -51,8 +51,7 @@ put-all-spec =
     μ-loop
     loop-holds
     put-species-requires
-    (λ c. search needs)
-    (λ c. search needs)
+    (λ c. search needs) (λ c. search needs)
     loop-again
     (λ c. put-length (returns c))
     returns)

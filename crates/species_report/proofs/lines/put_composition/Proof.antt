@@ -30,8 +30,7 @@ pub put-composition-spec : {M : Type 1} → statement M
 put-composition-spec =
     tie.close
     (tie.spec
-    (λ c. search needs)
-    (λ c. search needs)
+    (λ c. search needs) (λ c. search needs)
     put-pair-requires
     put-all-requires
     (λ c. put-length (returns c))

@@ -40,8 +40,7 @@ put-species-spec =
     tie.close
     (tie.spec
     put-name-requires
-    (λ c. search needs)
-    (λ c. search needs)
+    (λ c. search needs) (λ c. search needs)
     put-number-requires
     (λ c. search needs)
     put-requires

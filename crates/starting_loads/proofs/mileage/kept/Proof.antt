@@ -24,10 +24,7 @@ pub kept-spec : {M : Type 1} → statement M
 kept-spec =
     tie.close
     (tie.spec
-    (λ c. search needs)
-    (λ c. search needs)
-    (λ c. search needs)
-    (λ c. search needs)
+    (λ c. search needs) (λ c. search needs) (λ c. search needs) (λ c. search needs)
     (λ c. let t = most c in record { fits = omega arith })
     (λ c. search needs)
     (λ c. let t = most c in record { fits = omega arith })

@@ -9,6 +9,5 @@ pub net-spec : {M : Type 1} → statement M
 net-spec =
     tie.close
     (tie.spec
-    (λ c κs. search needs)
-    (λ c κs. search needs)
+    (λ c κs. search needs) (λ c κs. search needs)
     (λ c. (c .kept .ensures .0 ∙ ap (net _) (c .before .short .ensures .0), c .kept .ensures .1)))

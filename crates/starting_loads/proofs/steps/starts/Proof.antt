@@ -73,7 +73,6 @@ starts-spec =
     (λ c κs. search needs)
     loop-holds
     round-requires
-    (λ c. search needs)
-    (λ c. search needs)
+    (λ c. search needs) (λ c. search needs)
     loop-again
     returns)

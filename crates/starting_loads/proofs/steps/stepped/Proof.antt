@@ -11,7 +11,15 @@ add-smaller-2 : tie.Need-add-smaller-2
 add-smaller-2 c =
     let d = c .before in
     let s = d .before .before .before in
-    record { fits = omega (arith, div-le-self (d .minus .result * 524288) (524288 - c .slope .result), d .minus .ensures, d .before .smaller .ensures, s .pre .0 .saturation-below) }
+    record {
+      fits = omega (
+        arith,
+        div-le-self (d .minus .result * 524288) (524288 - c .slope .result),
+        d .minus .ensures,
+        d .before .smaller .ensures,
+        s .pre .0 .saturation-below,
+      );
+    }
 
 returns : tie.Need-returns
 unfolding added stepped
@@ -21,14 +29,8 @@ pub stepped-spec : {M : Type 1} → statement M
 stepped-spec =
     tie.close
     (tie.spec
-    (λ c. search needs)
-    (λ c. search needs)
-    (λ c κs. search needs)
-    (λ c κs. search needs)
-    (λ c. search needs)
-    (λ c κs. search needs)
-    (λ c. search needs)
-    (λ c. search needs)
+    (λ c. search needs) (λ c. search needs) (λ c κs. search needs) (λ c κs. search needs) (λ c. search needs)
+    (λ c κs. search needs) (λ c. search needs) (λ c. search needs)
     add-smaller-2
     (λ c κs. search needs)
     returns)

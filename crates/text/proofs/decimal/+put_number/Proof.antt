@@ -24,7 +24,8 @@ abbrev put-number-below : ℕ → In 1 put-number-kinds.ps
 put-number-below t = and 1 put-number-kinds.ps (falls 1 put-number-kinds.ps _<_ μ-put-number t) put-number.Pre
 
 module _ (t : ℕ) where
-  put-byte-requires : put-number-lts.Need-put-byte-requires (put-byte.Asked, put-byte.Learnt, put-number-below t, put-number.Post) (put-number-at t) put-number.Post
+  put-byte-requires : put-number-lts.Need-put-byte-requires
+      (put-byte.Asked, put-byte.Learnt, put-number-below t, put-number.Post) (put-number-at t) put-number.Post
   put-byte-requires c κs =
       room-small (c .before .if1 .taken) (c .before .before .before .pre .1)
 
@@ -33,12 +34,14 @@ module _ (t : ℕ) where
       let call = c .before .before in
       put-small (call .before .before .if1 .taken) (call .put-byte .ensures)
 
-  put-number-requires : put-number-lts.Need-put-number-requires (put-byte.Asked, put-byte.Learnt, put-number-below t, put-number.Post) (put-number-at t) put-number.Post
+  put-number-requires : put-number-lts.Need-put-number-requires
+      (put-byte.Asked, put-byte.Learnt, put-number-below t, put-number.Post) (put-number-at t) put-number.Post
   put-number-requires c κs =
       let start = c .before .before .before in
       (omega (arith, start .pre .0), room-tenth (c .before .if1 .left) (start .pre .1))
 
-  put-byte-requires-2 : put-number-lts.Need-put-byte-requires-2 (put-byte.Asked, put-byte.Learnt, put-number-below t, put-number.Post) (put-number-at t) put-number.Post
+  put-byte-requires-2 : put-number-lts.Need-put-byte-requires-2
+      (put-byte.Asked, put-byte.Learnt, put-number-below t, put-number.Post) (put-number-at t) put-number.Post
   put-byte-requires-2 c κs =
       let call = c .before .before .before in
       let large = call .before .before .if1 .left in
@@ -54,14 +57,12 @@ pub +put-number-spec : {M : Type 1} → statement M
 +put-number-spec =
     close μ-put-number (λ t.
     put-number-lts.spec (put-byte.Asked, put-byte.Learnt, put-number-below t, put-number.Post) (put-number-at t) put-number.Post
-    (λ c. search needs)
-    (λ c. search needs)
+    (λ c. search needs) (λ c. search needs)
     (put-byte-requires t)
     (λ c. put-length (returns t c))
     (returns t)
     (put-number-requires t)
-    (λ c. search needs)
-    (λ c. search needs)
+    (λ c. search needs) (λ c. search needs)
     (put-byte-requires-2 t)
     (λ c. put-length (returns-2 t c))
     (returns-2 t))

@@ -49,8 +49,7 @@ put-spec =
     loop-holds
     (λ c. search needs)
     put-byte-requires
-    (λ c. search needs)
-    (λ c. search needs)
+    (λ c. search needs) (λ c. search needs)
     loop-again
     (λ c. put-length (returns c))
     returns)

@@ -40,8 +40,7 @@ pub put-report-spec : {M : Type 1} → statement M
 put-report-spec =
     tie.close
     (tie.spec
-    (λ c. search needs)
-    (λ c. search needs)
+    (λ c. search needs) (λ c. search needs)
     put-pair-requires
     put-rows-requires
     (λ c. search needs)

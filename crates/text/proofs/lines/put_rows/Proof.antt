@@ -50,8 +50,7 @@ put-rows-spec =
     μ-loop
     loop-holds
     put-row-requires
-    (λ c. search needs)
-    (λ c. search needs)
+    (λ c. search needs) (λ c. search needs)
     loop-again
     (λ c. put-length (returns c))
     returns)

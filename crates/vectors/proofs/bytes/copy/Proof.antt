@@ -21,11 +21,6 @@ copy-spec =
     (tie.spec
     Inv-loop
     μ-loop
-    (λ c. search needs)
-    (λ c. search needs)
-    (λ c. search needs)
-    (λ c. search needs)
-    (λ c. search needs)
+    (λ c. search needs) (λ c. search needs) (λ c. search needs) (λ c. search needs) (λ c. search needs)
     loop-again
-    (λ c. search needs)
-    (λ c. search needs))
+    (λ c. search needs) (λ c. search needs))
