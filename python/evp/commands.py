@@ -22,6 +22,7 @@ from evp.sheet.reader import told_version
 from evp.wording import name_shown
 
 MOST_LINES = 20  # of messages that any input can make
+MOST_HINTS = 12  # of these
 FINE, REFUSED = 0, 1
 
 
@@ -43,12 +44,12 @@ def say(lines: Iterable[str]):
         print(line)
 
 
-def limited(lines: Iterable[str], rest: str) -> list[str]:
+def limited(lines: Iterable[str], rest: str, most: int = MOST_LINES) -> list[str]:
     """No more lines than a screen has."""
     lines = list(lines)
-    if len(lines) <= MOST_LINES:
+    if len(lines) <= most:
         return lines
-    return [*lines[:MOST_LINES - 1], "%d more %s" % (len(lines) - MOST_LINES + 1, rest)]
+    return [*lines[:most - 1], "%d more %s" % (len(lines) - most + 1, rest)]
 
 
 def print_json(found: object):
@@ -231,10 +232,11 @@ def mark(given: Namespace) -> int:
         raise InputError("%s: a folder with sheets is wanted" % name_shown(given.folder))
     sheets = marking.read_sheets(library, given.folder, Progress())
     marks = marking.marks_of(library, sheets, filed.filings)
-    lines = limited(marking.summary(marks, len(sheets)), "sheets to look at")
+    summary, remarks = marking.summary(marks, len(sheets)), []
     if given.hints:
         marks, remarks = with_hints(library, sheets, filed.filings, marks, Progress())
-        lines += limited(remarks, "such lines; the notes of the marks have all")
+    hints = limited(remarks, "such lines; the notes of the marks have all", MOST_HINTS)  # both on one screen
+    lines = [*limited(summary, "sheets to look at", MOST_LINES - len(hints)), *hints]
     if given.output:
         text = marking.marks_csv(marks, filed.semicolon)
         write_file(given.output, text.encode("utf-8", "surrogateescape"), given.force)  # names as the folder has them

@@ -25,6 +25,12 @@ COLUMNS = ["sheet", "row", "mechanism", "mass", "unit", "verdict", "low_mg", "hi
 class CourseTest(DeskTestCase):
     """Thirty sheets of a course."""
 
+    def test_one_screen(self):
+        """With hints the summary has fewer lines, so that both stand on one screen."""
+        found = run("mark", COURSE, "--filed", COURSE / "filed.csv", "-o", self.folder / "marks.csv", "--hints")
+        self.assertIn("\n8 more sheets to look at\n", found.out)
+        self.assertEqual(len(found.out.splitlines()), 21)  # and the line of the file
+
     def test_stored_marks(self):
         target = self.folder / "marks.csv"
         found = run("mark", COURSE, "--filed", COURSE / "filed.csv", "-o", target)
