@@ -1,6 +1,6 @@
 -- What the code of the ledger's calls needs: condition 29 from the count of the row, and each outcome as the definition has it.
 -- Assumes nothing.
-use mathlib.Core.Bool.{Bool, true, false, _||_}
+use mathlib.Core.Bool.{Bool, true, false, true≢false}
 use mathlib.Core.List.{List}
 use mathlib.Core.Path.{_≡_, refl, sym, ap, _∙_}
 use Prim.Native.Nat.{ℕ, _+_, _*_, _-_, _≤_, _<_}
@@ -40,14 +40,14 @@ room-left v k h =
     ]
 
 -- An allowed arrival keeps to the row's limit, and an allowed departure to its count.
-first-false : (b c : Bool) → (b || c) ≡ false → b ≡ false
-first-false true c h = h
-first-false false c h = refl
-
 module _ {call : Call} {i k : ℕ} (many : Bool) (fleet v : ℕ) where
   pub arrival-fits : call ≡ Arrival i k → past many fleet v call ≡ false → v + k ≤ vehiclesLimit
   unfolding past
-  arrival-fits e h = ltb-false vehiclesLimit (v + k) (first-false (ltb vehiclesLimit (v + k)) _ (rw e at h))
+  arrival-fits e h =
+      elim (decLe (v + k) vehiclesLimit) [
+        | yes l ↦ l
+        | no l ↦ absurd (true≢false (rw (e, lt-ltb vehiclesLimit (v + k) (omega arith)) at h))
+      ]
 
   pub departure-fits : call ≡ Departure i k → past many fleet v call ≡ false → k ≤ v
   unfolding past

@@ -21,6 +21,7 @@ mileage-finding-requires c κs =
 returns : tie.Need-returns
 unfolding rowFinding
 returns c =
+    let made = c .before .before .before .before .before .before in
     rw (
       c .or-else6 .ensures,
       c .before .or-else5 .ensures,
@@ -28,16 +29,16 @@ returns c =
       c .before .before .before .or-else3 .ensures,
       c .before .before .before .before .or-else2 .ensures,
       c .before .before .before .before .before .or-else .ensures,
-      c .before .before .before .before .before .before .mileage-finding .ensures,
-      c .before .before .before .before .before .before .before .saturation-finding .ensures,
-      c .before .before .before .before .before .before .before .before .load-finding .ensures,
-      c .before .before .before .before .before .before .before .before .before .use-finding .ensures,
-      c .before .before .before .before .before .before .before .before .before .before .fleet-finding .ensures,
-      c .before .before .before .before .before .before .before .before .before .before .before .percent-finding .ensures,
-      c .before .before .before .before .before .before .before .before .before .before .before .before .class-finding .ensures,
-      c .before .before .before .before .before .before .before .before .before .before .before .before .before .row-place .ensures,
-      c .before .before .before .before .before .before .before .before .before .before .before .before .before .before .row-at .ensures .0,
-      c .before .before .before .before .before .before .before .before .before .before .before .before .before .before .before .before .pre .2,
+      made .mileage-finding .ensures,
+      made .before .saturation-finding .ensures,
+      made .before .before .load-finding .ensures,
+      made .before .before .before .use-finding .ensures,
+      made .before .before .before .before .fleet-finding .ensures,
+      made .before .before .before .before .before .percent-finding .ensures,
+      made .before .before .before .before .before .before .class-finding .ensures,
+      made .before .before .before .before .before .before .before .row-place .ensures,
+      made .before .before .before .before .before .before .before .before .row-at .ensures .0,
+      made .before .before .before .before .before .before .before .before .before .before .pre .2,
     )
 
 pub row-finding-spec : {M : Type 1} → statement M

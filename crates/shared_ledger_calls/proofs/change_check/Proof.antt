@@ -32,13 +32,16 @@ right-is : (c : tie.After-owner-of) → let x =
     (rowOf (x .call))
 right-is c = may-change-is _ _ _ (c .owner-of .ensures) (c .before .row-named .ensures)
 
+-- from the test of 31 back to the start
+abbrev begun : tie.After-past-share → tie.Start
+begun c = let barred = c .before .before .before .before .before .before .before in barred .before .before .before .before .before .before
+
 -- the test of 31
-past-is : (c : tie.After-past-share) → let x =
-    c .before .before .before .before .before .before .before .before .before .before .before .before .before .args in
+past-is : (c : tie.After-past-share) → let x = begun c .args in
     c .past-share .result ≡ pastShare (vehiclesHeld (x .s .now) (x .owners .now) (x .who) (rowsOf (x .s .now)))
     (x .call)
 past-is c =
-    let x = c .before .before .before .before .before .before .before .before .before .before .before .before .before .args in
+    let x = begun c .args in
     c .past-share .ensures ∙
     ap (λ (v : ℕ). pastShare v (x .call))
     (c .before .vehicles-held .ensures ∙

@@ -36,8 +36,8 @@ row-words-requires c κs =
 returns : tie.Need-returns
 returns c =
     let year = c .before .before .before .before .before .before in
-    let n = 6 * rowsOf
-    (c .before .before .before .before .before .before .before .before .before .before .before .before .before .before .before .args .s .now) in
+    let start = year .before .before .before .before .before .before .before .before .before in
+    let n = 6 * rowsOf (start .args .s .now) in
     filled-twice _ _ _ n n (omega arith)
     (zeros (c .before .before .before .before .before .before .before .before .before .before))
     (filled-twice _ _ _ n n (omega arith) (year .add-year .ensures) (c .before .before .row-words .ensures))

@@ -12,7 +12,8 @@ start f = f .before .before .before .before .before .before
 
 returns : tie.Need-returns
 returns c =
-    let f = c .before .before .before .before .before .before .before .before .before .before .before .before .before in
+    let hot = c .before .before .before .before .before .before in
+    let f = hot .before .before .before .before .before .before .before in
     let q = start f .pre in
     let e = f .fit .ensures in
     record {
