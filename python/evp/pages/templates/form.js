@@ -114,7 +114,9 @@
       cell.append(words);
       place.append(cell);
       line.classList.add("has-fault");
-      line.after(place);
+      var last = line;  // what was told of this line before stands above
+      while (last.nextElementSibling && last.nextElementSibling.matches("tr.fault-row")) last = last.nextElementSibling;
+      last.after(place);
     } else if (control) {
       field.closest(".counts, .scroll").after(words);
     } else field.append(words);
