@@ -1,11 +1,14 @@
 -- Stores one after another, from a place on: what stands in them, before them and past them.
 -- Assumes nothing.
 use mathlib.Core.List.{List, [], _∷_, _++_}
-use mathlib.Core.Path.{_≡_, refl, _∙_, ap}
+use mathlib.Core.Path.{_≡_, refl, sym, _∙_, ap}
 use Prim.Native.Nat.{ℕ, suc, zero, _+_, _≤_, _<_}
+use native.Mathlib.Numerals.{add-one}
 use native.Mathlib.Omega.{arith}
 use lib.ListN.{length, getD, set, drop, length-set}
 use lib.Seq.{sets, drop-set-lt, getD-set-same, getD-set-other}
+use Rattle.numbers.specs.Lists.{tab}
+use Rattle.numbers.proofs.Lists.{tab-length}
 
 -- a store past the others
 pub sets-more : (l : List ℕ) (i : ℕ) (vs : List ℕ) (v : ℕ) → set (sets l i vs) (i + length vs) v ≡ sets l i (vs ++ (v ∷ []))
@@ -38,3 +41,16 @@ sets-beyond l i (a ∷ vs) j h = sets-beyond (set l i a) (suc i) vs j (omega ari
 pub drop-sets : (l : List ℕ) (i : ℕ) (vs : List ℕ) (n : ℕ) → i + length vs ≤ n → drop n (sets l i vs) ≡ drop n l
 drop-sets l i [] n h = refl
 drop-sets l i (a ∷ vs) n h = drop-sets (set l i a) (suc i) vs n (omega arith) ∙ drop-set-lt n l i a (omega arith)
+
+-- A run of stores, those of g from a place on.
+module _ (g : ℕ → ℕ) (old : List ℕ) (at m : ℕ) {words : List ℕ} (e : words ≡ sets old at (tab g m)) where
+  -- the next word is still the old one
+  pub run-next : getD words (at + m) 0 ≡ getD old (at + m) 0
+  run-next = rw e (sets-beyond old at (tab g m) (at + m) (omega (arith, tab-length g m)))
+
+  -- one more
+  pub run-more : {v : ℕ} → v ≡ g m → set words (at + m) v ≡ sets old at (tab g (m + 1))
+  unfolding tab
+  run-more {v} h =
+      rw (e, h, add-one)
+      (ap (λ (k : ℕ). set (sets old at (tab g m)) (at + k) (g m)) (sym (tab-length g m)) ∙ sets-more old at (tab g m) (g m))

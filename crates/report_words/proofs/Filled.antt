@@ -10,7 +10,6 @@ use lib.ListN.{length, getD, set, take, drop, length-append, take-append-drop, L
 use lib.Seq.{length-take-le, sets, set-at, drop-at, drop-cons, drop-drop, getD-append-add, getD-drop, getD-take, ext-getD}
 use Rattle.numbers.specs.Lists.{tab}
 use Rattle.numbers.proofs.Lists.{tab-length, getD-tab}
-use Rattle.numbers.proofs.Stores.{sets-more, sets-beyond}
 use Rattle.report_words.specs.Years.{filled}
 
 module _ (f : ℕ → ℕ) (old : List ℕ) where
@@ -88,16 +87,3 @@ pub tab-getD : (xs : List ℕ) → tab (λ (k : ℕ). getD xs k 0) (length xs) �
 tab-getD xs =
     ext-getD 0 (tab (λ (k : ℕ). getD xs k 0) (length xs)) xs (tab-length _ (length xs))
     (λ k l. getD-tab (λ (k : ℕ). getD xs k 0) (length xs) k (rw (tab-length _ (length xs)) at l))
-
--- A run of stores, those of g from a place on.
-module _ (g : ℕ → ℕ) (old : List ℕ) (at m : ℕ) {words : List ℕ} (e : words ≡ sets old at (tab g m)) where
-  -- the next word is still the old one
-  pub run-next : getD words (at + m) 0 ≡ getD old (at + m) 0
-  run-next = rw e (sets-beyond old at (tab g m) (at + m) (omega (arith, tab-length g m)))
-
-  -- one more
-  pub run-more : {v : ℕ} → v ≡ g m → set words (at + m) v ≡ sets old at (tab g (m + 1))
-  unfolding tab
-  run-more {v} h =
-      rw (e, h, add-one)
-      (ap (λ (k : ℕ). set (sets old at (tab g m)) (at + k) (g m)) (sym (tab-length g m)) ∙ sets-more old at (tab g m) (g m))

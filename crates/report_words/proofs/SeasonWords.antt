@@ -46,19 +46,20 @@ module _ (s : List ℕ) (season : Season) (old words : List ℕ) (i : ℕ) (e : 
       filled-all (seasonAdded s season old) old _ n (omega arith) (omega arith)
 
 -- Season j, where the seasons before it have been added.
-module _ (s words : List ℕ) (j : ℕ) (first : take (6 * rowsOf s) words ≡ tab (yearWord s j) (6 * rowsOf s)) where
+module _ (s words : List ℕ) (j : ℕ) {season : Season} (same : season ≡ seasonAt s j)
+    (first : take (6 * rowsOf s) words ≡ tab (yearWord s j) (6 * rowsOf s)) where
   -- word k
-  season-added : (k : ℕ) → k < 6 * rowsOf s → seasonAdded s (seasonAt s j) words k ≡ yearWord s (j + 1) k
+  season-added : (k : ℕ) → k < 6 * rowsOf s → seasonAdded s season words k ≡ yearWord s (j + 1) k
   unfolding seasonFigure
-  season-added k h = rw (first-at (yearWord s j) words _ k first h) (year-more s j k)
+  season-added k h = rw (same, first-at (yearWord s j) words _ k first h) (year-more s j k)
 
   -- the words fit
-  pub season-fits : Bytes s → Accepted s → j < seasonsOf s → SeasonFits s (seasonAt s j) words
+  pub season-fits : Bytes s → Accepted s → j < seasonsOf s → SeasonFits s season words
   season-fits bytes a there =
       record { word-fits = λ k h. rw (season-added k h) (omega (arith, year-word-most bytes a (j + 1) k (omega arith) h, year-fits)) }
 
   -- and are those of one season more
-  pub season-stored : filled (seasonAdded s (seasonAt s j) words) (6 * rowsOf s) words ≡ filled (yearWord s (j + 1)) (6 * rowsOf s) words
+  pub season-stored : filled (seasonAdded s season words) (6 * rowsOf s) words ≡ filled (yearWord s (j + 1)) (6 * rowsOf s) words
   season-stored = ap (λ (r : List ℕ). r ++ drop (6 * rowsOf s) words) (tab-ext (6 * rowsOf s) season-added)
 
 -- no season in words that are 0

@@ -5,7 +5,6 @@ use fields::rows_of;
 use fields::season_at;
 use fields::seasons_of;
 use masses::figures::row_figures;
-use row_factors::season::AtSeason;
 use row_factors::season::prepare;
 use sheet_factors::kept::rows_kept;
 use sheet_factors::parkings::sheet_grid;
@@ -14,15 +13,11 @@ ghost use Prim.Native.Nat.{ℕ, _+_, _*_, _≤_, _<_};
 ghost use lib.ListN.{length};
 ghost use lib.Seq.{sets};
 ghost use Rattle.numbers.specs.Lists.{tab};
-ghost use Rattle.parking.specs.Grid.{cellsIn};
-ghost use Rattle.parking.specs.SeasonList.{ListReady};
-ghost use Rattle.row_factors.specs.Season.{risesOf};
 ghost use Rattle.sheet.specs.declared.Check.the-variants.{Pass};
 ghost use Rattle.sheet.specs.Bytes.{seasonsOf, rowsOf};
 ghost use Rattle.sheet.specs.Sheet.{sheetCheck};
-ghost use Rattle.sheet_factors.specs.Lent.{SheetLent, RowsKept, SeasonLent};
-ghost use Rattle.report_words.specs.Years.{RowsHold, SeasonFits, SumsFit};
-ghost use Rattle.report_words.specs.Years.{daysAdded, seasonAdded, yearWord, filled};
+ghost use Rattle.sheet_factors.specs.Lent.{SheetLent, RowsKept};
+ghost use Rattle.report_words.specs.Years.{RowsHold, SumsFit, daysAdded, yearWord, filled};
 
 // The first n words are set to 0.
 pub fn clear(words: &mut [u64], n: usize)
@@ -48,32 +43,7 @@ pub fn add_days(words: &mut [u64], at: usize, days: u64, figures: [u64; 6])
     }
 }
 
-// A season in all rows: what one vehicle of a row loses on its days is added to the row's six words.
-fn add_rows(
-    tables: &[u64; 1907],
-    grid: &[u64; 627],
-    list: &[u64; 1732],
-    kept: &[u64; 1000],
-    at: AtSeason,
-    s: &[u8],
-    words: &mut [u64],
-)
-    requires { ⌜ SeasonLent (now s) (now tables) (now grid) at × ListReady (cellsIn (now grid)) (risesOf (at .season)) (now list)
-        × (6 * rowsOf (now s) ≤ length (now words)) × SeasonFits (now s) (at .season) (now words) × RowsKept (now s) (now kept) ⌝ }
-    ensures { λ _. ⌜ now (words .exit)
-        ≡ filled (seasonAdded (now (s .entry)) (at .season) (now (words .entry))) (6 * rowsOf (now (s .entry))) (now (words .entry)) ⌝ }
-{
-    let season = at.season;
-    let rows = rows_of(s);
-    let mut i: usize = 0;
-    while i < rows {
-        let figures = row_figures(tables, grid, list, at, row_at(s, i), kept[i]);
-        add_days(words, 6 * i, season.days, figures);
-        i += 1;
-    }
-}
-
-// Season j is made ready once, for all rows.
+// Season j, made ready once for all rows: what one vehicle of a row loses on its days is added to the row's six words.
 fn add_season(
     tables: &[u64; 1907],
     grid: &[u64; 627],
@@ -87,7 +57,24 @@ fn add_season(
     ensures { λ _. ⌜ now (words .exit) ≡ filled (yearWord (now (s .entry)) (j + 1)) (6 * rowsOf (now (s .entry))) (now (words .entry)) ⌝ }
 {
     let prepared = prepare(tables, grid, season_at(s, j), true);
-    add_rows(tables, grid, &prepared.list, kept, prepared.at, s, words);
+    let day = prepared.day;
+    let at = prepared.at;
+    let season = at.season;
+    let rows = rows_of(s);
+    let mut i: usize = 0;
+    while i < rows {
+        let figures = row_figures(
+            tables,
+            grid,
+            &prepared.list,
+            &day,
+            at,
+            row_at(s, i),
+            kept[i],
+        );
+        add_days(words, 6 * i, season.days, figures);
+        i += 1;
+    }
 }
 
 // All seasons.

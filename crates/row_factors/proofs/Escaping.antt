@@ -16,7 +16,7 @@ use Rattle.exact.specs.declared.Row.{Row}
 use Rattle.sheet.specs.Range.{markWarmth}
 use Rattle.marks.specs.Marks.{raise, rate, tenths}
 use Rattle.exact.specs.Factors.{endHour, duration}
-use Rattle.marks.specs.AtMarks.{AtMarks, raisesBy, ratesAt}
+use Rattle.marks.specs.AtMarks.{raisesBy, ratesAt}
 use Rattle.marks.proofs.Heat.{raise-most}
 use Rattle.marks.proofs.Permeation.{rate-most}
 use Rattle.marks.proofs.Curve.{season-rise-most}
@@ -42,7 +42,7 @@ use Rattle.breakthrough.specs.Through.{CurvesReady, curveAt, through}
 use Rattle.breakthrough.proofs.Fitted.{curves-ready, through-is, through-none, through-alike}
 use Rattle.row_factors.specs.declared.season.AtSeason.{AtSeason}
 use Rattle.row_factors.specs.declared.escapes.Escapes.{Escapes}
-use Rattle.row_factors.specs.Season.{meanAt, MarksReady, risesOf, RowLent}
+use Rattle.row_factors.specs.Season.{meanAt, risesOf, RaisedAt, DayReady, RowLent}
 use Rattle.row_factors.specs.Seven.{parkingThrough, raiseThrough, parkingEscape, VapourOf, CarEscapes, TwoWheelerEscapes}
 
 module _ (season : Season) (row : Row) (counts : List ℕ) where
@@ -91,8 +91,11 @@ rates-alike season k i h = ap (λ (θ : ℕ). rate (season .vp) (θ + tenths k))
 
 -- How large the values at the marks are.
 module _ {season : Season} (s : SeasonInRange season) where
+  raise-mark-most : (k mark : ℕ) → k ≤ 60 → raisesBy season k mark ≤ 56 * 2 ^ 40
+  raise-mark-most k mark h = raise-most (tenths k) (markWarmth season mark) (omega arith) (warmth-most mark s)
+
   raise-list-most : (k : ℕ) {xs : List ℕ} → k ≤ 60 → xs ≡ tab (raisesBy season k) 48 → AllAtMost (56 * 2 ^ 40) xs
-  raise-list-most k h e = tab-at-most _ 48 e (λ mark _. raise-most (tenths k) (markWarmth season mark) (omega arith) (warmth-most mark s))
+  raise-list-most k h e = tab-at-most _ 48 e (λ mark _. raise-mark-most k mark h)
 
   pub raise-list-fits : (k : ℕ) {xs : List ℕ} → k ≤ 60 → xs ≡ tab (raisesBy season k) 48 → AllAtMost (2 ^ 54) xs
   raise-list-fits k h e = record { at-most = λ i. omega (arith, raise-list-most k h e .at-most i) }
@@ -135,14 +138,14 @@ module _ {season : Season} {row : Row} {c : Curves} (f : CurvesOf season row c) 
       escape-through season row cells (row .canister) p startOf (parkingRise season)
 
   -- over a raise by so many tenths of °C
-  raise-escape : (ends : Bool) (k : ℕ) {raises : List ℕ} → raises ≡ tab (raisesBy season k) 48
-      → raiseThrough cells ends raises c ≡ escapeOverUnits season row cells (markOf ends) (tenths k)
+  raise-escape : (ends : Bool) (k : ℕ) (day : List ℕ) (place : ℕ) → RaisedAt season k day place
+      → raiseThrough cells ends day place c ≡ escapeOverUnits season row cells (markOf ends) (tenths k)
   unfolding escapeOverUnits
-  raise-escape ends k e =
+  raise-escape ends k day place e =
       mean-ext cells
       (λ cell.
-      let raised = getD-tab (raisesBy season k) 48 (ahead (apartOf ends cell)) (omega arith) in
-      rw (e, raised, raises-alike season k (markOf ends cell) (markOf-below ends cell)) (through-from ends cell _)) ∙
+      rw (e (apartOf ends cell) (apartOf-below ends cell), raises-alike season k (markOf ends cell) (markOf-below ends cell))
+      (through-from ends cell _)) ∙
       escape-through season row cells (row .canister) p (markOf ends) (λ (cell : ℕ). raisesBy season k (markOf ends cell))
 
 -- five rises
@@ -158,39 +161,37 @@ five-most {a} {b} {c} {d} {e} {bound} p q r s t = record { at-most = each }
     each (suc (suc (suc (suc (suc k))))) = omega arith
 
 -- A row with a canister, from the warmths of its season by distance from 14:00.
-pub fit-needs : {tables grid list warmths : List ℕ} {given : AtSeason} {row : Row} {vapour kept : ℕ}
-    → RowLent tables grid list given row vapour kept × (0 < halves (row .canister))
-    → warmths ≡ tab (λ (d : ℕ). at (given .marks .warmth) (ahead d)) 25 → (tables ≡ entries) × FitReady (given .season) row warmths vapour kept
-fit-needs {given = given} q e =
-    let m = q .0 .lent .marks-ready in
-    let warm : (d : ℕ) → d < 25 → at (given .marks .warmth) (ahead d) ≡ markWarmth (given .season) (ahead d)
-    = (λ d h. rw (m .marks-are .warmth-is) (getD-tab (markWarmth (given .season)) 48 (ahead d) (omega arith))) in (
+pub fit-needs : {tables grid list day warmths : List ℕ} {given : AtSeason} {row : Row} {vapour kept : ℕ}
+    → RowLent tables grid list day given row kept × (0 < halves (row .canister)) → warmths ≡ tab (λ (d : ℕ). at day (0 + d)) 25
+    → vapour ≡ gain (given .season) row → (tables ≡ entries) × FitReady (given .season) row warmths vapour kept
+fit-needs {day = day} q e v =
+    let m = q .0 .lent .day-ready in (
       q .0 .lent .tables-are,
       record {
         season-in = m .season-in;
         row-in = q .0 .row-in;
         canister-there = q .1;
-        warmths-are = e ∙ tab-ext 25 warm;
-        vapour-is = q .0 .vapour-is;
+        warmths-are = e ∙ tab-ext 25 (λ d h. ap (at day) {x = 0 + d} {y = d} (omega arith) ∙ m .warmths-are d h);
+        vapour-is = v;
         kept-of = q .0 .kept-of;
       },
     )
 
 -- A row with a canister, and what is lent to its functions: what they need, and that each mean is its escape.
-module _ {tables grid list : List ℕ} {given : AtSeason} {row : Row} {vapour kept : ℕ}
-    (q : RowLent tables grid list given row vapour kept × (0 < halves (row .canister))) {c : Curves} (f : CurvesOf (given .season) row c) where
-  marks-of : MarksReady (given .season) (given .marks)
-  marks-of = q .0 .lent .marks-ready
+module _ {tables grid list day : List ℕ} {given : AtSeason} {row : Row} {kept : ℕ}
+    (q : RowLent tables grid list day given row kept × (0 < halves (row .canister))) {c : Curves} (f : CurvesOf (given .season) row c) where
+  its-day : DayReady (given .season) day
+  its-day = q .0 .lent .day-ready
 
   fitted : CurvesReady c
-  fitted = curves-ready (marks-of .season-in) (q .0 .row-in) (q .1) f
+  fitted = curves-ready (its-day .season-in) (q .0 .row-in) (q .1) f
 
   pub parking-needs : (tables ≡ entries) × GridReady grid × CurvesReady c × ListFits (72 * 2 ^ 40) list
   parking-needs = (
     q .0 .lent .tables-are,
     q .0 .lent .grid-ready,
     fitted,
-    q .0 .list-for .ready (q .1) .fits (72 * 2 ^ 40) (rises-most (marks-of .season-in) refl),
+    q .0 .list-for .ready (q .1) .fits (72 * 2 ^ 40) (rises-most (its-day .season-in) refl),
   )
 
   -- nothing breaks through where nothing rises
@@ -207,19 +208,27 @@ module _ {tables grid list : List ℕ} {given : AtSeason} {row : Row} {vapour ke
       (q .0 .list-for .ready (q .1) .sum-is (λ (start : ℕ) (rise : ℕ). through (curveAt c start) rise / 2 ^ 12) still) ∙
       parking-escape f (q .0 .row-in .load-most) (q .1) _ (q .0 .lent .grid-ready .cells-in .length-is)
 
-  -- over a raise, whose list at the marks is one of the season's
-  module _ (k : ℕ) {raises : List ℕ} (pick : AtMarks (given .season) (given .marks) → raises ≡ tab (raisesBy (given .season) k) 48) where
-    pub raise-needs : k ≤ 60 → (tables ≡ entries) × GridReady grid × CurvesReady c × AllAtMost (56 * 2 ^ 40) raises
-    raise-needs h = (q .0 .lent .tables-are, q .0 .lent .grid-ready, fitted, raise-list-most (marks-of .season-in) k h (pick (marks-of .marks-are)))
+  -- over a raise, which stands from a place of the day on
+  module _ (k place : ℕ) (pick : DayReady (given .season) day → RaisedAt (given .season) k day place) where
+    pub raise-needs : k ≤ 60 → place ≤ 150
+        → (tables ≡ entries) × GridReady grid × CurvesReady c × (place ≤ 150) × ((d : ℕ) → d < 25 → at day (place + d) ≤ 56 * 2 ^ 40)
+    raise-needs h there = (
+      q .0 .lent .tables-are,
+      q .0 .lent .grid-ready,
+      fitted,
+      there,
+      λ d l. rw (pick its-day d l) (raise-mark-most (its-day .season-in) k (ahead d) h),
+    )
 
-    pub raise-right : (ends : Bool) {x : ℕ} → x ≡ raiseThrough (cellsIn grid) ends raises c
+    pub raise-right : (ends : Bool) {x : ℕ} → x ≡ raiseThrough (cellsIn grid) ends day place c
         → x ≡ escapeOverUnits (given .season) row (cellsIn grid) (markOf ends) (tenths k)
-    raise-right ends e = e ∙ raise-escape f (q .0 .row-in .load-most) (q .1) _ ends k (pick (marks-of .marks-are))
+    raise-right ends e = e ∙ raise-escape f (q .0 .row-in .load-most) (q .1) _ ends k day place (pick its-day)
 
 -- A row without canister, and what is lent to its functions: how large the mean rises are, and that the vapour of each is its escape.
-module _ {tables grid list : List ℕ} {given : AtSeason} {row : Row} {vapour kept : ℕ} (r : RowLent tables grid list given row vapour kept) where
+module _ {tables grid list day : List ℕ} {given : AtSeason} {row : Row} {vapour kept : ℕ} (r : RowLent tables grid list day given row kept)
+    (v : vapour ≡ gain (given .season) row) where
   season-ok : SeasonInRange (given .season)
-  season-ok = r .lent .marks-ready .season-in
+  season-ok = r .lent .day-ready .season-in
 
   rise-mean-most : given .means .rise ≤ 72 * 2 ^ 40
   rise-mean-most =
@@ -245,14 +254,14 @@ module _ {tables grid list : List ℕ} {given : AtSeason} {row : Row} {vapour ke
       → c ≡ meanAt (cellsIn grid) endOf (raisesBy (given .season) k) → d ≡ meanAt (cellsIn grid) endOf (raisesBy (given .season) l)
       → (vapour < 2 ^ 50) × AllAtMost (72 * 2 ^ 40) (given .means .rise ∷ a ∷ b ∷ c ∷ d ∷ [])
   open-needs i j k l hi hj hk hl ei ej ek el = (
-    omega (arith, r .vapour-is, gain-most season-ok (r .row-in)),
+    omega (arith, v, gain-most season-ok (r .row-in)),
     five-most rise-mean-most (raise-mean-most startOf i hi ei) (raise-mean-most startOf j hj ej)
         (raise-mean-most endOf k hk ek) (raise-mean-most endOf l hl el),
   )
 
   -- the vapour of a mean rise
   vapour-of : {x y : ℕ} → x ≡ y → vapour * x / 2 ^ 40 ≡ gain (given .season) row * y / 2 ^ 40
-  vapour-of e = ap₂ (λ (g x : ℕ). g * x / 2 ^ 40) (r .vapour-is) e
+  vapour-of e = ap₂ (λ (g x : ℕ). g * x / 2 ^ 40) v e
 
   module _ (none : halves (row .canister) ≡ 0) where
     open-parking : vapour * given .means .rise / 2 ^ 40 ≡ parkingEscape (given .season) row (cellsIn grid)
@@ -270,21 +279,21 @@ module _ {tables grid list : List ℕ} {given : AtSeason} {row : Row} {vapour ke
     pub open-car : {e : Escapes}
         → VapourOf vapour (given .means .rise ∷ given .means .start45 ∷ given .means .start60 ∷ given .means .end10 ∷ given .means .end50 ∷ []) e
         → CarEscapes (given .season) row (cellsIn grid) e
-    open-car v = record {
-      parking-is = v .parking-is ∙ open-parking;
-      soak-is = v .soak-is ∙ open-raise startOf 45 (r .lent .means-are .start45-is);
-      hotsoak-is = v .hotsoak-is ∙ open-raise startOf 60 (r .lent .means-are .start60-is);
-      trip-is = v .trip-is ∙ open-trip 10 (r .lent .means-are .end10-is);
-      hottrip-is = v .hottrip-is ∙ open-trip 50 (r .lent .means-are .end50-is);
+    open-car o = record {
+      parking-is = o .parking-is ∙ open-parking;
+      soak-is = o .soak-is ∙ open-raise startOf 45 (r .lent .means-are .start45-is);
+      hotsoak-is = o .hotsoak-is ∙ open-raise startOf 60 (r .lent .means-are .start60-is);
+      trip-is = o .trip-is ∙ open-trip 10 (r .lent .means-are .end10-is);
+      hottrip-is = o .hottrip-is ∙ open-trip 50 (r .lent .means-are .end50-is);
     }
 
     pub open-two-wheeler : {e : Escapes}
         → VapourOf vapour (given .means .rise ∷ given .means .start15 ∷ given .means .start35 ∷ given .means .end10 ∷ given .means .end25 ∷ []) e
         → TwoWheelerEscapes (given .season) row (cellsIn grid) e
-    open-two-wheeler v = record {
-      parking-is = v .parking-is ∙ open-parking;
-      soak-is = v .soak-is ∙ open-raise startOf 15 (r .lent .means-are .start15-is);
-      hotsoak-is = v .hotsoak-is ∙ open-raise startOf 35 (r .lent .means-are .start35-is);
-      trip-is = v .trip-is ∙ open-raise endOf 10 (r .lent .means-are .end10-is);
-      hottrip-is = v .hottrip-is ∙ open-raise endOf 25 (r .lent .means-are .end25-is);
+    open-two-wheeler o = record {
+      parking-is = o .parking-is ∙ open-parking;
+      soak-is = o .soak-is ∙ open-raise startOf 15 (r .lent .means-are .start15-is);
+      hotsoak-is = o .hotsoak-is ∙ open-raise startOf 35 (r .lent .means-are .start35-is);
+      trip-is = o .trip-is ∙ open-raise endOf 10 (r .lent .means-are .end10-is);
+      hottrip-is = o .hottrip-is ∙ open-raise endOf 25 (r .lent .means-are .end25-is);
     }

@@ -1,17 +1,17 @@
 -- What a season gives to every row. Definitions only.
 use mathlib.Core.List.{List}
 use mathlib.Core.Path.{_≡_}
-use Prim.Native.Nat.{ℕ, _/_, _<_}
-use Rattle.numbers.specs.Lists.{tab}
+use Prim.Native.Nat.{ℕ, _+_, _/_, _<_}
+use Rattle.numbers.specs.Lists.{tab, at}
 use Rattle.bounds.specs.Exponential.{entries}
+use Rattle.bounds.specs.Weights.{ahead}
 use Rattle.exact.specs.declared.Season.{Season}
 use Rattle.exact.specs.declared.Row.{Row}
 use Rattle.marks.specs.declared.Marks.{Marks}
-use Rattle.sheet.specs.Range.{SeasonInRange}
+use Rattle.sheet.specs.Range.{SeasonInRange, RowInRange, markWarmth, halves}
 use Rattle.marks.specs.AtMarks.{AtMarks, raisesBy, ratesAt}
-use Rattle.sheet.specs.Range.{RowInRange, halves}
 use Rattle.factors.specs.Means.{meanUnits}
-use Rattle.factors.specs.Units.{startOf, endOf, parkingRise, parkingRates, gain}
+use Rattle.factors.specs.Units.{startOf, endOf, parkingRise, parkingRates}
 use Rattle.parking.specs.Grid.{cellsIn, GridReady}
 use Rattle.parking.specs.SeasonList.{ListReady}
 use Rattle.breakthrough.specs.Curves.{KeptOf}
@@ -44,27 +44,39 @@ pub record MarksReady (season : Season) (marks : Marks) : Type 0 where
 abbrev pub risesOf : Season → List ℕ
 risesOf season = tab (parkingRise season) 576
 
--- the season, its values at the marks, and its means
-pub record AtSeasonOf (season : Season) (marks : Marks) (counts : List ℕ) (at : AtSeason) : Type 0 where
-  pub season-is : at .season ≡ season
-  pub marks-are : at .marks ≡ marks
-  pub means-are : MeansOf season counts (at .means)
+-- its day, by distance from 14:00: in the array stand 25 temperatures, and then the rises of E under each of six raises, 25 numbers each
+abbrev pub RaisedAt : Season → ℕ → List ℕ → ℕ → Type 0
+RaisedAt season k day place = (d : ℕ) → d < 25 → at day (place + d) ≡ raisesBy season k (ahead d)
 
--- what is lent to the functions of every row: the tables of E and the grid; and what its season gives
-pub record Lent (tables grid : List ℕ) (at : AtSeason) : Type 0 where
+pub record DayReady (season : Season) (day : List ℕ) : Type 0 where
+  pub season-in : SeasonInRange season
+  pub warmths-are : (d : ℕ) → d < 25 → at day d ≡ markWarmth season (ahead d)
+  pub raise10-are : RaisedAt season 10 day 25
+  pub raise15-are : RaisedAt season 15 day 50
+  pub raise25-are : RaisedAt season 25 day 75
+  pub raise35-are : RaisedAt season 35 day 100
+  pub raise45-are : RaisedAt season 45 day 125
+  pub raise60-are : RaisedAt season 60 day 150
+
+-- the season and its means
+pub record AtSeasonOf (season : Season) (counts : List ℕ) (given : AtSeason) : Type 0 where
+  pub season-is : given .season ≡ season
+  pub means-are : MeansOf season counts (given .means)
+
+-- what is lent to the functions of every row: the tables of E, the grid and the day; and what its season gives besides
+pub record Lent (tables grid day : List ℕ) (given : AtSeason) : Type 0 where
   pub tables-are : tables ≡ entries
   pub grid-ready : GridReady grid
-  pub marks-ready : MarksReady (at .season) (at .marks)
-  pub means-are : MeansOf (at .season) (cellsIn grid) (at .means)
+  pub day-ready : DayReady (given .season) day
+  pub means-are : MeansOf (given .season) (cellsIn grid) (given .means)
 
 -- the list of a season's parkings, which a row with a canister needs
 pub record ListFor (grid list : List ℕ) (season : Season) (row : Row) : Type 0 where
   pub ready : 0 < halves (row .canister) → ListReady (cellsIn grid) (risesOf season) list
 
--- with a row in range, the vapour in its tank for a rise of 1, and what its canister keeps of its load
-pub record RowLent (tables grid list : List ℕ) (at : AtSeason) (row : Row) (vapour kept : ℕ) : Type 0 where
-  pub lent : Lent tables grid at
-  pub row-in : RowInRange (at .season) row
-  pub list-for : ListFor grid list (at .season) row
-  pub vapour-is : vapour ≡ gain (at .season) row
+-- with a row in range, and what its canister keeps of its load
+pub record RowLent (tables grid list day : List ℕ) (given : AtSeason) (row : Row) (kept : ℕ) : Type 0 where
+  pub lent : Lent tables grid day given
+  pub row-in : RowInRange (given .season) row
+  pub list-for : ListFor grid list (given .season) row
   pub kept-of : KeptOf row kept

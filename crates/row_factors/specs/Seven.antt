@@ -4,7 +4,6 @@ use mathlib.Core.List.{List, [], _∷_}
 use mathlib.Core.Path.{_≡_}
 use Prim.Native.Nat.{ℕ, _+_, _*_, _/_, _^_, _<_}
 use Rattle.numbers.specs.Lists.{at}
-use Rattle.bounds.specs.Weights.{ahead}
 use Rattle.exact.specs.declared.Season.{Season}
 use Rattle.exact.specs.declared.Row.{Row}
 use Rattle.exact.specs.Factors.{F1, F2, F3, F4, F5, F6, F7}
@@ -22,10 +21,10 @@ use Rattle.row_factors.specs.declared.escapes.Escapes.{Escapes}
 abbrev pub parkingThrough : List ℕ → ℕ → Curves → ℕ
 parkingThrough list total c = byEntry list (λ (start : ℕ) (rise : ℕ). through (curveAt c start) rise / 2 ^ 12) / total
 
--- and over a raise at the end, or the start, of one, of raises by mark: each is that of the mark as far before 14:00
-abbrev pub raiseThrough : List ℕ → Bool → List ℕ → Curves → ℕ
-raiseThrough cells ends raises c =
-    meanUnits cells (λ (cell : ℕ). through (curveAt c (apartOf ends cell)) (at raises (ahead (apartOf ends cell))))
+-- and over a raise at the end, or the start, of one, of raises by distance from 14:00 that stand from a place of the day on
+abbrev pub raiseThrough : List ℕ → Bool → List ℕ → ℕ → Curves → ℕ
+raiseThrough cells ends day place c =
+    meanUnits cells (λ (cell : ℕ). through (curveAt c (apartOf ends cell)) (at day (place + apartOf ends cell)))
 
 -- without canister: the vapour of five mean rises
 pub record VapourOf (gain : ℕ) (rises : List ℕ) (e : Escapes) : Type 0 where

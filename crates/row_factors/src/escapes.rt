@@ -1,22 +1,32 @@
 // What escapes on average from a row's tank in a season, with a canister and without, in units of 2^-28 g.
 use crate::season::AtSeason;
+use crate::season::RAISE_10;
+use crate::season::RAISE_15;
+use crate::season::RAISE_25;
+use crate::season::RAISE_35;
+use crate::season::RAISE_45;
+use crate::season::RAISE_60;
+use bounds::exp::ZERO;
+use bounds::exp::exponential;
 use bounds::fixed::mul_shift;
 use breakthrough::curves::Curves;
 use breakthrough::curves::fit;
 use breakthrough::losses::through_list;
 use breakthrough::losses::through_raises;
 use exact::Row;
+use exact::Season;
 use fields::classes::halves;
 use parking::grid::SUM;
-use parking::means::by_distance;
 use parking::means::mean_by_distance;
 ghost use mathlib.Core.Path.{_≡_};
-ghost use Prim.Native.Nat.{_*_, _^_, _<_};
-ghost use Rattle.numbers.specs.Lists.{at, AllAtMost};
+ghost use Prim.Native.Nat.{ℕ, _+_, _*_, _^_, _<_, _≤_};
+ghost use Rattle.numbers.specs.Lists.{tab, at, AllAtMost};
 ghost use Rattle.bounds.specs.Exponential.{entries};
-ghost use Rattle.sheet.specs.Range.{halves};
+ghost use Rattle.sheet.specs.Range.{SeasonInRange, RowInRange, halves};
+ghost use Rattle.factors.specs.Units.{gain};
 ghost use Rattle.parking.specs.Grid.{cellsIn, sumPlace, GridReady};
 ghost use Rattle.parking.specs.SeasonList.{ListFits};
+ghost use Rattle.breakthrough.specs.Curves.{CurvesOf};
 ghost use Rattle.breakthrough.specs.Through.{CurvesReady};
 ghost use Rattle.row_factors.specs.Season.{RowLent};
 ghost use Rattle.row_factors.specs.Seven.{parkingThrough, raiseThrough, VapourOf, CarEscapes, TwoWheelerEscapes};
@@ -28,6 +38,17 @@ pub struct Escapes {
     pub hotsoak: u64,
     pub trip: u64,
     pub hottrip: u64,
+}
+
+// E(0.0205 vp): what the exponent gains with each tenth of a kPa.
+const VAPOUR_EXPONENT: u64 = 205000000000;
+
+// Grams of vapour for a rise of 1 in E(0.0716 T).
+fn gain(tables: &[u64; 1907], season: Season, row: Row) -> u64
+    requires { ⌜ (now tables ≡ entries) × SeasonInRange season × RowInRange season row ⌝ }
+    ensures { λ r. ⌜ (r ≡ gain season row) × (r ≤ 36 * 2 ^ 40) ⌝ }
+{
+    (100 - row.fill) * row.tank * exponential(tables, VAPOUR_EXPONENT * season.vp + ZERO) / 40000
 }
 
 // Without canister: vapour grows evenly with the rise, so that of the mean rise is the mean.
@@ -52,20 +73,54 @@ fn parking_through(tables: &[u64; 1907], grid: &[u64; 627], list: &[u64; 1732], 
     through_list(tables, list, c) / grid[SUM]
 }
 
-// What breaks through over a raise at the end, or the start, of a parking.
+// The 25 numbers of the day that start at a place.
+fn part(day: &[u64; 175], place: usize) -> [u64; 25]
+    requires { ⌜ place ≤ 150 ⌝ }
+    ensures { λ r. ⌜ r ≡ tab (λ (d : ℕ). at (now (day .entry)) (place + d)) 25 ⌝ }
+{
+    let mut out = [0u64; 25];
+    let mut d: usize = 0;
+    while d < 25 {
+        out[d] = day[place + d];
+        d += 1;
+    }
+    out
+}
+
+// What breaks through over a raise at the end, or the start, of a parking; the raises stand from a place of the day on.
 fn raise_through(
     tables: &[u64; 1907],
     grid: &[u64; 627],
+    day: &[u64; 175],
     ends: bool,
-    raises: &[u64; 48],
+    place: usize,
     c: Curves,
 ) -> u64
-    requires { ⌜ (now tables ≡ entries) × GridReady (now grid) × CurvesReady c × AllAtMost (56 * 2 ^ 40) (now raises) ⌝ }
-    ensures { λ r. ⌜ r ≡ raiseThrough (cellsIn (now (grid .entry))) ends (now (raises .entry)) c ⌝ }
+    requires { ⌜ (now tables ≡ entries) × GridReady (now grid) × CurvesReady c × (place ≤ 150)
+        × ((d : ℕ) → d < 25 → at (now day) (place + d) ≤ 56 * 2 ^ 40) ⌝ }
+    ensures { λ r. ⌜ r ≡ raiseThrough (cellsIn (now (grid .entry))) ends (now (day .entry)) place c ⌝ }
 {
-    let by = by_distance(raises);
-    let through = through_raises(tables, &by, c);
+    let raises = part(day, place);
+    let through = through_raises(tables, &raises, c);
     mean_by_distance(grid, ends, &through)
+}
+
+// The row's canister.
+fn fitted(
+    tables: &[u64; 1907],
+    grid: &[u64; 627],
+    list: &[u64; 1732],
+    day: &[u64; 175],
+    at: AtSeason,
+    row: Row,
+    kept: u64,
+) -> Curves
+    requires { ⌜ RowLent (now tables) (now grid) (now list) (now day) at row kept × (0 < halves (row .canister)) ⌝ }
+    ensures { λ r. ⌜ CurvesOf (at .season) row r ⌝ }
+{
+    let warmths = part(day, 0);
+    let vapour = gain(tables, at.season, row);
+    fit(tables, at.season, &warmths, row, vapour, kept)
 }
 
 // A car with canister, from which nothing escapes on a trip.
@@ -73,21 +128,19 @@ fn canister_car(
     tables: &[u64; 1907],
     grid: &[u64; 627],
     list: &[u64; 1732],
+    day: &[u64; 175],
     at: AtSeason,
     row: Row,
-    vapour: u64,
     kept: u64,
 ) -> Escapes
-    requires { ⌜ RowLent (now tables) (now grid) (now list) at row vapour kept × (0 < halves (row .canister)) ⌝ }
+    requires { ⌜ RowLent (now tables) (now grid) (now list) (now day) at row kept × (0 < halves (row .canister)) ⌝ }
     ensures { λ r. ⌜ CarEscapes (at .season) row (cellsIn (now (grid .entry))) r ⌝ }
 {
-    let marks = at.marks;
-    let warmths = by_distance(&marks.warmth);
-    let c = fit(tables, at.season, &warmths, row, vapour, kept);
+    let c = fitted(tables, grid, list, day, at, row, kept);
     Escapes {
         parking: parking_through(tables, grid, list, c),
-        soak: raise_through(tables, grid, false, &marks.raise45, c),
-        hotsoak: raise_through(tables, grid, false, &marks.raise60, c),
+        soak: raise_through(tables, grid, day, false, RAISE_45, c),
+        hotsoak: raise_through(tables, grid, day, false, RAISE_60, c),
         trip: 0,
         hottrip: 0,
     }
@@ -98,23 +151,21 @@ fn canister_two_wheeler(
     tables: &[u64; 1907],
     grid: &[u64; 627],
     list: &[u64; 1732],
+    day: &[u64; 175],
     at: AtSeason,
     row: Row,
-    vapour: u64,
     kept: u64,
 ) -> Escapes
-    requires { ⌜ RowLent (now tables) (now grid) (now list) at row vapour kept × (0 < halves (row .canister)) ⌝ }
+    requires { ⌜ RowLent (now tables) (now grid) (now list) (now day) at row kept × (0 < halves (row .canister)) ⌝ }
     ensures { λ r. ⌜ TwoWheelerEscapes (at .season) row (cellsIn (now (grid .entry))) r ⌝ }
 {
-    let marks = at.marks;
-    let warmths = by_distance(&marks.warmth);
-    let c = fit(tables, at.season, &warmths, row, vapour, kept);
+    let c = fitted(tables, grid, list, day, at, row, kept);
     Escapes {
         parking: parking_through(tables, grid, list, c),
-        soak: raise_through(tables, grid, false, &marks.raise15, c),
-        hotsoak: raise_through(tables, grid, false, &marks.raise35, c),
-        trip: raise_through(tables, grid, true, &marks.raise10, c),
-        hottrip: raise_through(tables, grid, true, &marks.raise25, c),
+        soak: raise_through(tables, grid, day, false, RAISE_15, c),
+        hotsoak: raise_through(tables, grid, day, false, RAISE_35, c),
+        trip: raise_through(tables, grid, day, true, RAISE_10, c),
+        hottrip: raise_through(tables, grid, day, true, RAISE_25, c),
     }
 }
 
@@ -123,20 +174,21 @@ pub fn car(
     tables: &[u64; 1907],
     grid: &[u64; 627],
     list: &[u64; 1732],
+    day: &[u64; 175],
     at: AtSeason,
     row: Row,
-    vapour: u64,
     kept: u64,
 ) -> Escapes
-    requires { ⌜ RowLent (now tables) (now grid) (now list) at row vapour kept ⌝ }
+    requires { ⌜ RowLent (now tables) (now grid) (now list) (now day) at row kept ⌝ }
     ensures { λ r. ⌜ CarEscapes (at .season) row (cellsIn (now (grid .entry))) r ⌝ }
 {
     let canister = row.canister;
     if halves(canister) == 0 {
+        let vapour = gain(tables, at.season, row);
         let m = at.means;
         open_escapes(vapour, [m.rise, m.start45, m.start60, m.end10, m.end50])
     } else {
-        canister_car(tables, grid, list, at, row, vapour, kept)
+        canister_car(tables, grid, list, day, at, row, kept)
     }
 }
 
@@ -145,19 +197,20 @@ pub fn two_wheeler(
     tables: &[u64; 1907],
     grid: &[u64; 627],
     list: &[u64; 1732],
+    day: &[u64; 175],
     at: AtSeason,
     row: Row,
-    vapour: u64,
     kept: u64,
 ) -> Escapes
-    requires { ⌜ RowLent (now tables) (now grid) (now list) at row vapour kept ⌝ }
+    requires { ⌜ RowLent (now tables) (now grid) (now list) (now day) at row kept ⌝ }
     ensures { λ r. ⌜ TwoWheelerEscapes (at .season) row (cellsIn (now (grid .entry))) r ⌝ }
 {
     let canister = row.canister;
     if halves(canister) == 0 {
+        let vapour = gain(tables, at.season, row);
         let m = at.means;
         open_escapes(vapour, [m.rise, m.start15, m.start35, m.end10, m.end25])
     } else {
-        canister_two_wheeler(tables, grid, list, at, row, vapour, kept)
+        canister_two_wheeler(tables, grid, list, day, at, row, kept)
     }
 }

@@ -1,4 +1,5 @@
-// What a season gives to every row: its values at the marks, the list of its parkings, and the means that no row changes.
+// What a season gives to every row: its day, the list of its parkings, and the means that no row changes.
+use bounds::hours::WARMEST;
 use exact::Season;
 use marks::Marks;
 use marks::at_marks;
@@ -10,14 +11,17 @@ use parking::walk::rises;
 use parking::walk::walk;
 ghost use mathlib.Core.Bool.{true};
 ghost use mathlib.Core.Path.{_≡_};
-ghost use Prim.Native.Nat.{ℕ, _/_, _^_};
-ghost use Rattle.numbers.specs.Lists.{AllAtMost};
+ghost use Prim.Native.Nat.{ℕ, _+_, _/_, _^_, _≤_};
+ghost use lib.Seq.{sets};
+ghost use Rattle.numbers.specs.Lists.{tab, at, AllAtMost};
 ghost use Rattle.bounds.specs.Exponential.{entries};
+ghost use Rattle.bounds.specs.Weights.{ahead};
+ghost use Rattle.exact.specs.declared.Season.{Season};
 ghost use Rattle.sheet.specs.Range.{SeasonInRange};
 ghost use Rattle.factors.specs.Means.{meanUnits};
 ghost use Rattle.parking.specs.Grid.{cellsIn, GridReady, passedIn};
 ghost use Rattle.parking.specs.SeasonList.{ListReady};
-ghost use Rattle.row_factors.specs.Season.{MarksReady, risesOf, AtSeasonOf, Lent};
+ghost use Rattle.row_factors.specs.Season.{MarksReady, risesOf, DayReady, AtSeasonOf, Lent};
 
 // Means over the cells, in units of 2^-28.
 pub struct Means {
@@ -39,14 +43,55 @@ pub struct Means {
 
 pub struct AtSeason {
     pub season: Season,
-    pub marks: Marks,
     pub means: Means,
 }
 
-// With the list of its parkings, which is lent to each row.
+// With what is lent to each row: the list of the season's parkings, and its day.
 pub struct Prepared {
     pub list: [u64; 1732],
+    pub day: [u64; 175],
     pub at: AtSeason,
+}
+
+// The day has 25 numbers each, by distance from 14:00: the temperatures, and from here on the rise of E(0.0716 T) when T is raised by so
+// many tenths of a degree.
+pub const RAISE_10: usize = 25;
+
+pub const RAISE_15: usize = 50;
+
+pub const RAISE_25: usize = 75;
+
+pub const RAISE_35: usize = 100;
+
+pub const RAISE_45: usize = 125;
+
+pub const RAISE_60: usize = 150;
+
+// Of values by mark those of the marks before 14:00 are laid into the day from a place on, by distance from it.
+fn lay(day: &mut [u64; 175], place: usize, values: &[u64; 48])
+    requires { ⌜ place ≤ 150 ⌝ }
+    ensures { λ _. ⌜ now (day .exit) ≡ sets (now (day .entry)) place (tab (λ (d : ℕ). at (now (values .entry)) (ahead d)) 25) ⌝ }
+{
+    let mut d: usize = 0;
+    while d < 25 {
+        day[place + d] = values[WARMEST - d];
+        d += 1;
+    }
+}
+
+// The day of the season that has these values at its marks.
+fn day_of(marks: Marks) -> [u64; 175]
+    ensures { λ r. ⌜ ((season : Season) → MarksReady season marks → DayReady season r) ⌝ }
+{
+    let mut day = [0u64; 175];
+    lay(&mut day, 0, &marks.warmth);
+    lay(&mut day, RAISE_10, &marks.raise10);
+    lay(&mut day, RAISE_15, &marks.raise15);
+    lay(&mut day, RAISE_25, &marks.raise25);
+    lay(&mut day, RAISE_35, &marks.raise35);
+    lay(&mut day, RAISE_45, &marks.raise45);
+    lay(&mut day, RAISE_60, &marks.raise60);
+    day
 }
 
 // The permeation in a parking: half of the hourly rates at its marks.
@@ -62,7 +107,7 @@ fn permeation_mean(grid: &[u64; 627], rates: &[u64; 48]) -> u64
 // The means of a season, from the rises of its parkings and its values at the marks.
 fn at_season(grid: &[u64; 627], rises: &[u64; 576], season: Season, marks: Marks) -> AtSeason
     requires { ⌜ GridReady (now grid) × MarksReady season marks × (now rises ≡ risesOf season) ⌝ }
-    ensures { λ r. ⌜ AtSeasonOf season marks (cellsIn (now (grid .entry))) r ⌝ }
+    ensures { λ r. ⌜ AtSeasonOf season (cellsIn (now (grid .entry))) r ⌝ }
 {
     let means = Means {
         rise: mean_by_cell(grid, rises),
@@ -77,11 +122,7 @@ fn at_season(grid: &[u64; 627], rises: &[u64; 576], season: Season, marks: Marks
         end50: mean_by_mark(grid, true, &marks.raise50),
         start60: mean_by_mark(grid, false, &marks.raise60),
     };
-    AtSeason {
-        season,
-        marks,
-        means,
-    }
+    AtSeason { season, means }
 }
 
 // The list of a season's parkings where a row with a canister is to read it. Without one nothing does, and none is made.
@@ -98,7 +139,7 @@ fn list_where(grid: &[u64; 627], rises: &[u64; 576], read: bool) -> [u64; 1732]
 // All that the rows of a season share, made once.
 pub fn prepare(tables: &[u64; 1907], grid: &[u64; 627], season: Season, canisters: bool) -> Prepared
     requires { ⌜ (now tables ≡ entries) × GridReady (now grid) × SeasonInRange season ⌝ }
-    ensures { λ r. ⌜ (r .at .season ≡ season) × Lent (now (tables .entry)) (now (grid .entry)) (r .at)
+    ensures { λ r. ⌜ (r .at .season ≡ season) × Lent (now (tables .entry)) (now (grid .entry)) (r .day) (r .at)
         × (canisters ≡ true → ListReady (cellsIn (now (grid .entry))) (risesOf season) (r .list)) ⌝ }
 {
     let marks = at_marks(tables, season);
@@ -106,6 +147,7 @@ pub fn prepare(tables: &[u64; 1907], grid: &[u64; 627], season: Season, canister
     let list = list_where(grid, &rises, canisters);
     Prepared {
         list,
+        day: day_of(marks),
         at: at_season(grid, &rises, season, marks),
     }
 }

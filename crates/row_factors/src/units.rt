@@ -4,30 +4,14 @@ use crate::escapes::car;
 use crate::escapes::two_wheeler;
 use crate::season::AtSeason;
 use crate::season::Means;
-use bounds::exp::ZERO;
-use bounds::exp::exponential;
 use exact::Row;
-use exact::Season;
 ghost use mathlib.Core.Path.{_≡_};
-ghost use Prim.Native.Nat.{_+_, _*_, _^_, _<_, _≤_};
-ghost use Rattle.bounds.specs.Exponential.{entries};
-ghost use Rattle.sheet.specs.Range.{SeasonInRange, RowInRange};
-ghost use Rattle.factors.specs.Units.{gain};
+ghost use Prim.Native.Nat.{_+_, _^_, _<_};
+ghost use Rattle.sheet.specs.Range.{RowInRange};
 ghost use Rattle.parking.specs.Grid.{cellsIn};
 ghost use Rattle.breakthrough.specs.Curves.{KeptOf};
 ghost use Rattle.row_factors.specs.Season.{Lent, ListFor};
 ghost use Rattle.row_factors.specs.Seven.{CarFits, carSeven, twoWheelerSeven, sevenUnits};
-
-// E(0.0205 vp): what the exponent gains with each tenth of a kPa.
-const VAPOUR_EXPONENT: u64 = 205000000000;
-
-// Grams of vapour for a rise of 1 in E(0.0716 T).
-fn gain(tables: &[u64; 1907], season: Season, row: Row) -> u64
-    requires { ⌜ (now tables ≡ entries) × SeasonInRange season × RowInRange season row ⌝ }
-    ensures { λ r. ⌜ (r ≡ gain season row) × (r ≤ 36 * 2 ^ 40) ⌝ }
-{
-    (100 - row.fill) * row.tank * exponential(tables, VAPOUR_EXPONENT * season.vp + ZERO) / 40000
-}
 
 // The factors of a car: permeation in a parking, in a soak and in the minutes of a trip, and the escapes besides.
 fn car_units(e: Escapes, m: Means, minutes: u64) -> [u64; 7]
@@ -67,20 +51,20 @@ pub fn row_units(
     tables: &[u64; 1907],
     grid: &[u64; 627],
     list: &[u64; 1732],
+    day: &[u64; 175],
     at: AtSeason,
     row: Row,
     kept: u64,
 ) -> [u64; 7]
-    requires { ⌜ Lent (now tables) (now grid) at × RowInRange (at .season) row × ListFor (now grid) (now list) (at .season) row × KeptOf row kept ⌝ }
+    requires { ⌜ Lent (now tables) (now grid) (now day) at × RowInRange (at .season) row × ListFor (now grid) (now list) (at .season) row × KeptOf row kept ⌝ }
     ensures { λ r. ⌜ r ≡ sevenUnits (at .season) row (cellsIn (now (grid .entry))) ⌝ }
 {
-    let vapour = gain(tables, at.season, row);
     let means = at.means;
     if row.class < 5 {
-        let e = car(tables, grid, list, at, row, vapour, kept);
+        let e = car(tables, grid, list, day, at, row, kept);
         car_units(e, means, row.minutes)
     } else {
-        let e = two_wheeler(tables, grid, list, at, row, vapour, kept);
+        let e = two_wheeler(tables, grid, list, day, at, row, kept);
         two_wheeler_units(e, means)
     }
 }

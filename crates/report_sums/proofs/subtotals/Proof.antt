@@ -9,7 +9,7 @@ use lib.Seq.{sets}
 use Rattle.numbers.specs.Lists.{tab}
 use Rattle.sheet.specs.Bytes.{rowsOf}
 use Rattle.report_words.specs.Years.{category}
-use Rattle.report_words.proofs.Filled.{run-more}
+use Rattle.numbers.proofs.Stores.{run-more}
 use Rattle.sheet.proofs.Places.{parking-there}
 use Rattle.report_sums.specs.Sums.{sumWord, summed}
 use Rattle.report_sums.proofs.BufferSums.{sum-kept}

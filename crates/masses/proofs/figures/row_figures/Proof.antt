@@ -8,7 +8,7 @@ use Rattle.masses.proofs.figures.row_figures.Tie as tie
 six-figures-requires : tie.Need-six-figures-requires
 six-figures-requires c κs =
     let p = c .before .pre in
-    rw (c .row-units .ensures) (units-in-range (p .0 .marks-ready .season-in) (p .1) _, p .2)
+    rw (c .row-units .ensures) (units-in-range (p .0 .day-ready .season-in) (p .1) _, p .2)
 
 returns : tie.Need-returns
 returns c = c .six-figures .ensures ∙ rw (c .before .row-units .ensures) (figures-are _ _ _)

@@ -7,7 +7,7 @@ use native.Mathlib.Omega.{arith}
 use lib.ListN.{length, length-set}
 use lib.Seq.{sets}
 use Rattle.numbers.specs.Lists.{tab, at}
-use Rattle.report_words.proofs.Filled.{run-more}
+use Rattle.numbers.proofs.Stores.{run-more}
 use Rattle.report_sums.proofs.renewal.store.Statement.{statement}
 use Rattle.report_sums.proofs.renewal.store.Tie as tie
 

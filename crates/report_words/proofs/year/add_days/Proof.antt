@@ -8,7 +8,7 @@ use lib.ListN.{length, getD, length-set}
 use lib.Seq.{sets}
 use Rattle.numbers.specs.Lists.{tab}
 use Rattle.report_words.specs.Years.{daysAdded}
-use Rattle.report_words.proofs.Filled.{run-next, run-more}
+use Rattle.numbers.proofs.Stores.{run-next, run-more}
 use Rattle.report_words.proofs.year.add_days.Statement.{statement}
 use Rattle.report_words.proofs.year.add_days.Tie as tie
 

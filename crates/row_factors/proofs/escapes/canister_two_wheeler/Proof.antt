@@ -1,29 +1,22 @@
 -- `row_factors::escapes::canister_two_wheeler` meets its contract: each mean of what breaks through is the escape of its definition.
 use mathlib.Core.Bool.{true, false}
 use native.Mathlib.Omega.{arith}
-use Rattle.row_factors.proofs.Escaping.{fit-needs, parking-needs, parking-right, raise-needs, raise-right}
+use Rattle.row_factors.proofs.Escaping.{parking-needs, parking-right, raise-needs, raise-right}
 use borrow.Author.Needs.{needs}
 use Rattle.row_factors.proofs.escapes.canister_two_wheeler.Statement.{statement}
 use Rattle.row_factors.proofs.escapes.canister_two_wheeler.Tie as tie
 
--- what is known at the start, from after the fit
-abbrev start : tie.After-fit → tie.Start
-start f = f .before .before .before .before .before .before
-
 returns : tie.Need-returns
 returns c =
-    let hot = c .before .before .before .before .before .before in
-    let f = hot .before .before .before .before .before .before .before in
-    let q = start f .pre in
-    let e = f .fit .ensures in
+    let f = c .before .before .before .before .before in
+    let q = f .before .pre in
+    let e = f .fitted .ensures in
     record {
-      parking-is = parking-right q e
-          (c .before .before .before .before .before .before .before .before .before .before .before .before .parking-through .ensures);
-      soak-is = raise-right q e 15 (λ m. m .raise15-is) false
-          (c .before .before .before .before .before .before .before .before .before .raise-through .ensures);
-      hotsoak-is = raise-right q e 35 (λ m. m .raise35-is) false (c .before .before .before .before .before .before .raise-through2 .ensures);
-      trip-is = raise-right q e 10 (λ m. m .raise10-is) true (c .before .before .before .raise-through3 .ensures);
-      hottrip-is = raise-right q e 25 (λ m. m .raise25-is) true (c .raise-through4 .ensures);
+      parking-is = parking-right q e (c .before .before .before .before .parking-through .ensures);
+      soak-is = raise-right q e 15 50 (λ d. d .raise15-are) false (c .before .before .before .raise-through .ensures);
+      hotsoak-is = raise-right q e 35 100 (λ d. d .raise35-are) false (c .before .before .raise-through2 .ensures);
+      trip-is = raise-right q e 10 25 (λ d. d .raise10-are) true (c .before .raise-through3 .ensures);
+      hottrip-is = raise-right q e 25 75 (λ d. d .raise25-are) true (c .raise-through4 .ensures);
     }
 
 pub canister-two-wheeler-spec : {M : Type 1} → statement M
@@ -31,13 +24,12 @@ canister-two-wheeler-spec =
     tie.close
     (tie.spec
     (λ c κs. search needs)
-    (λ c κs. fit-needs (c .before .before .before .before .before .pre) (c .before .by-distance .ensures))
-    (λ c κs. parking-needs (start c .pre) (c .fit .ensures))
-    (λ c κs. let f = c .before .before .before in raise-needs (start f .pre) (f .fit .ensures) 15 (λ m. m .raise15-is) (omega arith))
-    (λ c κs. let f = c .before .before .before .before .before .before in
-    raise-needs (start f .pre) (f .fit .ensures) 35 (λ m. m .raise35-is) (omega arith))
-    (λ c κs. let f = c .before .before .before .before .before .before .before .before .before in
-    raise-needs (start f .pre) (f .fit .ensures) 10 (λ m. m .raise10-is) (omega arith))
-    (λ c κs. let f = c .before .before .before .before .before .before .before .before .before .before .before .before
-    in raise-needs (start f .pre) (f .fit .ensures) 25 (λ m. m .raise25-is) (omega arith))
+    (λ c κs. parking-needs (c .before .pre) (c .fitted .ensures))
+    (λ c κs. let f = c .before in raise-needs (f .before .pre) (f .fitted .ensures) 15 50 (λ d. d .raise15-are) (omega arith) (omega arith))
+    (λ c κs. let f = c .before .before in
+    raise-needs (f .before .pre) (f .fitted .ensures) 35 100 (λ d. d .raise35-are) (omega arith) (omega arith))
+    (λ c κs. let f = c .before .before .before in
+    raise-needs (f .before .pre) (f .fitted .ensures) 10 25 (λ d. d .raise10-are) (omega arith) (omega arith))
+    (λ c κs. let f = c .before .before .before .before in
+    raise-needs (f .before .pre) (f .fitted .ensures) 25 75 (λ d. d .raise25-are) (omega arith) (omega arith))
     returns)

@@ -36,7 +36,6 @@ returns c =
     let c0 = c1 .before .before .before in
     record {
       season-is = refl;
-      marks-are = refl;
       means-are = record {
         rise-is = c0 .before .before .before .mean-by-cell .ensures ∙ mean-tab _ _ l (s .pre .2);
         permeation-is = c0 .permeation-mean .ensures ∙ mean-ext _ (λ cell. ap (λ (x : ℕ). x / 2) (rates-in (p .season-in) (a .rate-is) cell));

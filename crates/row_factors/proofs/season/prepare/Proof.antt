@@ -1,5 +1,6 @@
--- `row_factors::season::prepare` meets its contract: the marks, the rises and the list are those of its season.
+-- `row_factors::season::prepare` meets its contract: the marks, the rises, the list and the day are those of its season.
 use mathlib.Core.Path.{_≡_}
+use borrow.Author.Needs.{needs}
 use Rattle.row_factors.specs.Season.{MarksReady, risesOf}
 use Rattle.row_factors.proofs.Prepared.{steps-most, rises-are}
 use Rattle.row_factors.proofs.season.prepare.Statement.{statement}
@@ -15,7 +16,8 @@ rises-ready c = rises-are (c .before .before .before .at-marks .ensures) (c .ris
 
 returns : tie.Need-returns
 returns c =
-    let k = c .before .before in
+    let d = c .before .before in
+    let k = d .before in
     let w = k .before .before in
     let m = w .before .before .before in
     let p = m .before .pre in
@@ -24,7 +26,7 @@ returns c =
       record {
         tables-are = p .0;
         grid-ready = p .1;
-        marks-ready = rw (a .season-is, a .marks-are) (marks-ready m);
+        day-ready = rw (a .season-is) (d .day-of .ensures _ (marks-ready m));
         means-are = rw (a .season-is) (a .means-are);
       },
       λ wanted. rw (← (rises-ready w)) (k .list-where .ensures wanted),
@@ -37,5 +39,7 @@ prepare-spec =
     (λ c κs. (c .pre .0, c .pre .2))
     (λ c κs. let m = c .before .before in steps-most (m .before .pre .2) (m .at-marks .ensures))
     (λ c κs. c .before .before .before .before .before .pre .1)
-    (λ c κs. let w = c .before .before .before in (w .before .before .before .before .pre .1, marks-ready (w .before .before .before), rises-ready w))
+    (λ c κs. search needs)
+    (λ c κs. let w = c .before .before .before .before in
+    (w .before .before .before .before .pre .1, marks-ready (w .before .before .before), rises-ready w))
     returns)

@@ -1,4 +1,4 @@
--- `row_factors::units::gain` meets its contract: the product of 150,000 and an exponential fits.
+-- `row_factors::escapes::gain` meets its contract: the product of 150,000 and an exponential fits.
 use mathlib.Core.Path.{_≡_, _∙_, ap}
 use Prim.Native.Nat.{ℕ, _+_, _*_, _-_, _/_, _^_, _≤_}
 use native.Mathlib.Omega.{arith}
@@ -8,8 +8,8 @@ use Rattle.bounds.specs.Exponential.{exponential}
 use Rattle.factors.specs.Units.{gain}
 use Rattle.factors.proofs.Gain.{gain-most}
 use borrow.Author.Needs.{needs}
-use Rattle.row_factors.proofs.units.gain.Statement.{statement}
-use Rattle.row_factors.proofs.units.gain.Tie as tie
+use Rattle.row_factors.proofs.escapes.gain.Statement.{statement}
+use Rattle.row_factors.proofs.escapes.gain.Tie as tie
 
 -- at most 100 % of 150 litres
 share : (s : tie.Start) → (100 - s .args .row .fill) * s .args .row .tank ≤ percentLimit * tankLimit
