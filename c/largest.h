@@ -1,5 +1,5 @@
-/* Sheets for the tests, of any version: 12 seasons, and rows of all classes and technologies with every kind of
- * canister, with written loads and, where the version has them, with mileages. */
+/* Sheets for the tests, of any version: rows of all classes and technologies with every kind of canister, with written
+ * loads and, where the version has them, with mileages. */
 #ifndef LARGEST_H
 #define LARGEST_H
 
@@ -34,9 +34,9 @@ static inline void put_row(uint8_t *row, unsigned version, unsigned i) {
         put_two(row + 20, 20000 + i);
 }
 
-/* The sheet with so many rows, up to 1,000 in version 4 and up to 32 before; its length. */
-static inline size_t make_sheet(uint8_t *sheet, unsigned version, unsigned rows) {
-    const unsigned seasons = 12, counts = version == 1 ? 48 : 576;
+/* The sheet with so many seasons, up to 12, and rows, up to 1,000 in version 4 and up to 32 before; its length. */
+static inline size_t make_sheet(uint8_t *sheet, unsigned version, unsigned seasons, unsigned rows) {
+    const unsigned counts = version == 1 ? 48 : 576;
     uint8_t *at = sheet + 8;
     memcpy(sheet, "EVP", 3);
     put_two(sheet + 3, version);

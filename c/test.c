@@ -707,7 +707,7 @@ static void expect_names(void) {
  * evp_explain names, and the kind of place is a season or a row where there is one. */
 static void expect_records(unsigned version) {
     static const uint8_t values[] = {0, 1, 101, 255};
-    sheet_bytes = make_sheet(sheet, version, 3);
+    sheet_bytes = make_sheet(sheet, version, 12, 3);
     for (size_t at = 0; at < sheet_bytes; at++) {
         const uint8_t kept = sheet[at];
         for (size_t i = 0; i < sizeof values; i++) {
