@@ -17,7 +17,7 @@ static void print_refusal(const char *name, size_t bytes, struct evp_check check
     const uint64_t record = evp_place_record(sheet, bytes, check.number, check.place);
     printf("%s: refused %" PRIu64 " at byte %" PRIu64 ", ", name, check.number, check.place);
     if (record != 0)
-        printf("%s %" PRIu64 ": ", evp_place_text(check.number), record);
+        printf("%s %" PRIu64 ": ", evp_place_text(check.number, check.place), record);
     printf("%s\n", evp_number_text(check.number));
 }
 

@@ -684,8 +684,10 @@ static void expect_number_texts(void) {
     }
     expect("the text of no number", (uint64_t)strcmp(evp_number_text(EVP_DIFFER + 1), no_number), 0);
     expect("the text of 0", (uint64_t)strcmp(evp_number_text(0), "accepted"), 0);
-    expect("the place of 0", strlen(evp_place_text(0)), 0);
-    expect("the place of a room", (uint64_t)strcmp(evp_place_text(EVP_ROOM), "call"), 0);
+    expect("the place of 0", strlen(evp_place_text(0, 0)), 0);
+    expect("the place of a room", (uint64_t)strcmp(evp_place_text(EVP_ROOM, 0), "call"), 0);
+    expect("the place of a share", (uint64_t)strcmp(evp_place_text(EVP_SHARE, 0), "call"), 0);
+    expect("the place of a row's share", (uint64_t)strcmp(evp_place_text(EVP_SHARE, 112), "row"), 0);
 }
 
 static void expect_names(void) {
@@ -714,7 +716,7 @@ static void expect_records(unsigned version) {
             sheet[at] = values[i];
             const struct evp_finding found = evp_explain(sheet, sheet_bytes);
             const struct evp_check check = evp_check_sheet(sheet, sheet_bytes);
-            const char *kind = evp_place_text(found.number);
+            const char *kind = evp_place_text(found.number, found.place);
             const uint64_t record = strcmp(kind, "season") == 0 || strcmp(kind, "row") == 0 ? found.index + 1 : 0;
             expect("the number explained", found.number, check.number);
             expect("the place explained", found.place, check.place);
@@ -723,6 +725,8 @@ static void expect_records(unsigned version) {
         sheet[at] = kept;
     }
     expect("a record of nothing", evp_place_record(NULL, 0, EVP_TANK, 200), 0);
+    expect("no record of a share", evp_place_record(sheet, sheet_bytes, EVP_SHARE, 0), 0);
+    expect("the record of a share", evp_place_record(sheet, sheet_bytes, EVP_SHARE, sheet_bytes - 48), 2);
 }
 
 static void expect_texts(void) {

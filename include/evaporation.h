@@ -4,9 +4,9 @@
  * share, two sheets pooled into one, why a sheet is refused, and what a band says of a filed mass. Behind the calls
  * stand texts for their numbers, as functions of this header.
  *
- * They stand in the static library target/staticlib/libevaporation.a, which `rt staticlib evaporation` makes from the
- * proved crate (x86-64 Linux), and in the shared one that `bash c/shared` makes of it; both need only the C library.
- * c/example.c is a program over them.
+ * Link with -levaporation, or with what `pkg-config --cflags --libs evaporation` says. The static and the shared library
+ * are made of one proved crate, for x86-64 Linux, and need only the C library. docs/LIBRARY.md has first programs, every
+ * call with what it promises and costs, and what is proved; LICENSE says whose it is.
  *
  * Sheets of four versions are read, and the sheet itself says which it is: in version 1 the parking is two lists of 24
  * counts, durations and end hours; in version 2 it is a grid of 576 counts, end hour 1 first, its 24 durations in a
@@ -79,7 +79,8 @@ uint64_t evp_library_version(void);
  *   evp_arrive, evp_depart                           the sheet, EVP_ROOM, EVP_COUNT
  *   evp_pool                                         the first sheet, the second, EVP_DIFFER, the pooled one, EVP_ROOM
  *   evp_shared_open                                  the sheet, EVP_ROOM, EVP_SHARE
- *   evp_shared_row, evp_shared_totals                what evp_shared_open asks, EVP_RIGHT, EVP_COUNT
+ *   evp_shared_row                                   what evp_shared_open asks, EVP_RIGHT, EVP_COUNT
+ *   evp_shared_totals                                what evp_shared_open asks, EVP_RIGHT
  *   evp_shared_arrive, evp_shared_depart             what evp_shared_open asks, EVP_RIGHT, EVP_COUNT, EVP_SHARE */
 enum evp_number {
     EVP_ACCEPTED = 0,
@@ -220,10 +221,10 @@ struct evp_check evp_species(uint64_t total, uint64_t *milligrams, size_t count)
 
 /* The species of a sheet: those of the high of its grand total. */
 struct evp_composition {
-    uint64_t number;         /* of enum evp_number */
-    uint64_t place;          /* as above */
-    uint64_t total;          /* the high of the grand total, in milligrams; 0 where the sheet is refused */
-    uint64_t milligrams[29]; /* by evp_species_names; zeros where the sheet is refused */
+    uint64_t number; /* of enum evp_number */
+    uint64_t place;  /* as above */
+    uint64_t total;  /* the high of the grand total, in milligrams; 0 where the sheet is refused */
+    uint64_t milligrams[EVP_SPECIES]; /* by evp_species_names; zeros where the sheet is refused */
 };
 
 /* Makes the report in words that are lent for it, with its refusals, and splits its last word. The words are left as
@@ -414,8 +415,8 @@ struct evp_verdict evp_mark(struct evp_filed filed, uint64_t low, uint64_t high)
 static inline const char *evp_number_text(uint64_t number) {
     switch (number) {
     case EVP_ACCEPTED: return "accepted";
-    case EVP_HEAD_SHORT: return "a sheet has at least 8 bytes for its head";
-    case EVP_MARK: return "a sheet starts with the letters EVP";
+    case EVP_HEAD_SHORT: return "there are fewer than the 8 bytes of a head";
+    case EVP_MARK: return "the first three bytes are not the letters EVP";
     case EVP_VERSION: return "the version is not 1 to 4, or of two sheets to pool not 4";
     case EVP_SEASONS: return "the number of seasons is not 1 to 12";
     case EVP_ROWS: return "the number of rows is not 1 to 32, in version 4 not 1 to 1,000";
@@ -451,8 +452,11 @@ static inline const char *evp_number_text(uint64_t number) {
     }
 }
 
-/* What the place of a number is of: season and row are counted by evp_place_record. */
-static inline const char *evp_place_text(uint64_t number) {
+/* What the place of a refusal is of: sheet, head, parking, season, row or call. Which season or row it is, tells
+ * evp_place_record. */
+static inline const char *evp_place_text(uint64_t number, uint64_t place) {
+    if (number == EVP_SHARE && place != 0)
+        return "row"; /* at the opening of a shared ledger */
     switch (number) {
     case EVP_ACCEPTED: return "";
     case EVP_HEAD_SHORT: case EVP_LENGTH: return "sheet";
@@ -466,10 +470,10 @@ static inline const char *evp_place_text(uint64_t number) {
 }
 
 /* Which season or row of the sheet a refusal is of, counted from 1, as a report's text counts its rows; 0 where it is
- * of neither. */
+ * of neither. Of a pooled sheet, hand in the first of the two: both have its seasons, and its rows come first. */
 static inline uint64_t evp_place_record(const uint8_t *sheet, size_t sheet_bytes, uint64_t number, uint64_t place) {
     const int season = number == EVP_DAYS || number == EVP_TEMPERATURES || number == EVP_VAPOUR_PRESSURE;
-    const int row = evp_place_text(number)[0] == 'r' || (number == EVP_SHARE && place != 0);
+    const int row = evp_place_text(number, place)[0] == 'r';
     uint64_t start;
     if (sheet_bytes < 8 || (!season && !row))
         return 0;

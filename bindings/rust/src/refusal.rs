@@ -16,7 +16,7 @@ pub enum Part {
     Season,
     /// A row; the place is the first byte of its record.
     Row,
-    /// The call, not the sheet; the place is 0, but for a row without an owner at the opening of a shared ledger.
+    /// The call, not the sheet; the place is 0.
     Call,
 }
 
@@ -68,8 +68,8 @@ macro_rules! numbers {
                 }
             }
 
-            /// What its place is of.
-            pub const fn part(self) -> Part {
+            /// What its place is of, but for a row at the opening of a shared ledger: [`Refusal::part`] has it.
+            const fn part(self) -> Part {
                 match self {
                     $(Number::$name => Part::$part,)*
                 }
@@ -79,8 +79,8 @@ macro_rules! numbers {
 }
 
 numbers! {
-    HeadShort = 1, Sheet, "a sheet has at least 8 bytes for its head";
-    Mark = 2, Head, "a sheet starts with the letters EVP";
+    HeadShort = 1, Sheet, "there are fewer than the 8 bytes of a head";
+    Mark = 2, Head, "the first three bytes are not the letters EVP";
     Version = 3, Head, "the version is not 1 to 4, or of two sheets to pool not 4";
     Seasons = 4, Head, "the number of seasons is not 1 to 12";
     Rows = 5, Head, "the number of rows is not 1 to 32, in version 4 not 1 to 1,000";
@@ -138,13 +138,20 @@ impl Refusal {
         self.number.text()
     }
 
+    /// What its place is of.
+    pub const fn part(&self) -> Part {
+        match self.number {
+            Number::Share if self.place > 0 => Part::Row,
+            number => number.part(),
+        }
+    }
+
     /// Which season or row of the refused sheet it is of, counted from 1 as a report's text counts its rows; none
-    /// where it is of neither.
+    /// where it is of neither. Of a pooled sheet, hand in the first of the two.
     pub fn record(&self, sheet: &[u8]) -> Option<u64> {
-        let (before, size) = match self.number.part() {
+        let (before, size) = match self.part() {
             Part::Season => (0, 8),
             Part::Row => (8 * u64::from(*sheet.get(5)?), 24),
-            Part::Call if self.number == Number::Share && self.place > 0 => (8 * u64::from(*sheet.get(5)?), 24),
             _ => return None,
         };
         let parking = if sheet.get(3..5)? == [1, 0] { 104 } else { 1160 };
