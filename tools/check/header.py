@@ -7,7 +7,8 @@ length, whose name is that of the slice with _bytes or _count, or one of these
 alone. A struct is its members down to the numbers, each with its place in the
 struct and the words of its name: the member `rural` of a member `mileage` may
 be called rural_mileage in C. Members at the same places with the same types in
-another order are told apart by these words.
+another order are told apart by these words. The numbers of a sheet stand in the
+header's enum in the order in which crates/sheet/specs/Demands.antt asks them.
 """
 
 import re
@@ -20,6 +21,7 @@ from tools.command import TOP
 HEADER = "include/evaporation.h"
 CRATE = "crates/evaporation/src/*.rt"
 ALL_CRATES = "crates/*/src/**/*.rt"
+DEMANDS = "crates/sheet/specs/Demands.antt"
 SCALARS = {"u8": "uint8_t", "u32": "uint32_t", "u64": "uint64_t", "usize": "size_t", "f64": "double", "bool": "bool"}
 SIZES = {"uint8_t": 1, "bool": 1, "uint32_t": 4, "uint64_t": 8, "size_t": 8, "double": 8}
 LENGTHS = ("bytes", "count")
@@ -41,9 +43,11 @@ class Function(NamedTuple):
 
 
 class Source(NamedTuple):
-    """One side: functions and structs by their names."""
+    """One side: functions and structs by their names; the numbers of a sheet in their order, and in the header those
+    of the calls behind them."""
     functions: dict[str, Function]
     structs: dict[str, list[Member]]
+    numbers: tuple[int, ...] = ()
 
 
 class Number(NamedTuple):
@@ -90,6 +94,11 @@ def crate_source(exports: str, declarations: str) -> Source:
     return Source(functions, {name: crate_members(members) for name, members in structs})
 
 
+def numbers_asked(demands: str) -> tuple[int, ...]:
+    """The numbers of the demands on a sheet, in their order."""
+    return tuple(map(int, re.findall(r"\bdemand (\d+) ", re.sub(r"--[^\n]*", "", demands))))
+
+
 # ----------------------------------------------------------------- the header
 
 
@@ -111,6 +120,8 @@ def header_parameters(written: str) -> list[Member]:
 
 def header_source(text: str) -> Source:
     text = re.sub(r"/\*.*?\*/", "", text, flags=re.S)
+    for name, value in re.findall(r"^#define (\w+) (\d+)$", text, re.M):
+        text = text.replace("[%s]" % name, "[%s]" % value)  # the length of an array
     text = re.sub(r"^#(?:.*\\\n)*.*$", "", text, flags=re.M)
     text = INLINE.sub("", text)
     functions = {
@@ -121,7 +132,8 @@ def header_source(text: str) -> Source:
         name: [member for declaration in members.split(";")[:-1] for member in header_member(declaration)]
         for name, members in re.findall(r"struct (\w+) \{(.*?)\};", text, re.S)
     }
-    return Source(functions, structs)
+    numbers = re.search(r"enum evp_number \{\s*EVP_ACCEPTED = 0,(.*?)\};", text, re.S)
+    return Source(functions, structs, tuple(map(int, re.findall(r"= (\d+)", numbers[1]))) if numbers else ())
 
 
 # ------------------------------------------------------------------ both sides
@@ -197,6 +209,9 @@ def faults(ours: Source, theirs: Source) -> Iterator[str]:
         theirs, (m.type for f in theirs.functions.values() for m in f.parameters))
     for name in sorted(theirs.structs.keys() - used):
         yield "struct %s is used by no function" % name
+    first = theirs.numbers[:len(ours.numbers)]
+    if first != ours.numbers:
+        yield "the numbers of a sheet are asked as %s, and the header has %s" % (ours.numbers, first)
 
 
 def struct_pairs(ours: Source, theirs: Source, name: str) -> list[tuple[str, str]]:
@@ -229,4 +244,5 @@ def reached(source: Source, names) -> set[str]:
 def both_sources() -> tuple[Source, Source]:
     """The crate's, whose structs may be those of a crate below, and the header's."""
     header = Path(TOP / HEADER).read_text(encoding="ascii")
-    return crate_source(crate_text(CRATE), crate_text(ALL_CRATES)), header_source(header)
+    asked = numbers_asked(Path(TOP / DEMANDS).read_text(encoding="utf-8"))
+    return crate_source(crate_text(CRATE), crate_text(ALL_CRATES))._replace(numbers=asked), header_source(header)

@@ -88,6 +88,20 @@ class HeaderTest(unittest.TestCase):
         self.assertEqual(self.faults(HEADER + inline), [])
         self.assertEqual(len(self.faults(HEADER + "uint64_t evp_d(uint64_t x);\n")), 1)
 
+    def test_numbers_in_their_order(self):
+        asked = header.numbers_asked("demand 1 0 A next -- demand 9 0 B\n    demand 7 0 C next\n    demand 2 8 D\n")
+        self.assertEqual(asked, (1, 7, 2))
+        crate = header.crate_source(CRATE, CRATE)._replace(numbers=asked)
+        for numbers, faults in (("EVP_C = 1, EVP_D = 7, EVP_E = 2, EVP_F = 3", 0), ("EVP_C = 1, EVP_D = 7", 1),
+                                ("EVP_C = 1, EVP_E = 2, EVP_D = 7", 1)):
+            enum = "enum evp_number {\n    EVP_ACCEPTED = 0,\n    %s\n};\n" % numbers
+            self.assertEqual(len(list(header.faults(crate, header.header_source(HEADER + enum)))), faults, numbers)
+
+    def test_length_by_its_name(self):
+        named = "#define EVP_PARTS 3\n" + HEADER.replace("parts[3]", "parts[EVP_PARTS]")
+        self.assertEqual(self.faults(named), [])
+        self.assertEqual(len(self.faults(named.replace("EVP_PARTS 3", "EVP_PARTS 4"))), 2)
+
     def test_exchanged_slices(self):
         self.assertTrue(self.changed("const uint8_t *sheet, size_t sheet_bytes, uint64_t *words, size_t words_count",
                                      "uint64_t *words, size_t words_count, const uint8_t *sheet, size_t sheet_bytes"))
