@@ -37,40 +37,48 @@ MECHANISMS = ("diurnal", "soak", "running")
 
 
 class Number(IntEnum):
-    """Why a call refuses; 0 where it does not."""
-    ACCEPTED = 0
-    HEAD_SHORT = 1
-    MARK = 2
-    VERSION = 3
-    SEASONS = 4
-    ROWS = 5
-    HEAD_ZERO = 6
-    LENGTH = 7
-    DURATIONS = 8
-    HOURS = 9
-    DAYS = 10
-    TEMPERATURES = 11
-    VAPOUR_PRESSURE = 12
-    CLASS = 13
-    CANISTER = 14
-    PERCENT = 15
-    VEHICLES = 16
-    TANK = 17
-    TRIPS = 18
-    LOAD = 19
-    EXPONENT = 20
-    ROW_ZEROS = 21
-    ROOM = 22
-    ABSENT = 23
-    GRID = 24
-    MILEAGE = 25
-    FLEET = 26
-    CELL = 27
-    TRAVEL = 28
-    COUNT = 29
-    RIGHT = 30
-    SHARE = 31
-    DIFFER = 32
+    """Why a call refuses, with the header's words for it; 0 where it does not."""
+    text: str
+
+    def __new__(cls, number: int, text: str):
+        member = int.__new__(cls, number)
+        member._value_, member.text = number, text
+        return member
+
+    ACCEPTED = 0, "accepted"
+    HEAD_SHORT = 1, "there are fewer than the 8 bytes of a head"
+    MARK = 2, "the first three bytes are not the letters EVP"
+    VERSION = 3, "the version is not 1 to 4, or of two sheets to pool not 4"
+    SEASONS = 4, "the number of seasons is not 1 to 12"
+    ROWS = 5, "the number of rows is not 1 to 32, in version 4 not 1 to 1,000"
+    HEAD_ZERO = 6, "byte 7 is not 0"
+    LENGTH = 7, "the length does not fit the seasons and rows that the head tells of"
+    DURATIONS = 8, "the 24 counts of durations do not sum to 1 to 1,000"
+    HOURS = 9, "the 24 counts of end hours do not sum to 1 to 1,000"
+    DAYS = 10, "the days, alone or with those of the seasons before, are not 1 to 366"
+    TEMPERATURES = 11, "a temperature is not -30.0 to 50.0 degrees C, or the lowest is above the highest"
+    VAPOUR_PRESSURE = 12, "the vapour pressure is not 30.0 to 110.0 kPa"
+    CLASS = 13, "class and technology are not in the table"
+    CANISTER = 14, "the canister is none of 0, 1, 2, 3 and 255"
+    PERCENT = 15, "a share or the fill level is above 100 percent"
+    VEHICLES = 16, "there are more than 10,000,000 vehicles"
+    TANK = 17, "the tank is above 150.0 l"
+    TRIPS = 18, "there are more than 12.00 trips a day, or more than 1,440 minutes a trip"
+    LOAD = 19, "the load is above m_sat, or one of them is given without a canister"
+    EXPONENT = 20, "m_sat is too large for the canister"
+    ROW_ZEROS = 21, "the last four bytes of the row are not 0"
+    ROOM = 22, "the room that was lent is too small"
+    ABSENT = 23, "there is no such season, row or factor"
+    GRID = 24, "the 576 counts of the grid do not sum to 1 to 1,000,000"
+    MILEAGE = 25, ("the mileage is above 1,000,000 km, or stands without a canister, beside a load or beside a "
+                   "large m_sat")
+    FLEET = 26, "with the rows before there are more than 100,000,000 vehicles"
+    CELL = 27, "a low is above its high, a mass is above 2^53 mg, or a cell is none"
+    TRAVEL = 28, "a mileage or a speed is not 1 to 1,000,000, or town is neither 0 nor 1"
+    COUNT = 29, "there is no such row, it has fewer vehicles, or it would have too many"
+    RIGHT = 30, "the one who calls has no right to this"
+    SHARE = 31, "a row has no owner, or a participant would have more than 100 rows or 10,000,000 vehicles"
+    DIFFER = 32, "the seasons or the parking of the two sheets differ"
 
 
 class Kind(IntEnum):
@@ -104,6 +112,11 @@ class Refusal(Exception):
     def __init__(self, number: int, place: int, sheet: int = 0):
         super().__init__("refused %d at %d" % (number, place))
         self.number, self.place, self.sheet = Number(number), place, sheet
+
+    @property
+    def text(self) -> str:
+        """What is wrong, in one sentence; `evp.explain` has more of a sheet."""
+        return self.number.text
 
 
 class MissingCall(Exception):
@@ -313,6 +326,8 @@ class Library:
         """The answer of a call; bytes and buffers are handed over with their lengths."""
         handed = []
         for value in given:
+            if isinstance(value, (bytearray, memoryview)):
+                value = bytes(value)
             handed.append(_word(value) if isinstance(value, int) else value)
             if isinstance(value, (bytes, ctypes.Array)):
                 handed.append(len(value))
@@ -364,12 +379,13 @@ class Library:
         return Composition(answer.total, answer.milligrams[:])
 
     def cells_of_row(self, masses: Masses, travel: Travel) -> RowCells:
-        words = _RowWords(*(word for band in masses for word in band))
+        words = _RowWords(*(_word(word) for band in masses for word in band))
         answer = _accepted(self._call("cells_of_row", words, _Travel(*map(_word, travel))))
         return RowCells(_cell(answer.urban), _cell(answer.rural), _cell(answer.highway))
 
     def add_cells(self, a: Cell, b: Cell) -> Cell:
-        return _cell(_accepted(self._call("add_cells", _Cell(*a), _Cell(*b))).cell)
+        handed = (_Cell(_word(cell.kind), cell.low, cell.high) for cell in (a, b))
+        return _cell(_accepted(self._call("add_cells", *handed)).cell)
 
     def pool(self, first: bytes, second: bytes) -> bytes:
         """The pooled sheet of two."""
