@@ -80,6 +80,13 @@ class Number(IntEnum):
     SHARE = 31, "a row has no owner, or a participant would have more than 100 rows or 10,000,000 vehicles"
     DIFFER = 32, "the seasons or the parking of the two sheets differ"
 
+    @classmethod
+    def _missing_(cls, value: object) -> "Number":
+        """A number of a later library, which has no name here."""
+        member = int.__new__(cls, value)
+        member._name_, member._value_, member.text = "NUMBER_%d" % value, value, "a number of a later library"
+        return member
+
 
 class Kind(IntEnum):
     """What a cell of the map has."""
@@ -495,5 +502,6 @@ def load() -> Library:
     """The library, loaded once; FileNotFoundError where there is none."""
     path = find()
     if path is None:
-        raise FileNotFoundError("no %s in %s or %s; bash c/shared makes it" % (NAME, *FOLDERS))
+        raise FileNotFoundError(
+            "no %s in %s or %s: bash c/shared makes it, or EVP_LIBRARY names one" % (NAME, *FOLDERS))
     return Library(path)

@@ -273,6 +273,12 @@ class OtherCallsTest(unittest.TestCase):
         for filed in (Filed(10 ** 9, 0, Unit.T), Filed(1, 7, Unit.MG), Filed(2 ** 64 - 1, 6, Unit.MG)):
             self.assertEqual(LIBRARY.mark(filed, Band(0, 1)).outcome, Outcome.UNREADABLE)
 
+    def test_a_number_of_a_later_library(self):
+        later = Refusal(33, 7)
+        self.assertEqual((later.number, str(later), later.text),
+                         (33, "refused 33 at 7", "a number of a later library"))
+        self.assertNotIn(33, list(Number))
+
     def test_a_call_that_is_not_there(self):
         with self.assertRaisesRegex(MissingCall, "evp_none"):
             library._absent("evp_none")()

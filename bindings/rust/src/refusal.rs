@@ -37,34 +37,40 @@ impl fmt::Display for Part {
 macro_rules! numbers {
     ($($name:ident = $number:literal, $part:ident, $text:literal;)*) => {
         /// Why a call refuses: the condition that applies first.
-        #[derive(Clone, Copy, Debug, PartialEq, Eq, Hash, PartialOrd, Ord)]
+        #[derive(Clone, Copy, Debug, PartialEq, Eq, Hash)]
         #[non_exhaustive]
-        #[repr(u64)]
         pub enum Number {
-            $(#[doc = $text] $name = $number,)*
+            $(#[doc = $text] $name,)*
+            /// A number of a later library, which this crate has no name for.
+            Other(u64),
         }
 
         impl Number {
-            /// Every number, in the order of the header.
+            /// Every number with a name, in the order of the header.
             pub const ALL: &'static [Number] = &[$(Number::$name),*];
 
             /// The number that the calls answer for it.
             pub const fn code(self) -> u64 {
-                self as u64
-            }
-
-            /// The number of this code; none for 0, which is an accepted call, and for a code that no call answers.
-            pub fn of(code: u64) -> Option<Number> {
-                match code {
-                    $($number => Some(Number::$name),)*
-                    _ => None,
+                match self {
+                    $(Number::$name => $number,)*
+                    Number::Other(code) => code,
                 }
             }
 
-            /// What is wrong, in a few words.
+            /// The number of this code; none for 0, which is an accepted call.
+            pub const fn of(code: u64) -> Option<Number> {
+                match code {
+                    0 => None,
+                    $($number => Some(Number::$name),)*
+                    _ => Some(Number::Other(code)),
+                }
+            }
+
+            /// What is wrong, in one sentence.
             pub const fn text(self) -> &'static str {
                 match self {
                     $(Number::$name => $text,)*
+                    Number::Other(_) => "a number of a later library",
                 }
             }
 
@@ -72,6 +78,7 @@ macro_rules! numbers {
             const fn part(self) -> Part {
                 match self {
                     $(Number::$name => Part::$part,)*
+                    Number::Other(_) => Part::Call,
                 }
             }
         }
@@ -126,14 +133,10 @@ pub struct Refusal {
 impl Refusal {
     /// The refusal of an answer, or none where it is accepted.
     pub(crate) fn of(number: u64, place: u64) -> Result<(), Refusal> {
-        match Number::of(number) {
-            Some(number) => Err(Refusal { number, place }),
-            None if number == 0 => Ok(()),
-            None => panic!("the library answers the number {number}, which this crate does not know"),
-        }
+        Number::of(number).map_or(Ok(()), |number| Err(Refusal { number, place }))
     }
 
-    /// What is wrong, in a few words.
+    /// What is wrong, in one sentence.
     pub const fn text(&self) -> &'static str {
         self.number.text()
     }

@@ -38,10 +38,11 @@ fn numbers_are_those_of_the_header() {
     let ours: Vec<String> =
         Number::ALL.iter().map(|&number| format!("{} = {}", header_name(number), number.code())).collect();
     assert_eq!(ours, names[1..]);
-    for code in 0..100 {
-        let found = Number::of(code);
-        assert_eq!(found.is_some(), Number::ALL.iter().any(|number| number.code() == code));
-        assert!(found.map_or(true, |number| number.code() == code));
+    assert_eq!(Number::of(0), None);
+    for code in 1..100 {
+        let found = Number::of(code).unwrap();
+        assert_eq!(found.code(), code);
+        assert_eq!(found == Number::Other(code), !Number::ALL.contains(&found), "{code}");
     }
 }
 
