@@ -60,14 +60,17 @@ static uint64_t shared_row(void) {
 static uint64_t shared_totals(void) {
     return evp_shared_totals(half, half_bytes, owners, rows / 2, words, EVP_REPORT_WORDS, 0).number;
 }
-/* of an accepted sheet, and of one whose ninth row has too large a saturating load: the largest is sought */
+/* of a sheet whose last canister has too large a saturating load: all before it is read, and the largest is sought */
 static uint64_t explain(void) {
-    uint8_t *saturation = sheet + sheet_bytes - 24 * (rows - 8) + 18, kept = saturation[1];
-    uint64_t accepted = evp_explain(sheet, sheet_bytes).number, sought;
-    saturation[1] = 255;
-    sought = evp_explain(sheet, sheet_bytes).number;
-    saturation[1] = kept;
-    return accepted | (sought ^ EVP_EXPONENT);
+    uint8_t *row = sheet + sheet_bytes - 24, kept;
+    uint64_t number;
+    while (row[2] == 0)
+        row -= 24;
+    kept = row[19];
+    row[19] = 255;
+    number = evp_explain(sheet, sheet_bytes).number;
+    row[19] = kept;
+    return number ^ EVP_EXPONENT;
 }
 static uint64_t mark(void) {
     const struct evp_filed filed = {999999999999999999, 6, EVP_MILLIGRAM};
@@ -87,7 +90,7 @@ static const struct {
     {"evp_cells_of_row", cells_of_row, 1}, {"evp_add_cells", add_cells, 1}, {"evp_arrive", arrive, 1},
     {"evp_depart", depart, 1}, {"evp_pool", pool, 1}, {"evp_shared_open", shared_open, 1},
     {"evp_shared_arrive", shared_arrive, 1}, {"evp_shared_depart", shared_depart, 1},
-    {"evp_shared_row", shared_row, 1}, {"evp_shared_totals", shared_totals, 1}, {"evp_explain", explain, 2},
+    {"evp_shared_row", shared_row, 1}, {"evp_shared_totals", shared_totals, 1}, {"evp_explain", explain, 1},
     {"evp_mark", mark, 1},
 };
 

@@ -34,7 +34,8 @@ extern "C" {
 #endif
 
 /* The version of this header; evp_library_version() is that of the library. A new patch answers the same; a new minor
- * has more calls, and those that were there answer the same; a new major may answer otherwise. */
+ * has more calls, or accepts a version of the sheet that was refused before, and answers the same for all else; a new
+ * major may answer otherwise. */
 #define EVP_LIBRARY_MAJOR 1
 #define EVP_LIBRARY_MINOR 0
 #define EVP_LIBRARY_PATCH 0
@@ -46,7 +47,7 @@ extern "C" {
 uint64_t evp_library_version(void);
 
 /* A thread whose whole stack has so many bytes can make every call: measured are at most 107,816, the thread's own among
- * them, for the calls that make a report or a factor, and at most 7,376 for all others. */
+ * them, for the calls that make a report or a factor, and at most 7,280 for all others. */
 #define EVP_STACK_BYTES 163840
 
 /* The longest sheet, of version 4 with 12 seasons and 1,000 rows, in bytes; and its report, in words. */

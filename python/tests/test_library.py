@@ -69,6 +69,34 @@ class HeaderTest(unittest.TestCase):
         self.assertEqual(sizeof(library._Travel), 48)
 
 
+class DocumentTest(unittest.TestCase):
+    """What docs/LIBRARY.md tells of the calls."""
+    text = (TOP / "docs" / "LIBRARY.md").read_text(encoding="utf-8")
+
+    def test_refusal_in_words(self):
+        cut = sample("table-3-5-day")[:-1]
+        self.assertIn("\n    %s\n" % explain.explain(LIBRARY, cut).text, self.text)
+
+    def test_stack(self):
+        """Of each call, and of all, as c/stack.c has measured them."""
+        measured = TOP / "target" / "c" / "stack.txt"
+        if not measured.exists():
+            self.skipTest("no %s; bash c/run leaves it" % measured)
+        lines = re.findall(r"^version \d (\w+) +(\d+) bytes", measured.read_text(encoding="ascii"), re.M)
+        taken = {name: max(int(size) for other, size in lines if other == name) for name, _ in lines}
+        own = taken["evp_library_version"]  # the thread's: the call itself takes next to nothing
+        sections = re.findall(r"^### (`evp_.*)\n(?:.*\n)*?- \*\*Costs\*\* .*?(\d+) kB of stack", self.text, re.M)
+        told = {name: int(size) for names, size in sections for name in re.findall(r"`(\w+)`", names)}
+        self.assertEqual(told, {name: max(1, -(-(size - own) // 1000)) for name, size in taken.items()})
+        self.assertEqual(set(taken), set(library.CALLS))
+        most, others = max(taken.values()), max(size for size in taken.values() if size < 50_000)
+        told = " ".join(self.text.split())
+        self.assertIn("Measured are {:,} bytes, {:,} of the thread's own among them".format(most, own), told)
+        self.assertIn("and {:,} for all others".format(others), told)
+        self.assertIn("measured are at most {:,}, the".format(most), HEADER)
+        self.assertIn("at most {:,} for all others".format(others), HEADER)
+
+
 class ReportTest(unittest.TestCase):
     """The report of every sample."""
 

@@ -24,17 +24,49 @@ static inline const char *evp_number_text(uint64_t number) {
 """
 
 
+CALL = """## The calls
+
+### `evp_report`
+
+```c
+struct evp_check evp_report(const uint8_t *sheet, size_t sheet_bytes);
+```
+
+- **Takes** a sheet.
+- **Answers** a number.
+- **Promises** much.
+- **Costs** little.
+
+## Behind
+"""
+
+
 class SnippetsTest(unittest.TestCase):
     """A document that shows or names what is not there."""
 
     def test_same(self):
         self.assertEqual(list(snippets.snippet_faults(PAGE)), [])
-        self.assertEqual(snippets.written(PAGE), PAGE)
+        self.assertEqual(snippets.written(PAGE, HEADER), PAGE)
+
+    def test_calls(self):
+        declared = HEADER.replace("; /* as evp_other() */", ";")
+        self.assertEqual(list(snippets.call_faults(CALL, declared)), [])
+        self.assertEqual(list(snippets.snippet_faults(PAGE + CALL)), [])
+        self.assertEqual(len(list(snippets.call_faults(PAGE, declared))), 1)
+        for old, new in (("size_t sheet_bytes", "size_t bytes"), ("- **Costs** little.\n", "")):
+            self.assertEqual(len(list(snippets.call_faults(CALL.replace(old, new), declared))), 1, old)
+        stale = CALL.replace("size_t sheet_bytes", "size_t bytes")
+        self.assertEqual(snippets.written(stale, declared), CALL)
+
+    def test_lines_of_code(self):
+        self.assertEqual(snippets.code_lines("/* a */\n#include <a.h>\n\nint main(void) {\n    return 0; // b\n}\n"), 2)
+        self.assertEqual(snippets.code_lines("import a\nfrom b import c\n\nfor d in e:\n    f(d)\n"), 2)
+        self.assertEqual(snippets.code_lines("//! a\nuse b;\nfn c() {\n    d(\n    );\n}\n"), 2)
 
     def test_stale(self):
         stale = PAGE.replace("import sys", "import os")
         self.assertEqual(len(list(snippets.snippet_faults(stale))), 1)
-        self.assertEqual(snippets.written(stale), PAGE)
+        self.assertEqual(snippets.written(stale, HEADER), PAGE)
 
     def test_no_such_file(self):
         self.assertEqual(len(list(snippets.snippet_faults(PAGE.replace("first.py", "last.py")))), 1)
