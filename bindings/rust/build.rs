@@ -32,6 +32,10 @@ fn stop(why: String) -> ! {
 fn main() {
     println!("cargo:rerun-if-env-changed=EVAPORATION_LIB");
     println!("cargo:rerun-if-env-changed=PKG_CONFIG_PATH");
+    let target = env::var("TARGET").unwrap_or_default();
+    if !(target.starts_with("x86_64-") && target.contains("-linux")) {
+        stop(format!("the library is for x86-64 Linux, and the target is {target}"))
+    }
     let Some(folder) = find() else {
         stop(format!(
             "no {NAME}; bash c/install PREFIX installs it for pkg-config, or EVAPORATION_LIB names its folder"

@@ -5,13 +5,14 @@ import re
 import subprocess
 import unittest
 from collections.abc import Iterator
-from ctypes import sizeof
+from ctypes import POINTER, c_char_p, c_uint8, c_uint64, sizeof
 
 from support import GRID_TEXT, LIBRARY, TEXT, TOP, DeskTestCase, sample, samples
 
 from evp import explain, layout, library, sheet
 from evp.library import Band, Cell, Filed, Kind, Masses, MissingCall, Number, Outcome, Refusal, Travel, Unit
 from tools import reckoning
+from tools.check import header
 from tools.reckoning import cells as second_cells
 from tools.reckoning import marking
 from tools.reckoning import pool as second_pool
@@ -40,6 +41,20 @@ class HeaderTest(unittest.TestCase):
         """Those that the header has itself are no calls."""
         text = re.sub(r"/\*.*?\*/|^static inline .*?^\}$", "", HEADER, flags=re.S | re.M)
         self.assertEqual(set(re.findall(r"\b(evp_\w+)\(", text)), set(library.CALLS))
+
+    def test_types(self):
+        """What each call takes and answers; a size_t is a number of 64 bits here."""
+        names = {c_char_p: "uint8_t *", POINTER(c_uint8): "uint8_t *", POINTER(c_uint64): "uint64_t *",
+                 c_uint64: "uint64_t"}
+        functions = header.header_source(HEADER).functions
+        for call, (answer, *taken) in library.CALLS.items():
+            declared = [member.type for member in functions[call].parameters]
+            plain = [kind.removeprefix("const ").replace("size_t", "uint64_t")
+                     for kind in (functions[call].answer, *declared)]
+            self.assertEqual([names.get(kind, kind.__name__) for kind in (answer, *taken)], plain, call)
+            for kind, written in zip(taken, declared):
+                if kind is c_char_p:  # bytes, which nobody may change
+                    self.assertTrue(written.startswith("const "), call)
 
     def test_texts(self):
         """The header, the binding and the desk say the same, the desk of what a call refuses besides a sheet."""
