@@ -1,6 +1,6 @@
-// The program `pool`: reads the two sheets that its arguments name and writes the pooled sheet to standard output, or to standard error
-// which sheet is refused, the first, the second or the pooled one, and the line with its number and place. Where a file cannot be read, or
-// not all of the pooled sheet could be written, it says so on standard error.
+// The program `pool`: reads the two sheets that its arguments name and writes the pooled sheet to standard output, or to
+// standard error which sheet is refused, the first, the second or the pooled one, and the line with its number and
+// place. Where a file cannot be read, or not all of the pooled sheet could be written, it says so on standard error.
 use libc::STDERR_FILENO;
 use libc::STDOUT_FILENO;
 use pooling::PoolAnswer;
