@@ -4,6 +4,7 @@
 // usage: cpp SHEET.evp
 #include "evaporation.h"
 
+#include <cstdint>
 #include <cstdio>
 #include <fstream>
 #include <iterator>
@@ -83,6 +84,8 @@ int main(int count, char **arguments) {
     if (words.empty())
         return 1;
     expect("the version", evp_library_version() == EVP_LIBRARY_VERSION);
+    expect("its words", words.size() == EVP_WORDS_OF((words.size() - EVP_WORDS_OF(0)) / 6));
+    expect("a pool", EVP_POOL_BYTES(sheet.size(), sheet.size(), sheet[5]) > sheet.size());
     const std::string last = "\ntotal " + std::to_string(words[words.size() - 2]);
     expect("the last line", text_of(sheet).find(last) != std::string::npos);
     expect_species(sheet, words);

@@ -1,4 +1,5 @@
 // The total of the sheet on standard input, or why it is refused.
+#include <cstdint>
 #include <evaporation.h>
 #include <iostream>
 #include <iterator>

@@ -33,6 +33,13 @@
 extern "C" {
 #endif
 
+/* For the macros below: a number as a size_t, cast as each language has it. */
+#ifdef __cplusplus
+#define EVP_SIZE_OF(number) static_cast<size_t>(number)
+#else
+#define EVP_SIZE_OF(number) ((size_t)(number))
+#endif
+
 /* The version of this header; evp_library_version() is that of the library. A new patch answers the same; a new minor
  * has more calls, or accepts a version of the sheet that was refused before, and answers the same for all else; a new
  * major may answer otherwise. */
@@ -60,7 +67,7 @@ uint64_t evp_library_version(void);
 #define EVP_GRID_END 1160
 
 /* The words of the report of a sheet with this many rows. */
-#define EVP_WORDS_OF(rows) (6 * (size_t)(rows) + 26)
+#define EVP_WORDS_OF(rows) (6 * EVP_SIZE_OF(rows) + 26)
 
 /* No text is longer, in bytes: 151 for each of 1,000 rows, and 622. */
 #define EVP_TEXT_BYTES 151622
@@ -138,7 +145,7 @@ enum evp_pool_sheet {
 /* The bytes of the pooled sheet of two sheets of these lengths, which have the same number of seasons; never more than
  * EVP_SHEET_BYTES where the pool is accepted. */
 #define EVP_POOL_BYTES(first_bytes, second_bytes, seasons) \
-    ((size_t)(first_bytes) + (size_t)(second_bytes) - EVP_GRID_END - 8 * (size_t)(seasons))
+    (EVP_SIZE_OF(first_bytes) + EVP_SIZE_OF(second_bytes) - EVP_GRID_END - 8 * EVP_SIZE_OF(seasons))
 
 /* The answer of the check, of the report call, of the species call, and of the calls on a ledger. */
 struct evp_check {
@@ -480,7 +487,7 @@ static inline uint64_t evp_place_record(const uint8_t *sheet, size_t sheet_bytes
         return 0;
     start = sheet[3] == 1 && sheet[4] == 0 ? EVP_LISTS_END : EVP_GRID_END;
     if (row)
-        start += 8 * (uint64_t)sheet[5];
+        start += UINT64_C(8) * sheet[5];
     return place < start ? 0 : (place - start) / (row ? 24 : 8) + 1;
 }
 
