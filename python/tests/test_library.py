@@ -93,23 +93,25 @@ class DocumentTest(unittest.TestCase):
         self.assertIn("\n    %s\n" % explain.explain(LIBRARY, cut).text, self.text)
 
     def test_stack(self):
-        """Of each call, and of all, as c/stack.c has measured them."""
+        """Of each call and of all, as c/stack.c has measured them; another compiler or C library may take a little more
+        or less."""
         measured = TOP / "target" / "c" / "stack.txt"
         if not measured.exists():
             self.skipTest("no %s; bash c/run leaves it" % measured)
         lines = re.findall(r"^version \d (\w+) +(\d+) bytes", measured.read_text(encoding="ascii"), re.M)
         taken = {name: max(int(size) for other, size in lines if other == name) for name, _ in lines}
+        self.assertEqual(set(taken), set(library.CALLS))
         own = taken["evp_library_version"]  # the thread's: the call itself takes next to nothing
         sections = re.findall(r"^### (`evp_.*)\n(?:.*\n)*?- \*\*Costs\*\* .*?(\d+) kB of stack", self.text, re.M)
         told = {name: int(size) for names, size in sections for name in re.findall(r"`(\w+)`", names)}
-        self.assertEqual(told, {name: max(1, -(-(size - own) // 1000)) for name, size in taken.items()})
-        self.assertEqual(set(taken), set(library.CALLS))
+        for name, size in taken.items():
+            self.assertAlmostEqual(told[name], max(1, -(-(size - own) // 1000)), delta=1, msg=name)
         most, others = max(taken.values()), max(size for size in taken.values() if size < 50_000)
-        told = " ".join(self.text.split())
-        self.assertIn("Measured are {:,} bytes, {:,} of the thread's own among them".format(most, own), told)
-        self.assertIn("and {:,} for all others".format(others), told)
-        self.assertIn("measured are at most {:,}, the".format(most), HEADER)
-        self.assertIn("at most {:,} for all others".format(others), HEADER)
+        for where, words in ((self.text, r"Measured are ([\d,]+) bytes.*?and ([\d,]+) for all others"),
+                             (HEADER, r"measured are at most ([\d,]+),.*?at most ([\d,]+) for all others")):
+            found = [int(figure.replace(",", "")) for figure in re.search(words, where, re.S).groups()]
+            for figure, size in zip(found, (most, others)):
+                self.assertAlmostEqual(figure, size, delta=1000)
 
 
 class ReportTest(unittest.TestCase):
