@@ -26,7 +26,7 @@ returns c =
       record {
         tables-are = p .0;
         grid-ready = p .1;
-        day-ready = rw (a .season-is) (d .day-of .ensures _ (marks-ready m));
+        day-ready = rw (a .season-is) (d .day-of .ensures);
         means-are = rw (a .season-is) (a .means-are);
       },
       λ wanted. rw (← (rises-ready w)) (k .list-where .ensures wanted),
@@ -39,7 +39,7 @@ prepare-spec =
     (λ c κs. (c .pre .0, c .pre .2))
     (λ c κs. let m = c .before .before in steps-most (m .before .pre .2) (m .at-marks .ensures))
     (λ c κs. c .before .before .before .before .before .pre .1)
-    (λ c κs. search needs)
+    (λ c κs. marks-ready (c .before .before .before .before .before))
     (λ c κs. let w = c .before .before .before .before in
     (w .before .before .before .before .pre .1, marks-ready (w .before .before .before), rises-ready w))
     returns)
