@@ -40,12 +40,12 @@ use Rattle.parking.proofs.Tally.{markOf-below, apartOf-below}
 use Rattle.parking.proofs.Weighted.{mean-ext, mean-below, cells-mean}
 use Rattle.breakthrough.specs.declared.curves.Curves.{Curves}
 use Rattle.breakthrough.specs.Curves.{FitReady, basesOf, growthsOf, startsBy, CurvesBy, CurvesOf}
-use Rattle.breakthrough.specs.Through.{CurvesReady, curveAt, through}
+use Rattle.breakthrough.specs.Through.{CurvesReady, curveAt, through, RaisesFit, raiseThrough}
 use Rattle.breakthrough.proofs.Fitted.{fit-ready, curves-of, curves-ready, through-is, through-none, through-alike}
 use Rattle.row_factors.specs.declared.season.AtSeason.{AtSeason}
 use Rattle.row_factors.specs.declared.escapes.Escapes.{Escapes}
 use Rattle.row_factors.specs.Season.{meanAt, risesOf, growthPlace, RaisedAt, DayReady, RowLent}
-use Rattle.row_factors.specs.Seven.{parkingThrough, raiseThrough, parkingEscape, VapourOf, CarEscapes, TwoWheelerEscapes}
+use Rattle.row_factors.specs.Seven.{parkingThrough, parkingEscape, VapourOf, CarEscapes, TwoWheelerEscapes}
 
 module _ (season : Season) (row : Row) (counts : List ℕ) where
   -- with a canister the escape of each cell is averaged
@@ -217,14 +217,12 @@ module _ {tables grid list day : List ℕ} {given : AtSeason} {row : Row} {kept 
 
   -- over a raise, which stands from a place of the day on
   module _ (k place : ℕ) (pick : DayReady (given .season) day → RaisedAt (given .season) k day place) where
-    pub raise-needs : k ≤ 60 → place ≤ 225
-        → (tables ≡ entries) × GridReady grid × CurvesReady c × (place ≤ 225) × ((d : ℕ) → d < 25 → at day (place + d) ≤ 56 * 2 ^ 40)
+    pub raise-needs : k ≤ 60 → place ≤ 225 → (tables ≡ entries) × GridReady grid × CurvesReady c × RaisesFit day place
     raise-needs h there = (
       q .0 .lent .tables-are,
       q .0 .lent .grid-ready,
       fitted,
-      there,
-      λ d l. rw (pick its-day d l) (raise-mark-most (its-day .season-in) k (ahead d) h),
+      record { there = there; raises-most = λ d l. rw (pick its-day d l) (raise-mark-most (its-day .season-in) k (ahead d) h) },
     )
 
     pub raise-right : (ends : Bool) {x : ℕ} → x ≡ raiseThrough (cellsIn grid) ends day place c

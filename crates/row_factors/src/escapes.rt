@@ -21,7 +21,6 @@ use exact::Row;
 use exact::Season;
 use fields::classes::halves;
 use parking::grid::SUM;
-use parking::means::mean_by_distance;
 ghost use mathlib.Core.Path.{_≡_};
 ghost use Prim.Native.Nat.{ℕ, _+_, _*_, _^_, _<_, _≤_};
 ghost use Rattle.numbers.specs.Lists.{tab, at, AllAtMost};
@@ -33,7 +32,7 @@ ghost use Rattle.parking.specs.SeasonList.{ListFits};
 ghost use Rattle.breakthrough.specs.Curves.{CurvesOf};
 ghost use Rattle.breakthrough.specs.Through.{CurvesReady};
 ghost use Rattle.row_factors.specs.Season.{growthPlace, RowLent};
-ghost use Rattle.row_factors.specs.Seven.{parkingThrough, raiseThrough, VapourOf, CarEscapes, TwoWheelerEscapes};
+ghost use Rattle.row_factors.specs.Seven.{parkingThrough, VapourOf, CarEscapes, TwoWheelerEscapes};
 
 // In a parking, over the lesser raise of a soak and of a trip, and over the greater.
 pub struct Escapes {
@@ -91,24 +90,6 @@ fn part(day: &[u64; 250], place: usize) -> [u64; 25]
     out
 }
 
-// What breaks through over a raise at the end, or the start, of a parking; the raises stand from a place of the day on.
-fn raise_through(
-    tables: &[u64; 1907],
-    grid: &[u64; 627],
-    day: &[u64; 250],
-    ends: bool,
-    place: usize,
-    c: Curves,
-) -> u64
-    requires { ⌜ (now tables ≡ entries) × GridReady (now grid) × CurvesReady c × (place ≤ 225)
-        × ((d : ℕ) → d < 25 → at (now day) (place + d) ≤ 56 * 2 ^ 40) ⌝ }
-    ensures { λ r. ⌜ r ≡ raiseThrough (cellsIn (now (grid .entry))) ends (now (day .entry)) place c ⌝ }
-{
-    let raises = part(day, place);
-    let through = through_raises(tables, &raises, c);
-    mean_by_distance(grid, ends, &through)
-}
-
 // Where 2 b s of a canister stands in the day.
 fn growth_place(canister: Canister) -> usize
     ensures { λ r. ⌜ (r ≡ growthPlace canister) × (r ≤ 75) ⌝ }
@@ -157,8 +138,8 @@ fn canister_car(
     let c = fitted(tables, grid, list, day, at, row, kept);
     Escapes {
         parking: parking_through(tables, grid, list, c),
-        soak: raise_through(tables, grid, day, false, RAISE_45, c),
-        hotsoak: raise_through(tables, grid, day, false, RAISE_60, c),
+        soak: through_raises(tables, grid, day, false, RAISE_45, c),
+        hotsoak: through_raises(tables, grid, day, false, RAISE_60, c),
         trip: 0,
         hottrip: 0,
     }
@@ -180,10 +161,10 @@ fn canister_two_wheeler(
     let c = fitted(tables, grid, list, day, at, row, kept);
     Escapes {
         parking: parking_through(tables, grid, list, c),
-        soak: raise_through(tables, grid, day, false, RAISE_15, c),
-        hotsoak: raise_through(tables, grid, day, false, RAISE_35, c),
-        trip: raise_through(tables, grid, day, true, RAISE_10, c),
-        hottrip: raise_through(tables, grid, day, true, RAISE_25, c),
+        soak: through_raises(tables, grid, day, false, RAISE_15, c),
+        hotsoak: through_raises(tables, grid, day, false, RAISE_35, c),
+        trip: through_raises(tables, grid, day, true, RAISE_10, c),
+        hottrip: through_raises(tables, grid, day, true, RAISE_25, c),
     }
 }
 
