@@ -1,6 +1,6 @@
 -- `row_factors::season::lay` meets its contract: the first d numbers are laid, the others are as they were.
 use mathlib.Core.Path.{_≡_, refl}
-use Prim.Native.Nat.{ℕ, _-_, _≤_}
+use Prim.Native.Nat.{_-_, _≤_}
 use borrow.Author.Needs.{needs}
 use native.Mathlib.Omega.{arith}
 use lib.Seq.{sets}

@@ -1,6 +1,5 @@
 -- `row_factors::season::prepare` meets its contract: the marks, the rises, the list and the day are those of its season.
 use mathlib.Core.Path.{_≡_}
-use borrow.Author.Needs.{needs}
 use Rattle.row_factors.specs.Season.{MarksReady, risesOf}
 use Rattle.row_factors.proofs.Prepared.{steps-most, rises-are}
 use Rattle.row_factors.proofs.season.prepare.Statement.{statement}
