@@ -25,7 +25,7 @@ use Rattle.sheet.proofs.Temperature.{warmth-most, warmth-alike}
 use Rattle.breakthrough.specs.declared.curve.Curve.{Curve}
 use Rattle.breakthrough.specs.declared.curves.Curves.{Curves}
 use Rattle.breakthrough.specs.Through.{CurveReady, CurvesReady, curveAt, through}
-use Rattle.breakthrough.specs.Curves.{LoadsReady, basesOf, growthsOf, startsOf, CurvesBy, CurvesFit, CurvesOf}
+use Rattle.breakthrough.specs.Curves.{KeptOf, LoadsReady, FitReady, basesOf, growthsOf, startsOf, startsBy, CurvesBy, CurvesFit, CurvesOf}
 
 -- what breaks through of at most 36 g for a rise of 1 and a rise of at most 72 is below 2¹⁴ g
 pub through-most : (c : Curve) (rise : ℕ) → CurveReady c → rise ≤ 72 * 2 ^ 40 → through c rise ≤ 2 ^ 54
@@ -110,6 +110,11 @@ module _ {season : Season} {row : Row} (s : SeasonInRange season) (r : RowInRang
   unfolding tenthGrams
   full-most = omega (arith, saturation-most s r p)
 
+  -- the loads at parking start are those of the season
+  starts-are : {bases growths : List ℕ} → bases ≡ tab (basesOf season row) 25 → growths ≡ tab (growthsOf season row) 25
+      → tab (startsBy row bases growths) 25 ≡ tab (startsOf season row) 25
+  starts-are eb eg = tab-ext 25 (λ d h. rw (eb, eg, getD-tab (basesOf season row) 25 d h, getD-tab (growthsOf season row) 25 d h))
+
   -- the values are in range
   pub curves-fit : {bases growths loads : List ℕ} {σ g e : ℕ} → bases ≡ tab (basesOf season row) 25 → growths ≡ tab (growthsOf season row) 25
       → loads ≡ tab (startsOf season row) 25 → σ ≡ tenthGrams (row .saturation) → g ≡ gain season row → e ≤ drivenError
@@ -123,6 +128,15 @@ module _ {season : Season} {row : Row} (s : SeasonInRange season) (r : RowInRang
         rw (eb, eg, es, getD-tab (basesOf season row) 25 d l, getD-tab (growthsOf season row) 25 d l) (full-exponent d);
     gain-most = rw ev (gain-most s r);
     error-most = h;
+  }
+
+  -- so a canister can be fitted from them
+  pub fit-ready : {bases growths : List ℕ} {vapour kept : ℕ} → bases ≡ tab (basesOf season row) 25 → growths ≡ tab (growthsOf season row) 25
+      → vapour ≡ gain season row → KeptOf row kept → FitReady row bases growths vapour kept
+  fit-ready eb eg ev k = record {
+    loads-ready = loads-ready eb eg;
+    curves-fit = λ loads el error h. curves-fit eb eg (el ∙ starts-are eb eg) refl ev h;
+    kept-of = k;
   }
 
   -- every distance's values are ready
@@ -153,6 +167,18 @@ module _ {season : Season} {row : Row} (s : SeasonInRange season) (r : RowInRang
               (room-left a k σ (startsOf season row d) (gain season row) rise load small (rw (exponent, by, last) at below));
         };
   }
+
+-- a canister by a season's a and 2·b·s is that of the season
+pub curves-of : (season : Season) (row : Row) {bases growths : List ℕ} {vapour : ℕ} {c : Curves} → bases ≡ tab (basesOf season row) 25
+    → growths ≡ tab (growthsOf season row) 25 → vapour ≡ gain season row
+    → CurvesBy (at bases) (at growths) (startsBy row bases growths) (tenthGrams (row .saturation)) vapour (lossError row) c → CurvesOf season row c
+curves-of season row eb eg ev by =
+    record {
+      by =
+          curves-by (λ d h. rw eb (getD-tab (basesOf season row) 25 d h)) (λ d h. rw eg (getD-tab (growthsOf season row) 25 d h))
+          (λ d h. rw (eb, eg, getD-tab (basesOf season row) 25 d h, getD-tab (growthsOf season row) 25 d h))
+          refl ev refl by;
+    }
 
 -- what overflows, by the room that is left: m1 + v − (σ + 1) = v − (σ + 1 − m1)
 overflow-is : (m1 v σ : ℕ) → m1 ≤ σ → v - (σ + 1 - m1) ≡ m1 + v - (σ + 1)

@@ -7,11 +7,11 @@ use Rattle.bounds.specs.Short.{short, binary, lineOf, reachOf}
 use Rattle.bounds.specs.Weights.{ahead}
 use Rattle.exact.specs.declared.Season.{Season}
 use Rattle.exact.specs.declared.Row.{Row}
-use Rattle.sheet.specs.Range.{SeasonInRange, markWarmth, halves, RowInRange}
+use Rattle.sheet.specs.Range.{halves}
 use Rattle.starting_loads.specs.Net.{netOf}
 use Rattle.starting_loads.specs.Balance.{BalancesReady}
 use Rattle.factors.specs.Escape.{tenthGrams, drivenError}
-use Rattle.factors.specs.Units.{lossError, baseAt, growthAt, startAt, gain}
+use Rattle.factors.specs.Units.{lossError, baseAt, growthAt, rowStart, startAt, gain}
 use Rattle.breakthrough.specs.declared.curves.Curves.{Curves}
 
 -- what a row's canister keeps of its load, from the mileage alone: no season changes it
@@ -27,6 +27,10 @@ pub record LoadsReady (row : Row) (bases growths : List ℕ) : Type 0 where
   pub balanced : 17 ≤ row .mileage → (net : ℕ) → net < 2 ^ 50 → BalancesReady bases growths (tenthGrams (row .saturation)) net
 
 -- Values by distance from 14:00 are those of the mark so far before it. a and 2·b·s are held in units of 2⁻⁴⁴.
+
+-- the load at parking start, where a and 2·b·s are these
+abbrev pub startsBy : Row → List ℕ → List ℕ → ℕ → ℕ
+startsBy row bases growths d = rowStart row (at bases d) (at growths d)
 
 -- the canister whose a, 2·b·s and load at parking start are these
 pub record CurvesBy (a k load : ℕ → ℕ) (saturation gain error : ℕ) (c : Curves) : Type 0 where
@@ -47,6 +51,13 @@ pub record CurvesFit (bases growths loads : List ℕ) (saturation gain error : �
   pub gain-most : gain ≤ 36 * 2 ^ 40
   pub error-most : error ≤ drivenError
 
+-- what a canister is fitted from: its a and 2·b·s, the vapour in the row's tank for a rise of 1, and what it keeps of its load
+pub record FitReady (row : Row) (bases growths : List ℕ) (vapour kept : ℕ) : Type 0 where
+  pub loads-ready : LoadsReady row bases growths
+  pub curves-fit : (loads : List ℕ) → loads ≡ tab (startsBy row bases growths) 25 → (error : ℕ) → error ≤ drivenError
+      → CurvesFit bases growths loads (tenthGrams (row .saturation)) vapour error
+  pub kept-of : KeptOf row kept
+
 module _ (season : Season) (row : Row) where
   abbrev pub basesOf : ℕ → ℕ
   basesOf d = binary (baseAt season row (ahead d))
@@ -56,15 +67,6 @@ module _ (season : Season) (row : Row) where
 
   abbrev pub startsOf : ℕ → ℕ
   startsOf d = startAt season row (ahead d)
-
-  -- what a canister is fitted from
-  pub record FitReady (warmths : List ℕ) (vapour kept : ℕ) : Type 0 where
-    pub season-in : SeasonInRange season
-    pub row-in : RowInRange season row
-    pub canister-there : 0 < halves (row .canister)
-    pub warmths-are : warmths ≡ tab (λ (d : ℕ). markWarmth season (ahead d)) 25
-    pub vapour-is : vapour ≡ gain season row
-    pub kept-of : KeptOf row kept
 
   -- that of a row in a season
   pub record CurvesOf (c : Curves) : Type 0 where

@@ -1,7 +1,11 @@
 -- What breaks through a canister, from its values by distance from 14:00. Definitions only.
+use mathlib.Core.Bool.{Bool}
+use mathlib.Core.List.{List}
 use Prim.Native.Nat.{ℕ, _+_, _*_, _-_, _/_, _^_, _<_, _≤_, min}
 use Rattle.numbers.specs.Lists.{at}
 use Rattle.bounds.specs.Short.{short, shortLimit}
+use Rattle.factors.specs.Means.{meanUnits}
+use Rattle.parking.specs.Grid.{apartOf}
 use Rattle.breakthrough.specs.declared.curve.Curve.{Curve}
 use Rattle.breakthrough.specs.declared.curves.Curves.{Curves}
 
@@ -36,3 +40,13 @@ pub record CurveReady (c : Curve) : Type 0 where
 -- at every distance
 pub record CurvesReady (c : Curves) : Type 0 where
   pub ready : (d : ℕ) → d < 25 → CurveReady (curveAt c d)
+
+-- the mean over a raise at the end, or the start, of a parking, of raises by distance that stand from a place of a season's day on
+abbrev pub raiseThrough : List ℕ → Bool → List ℕ → ℕ → Curves → ℕ
+raiseThrough cells ends day place c =
+    meanUnits cells (λ (cell : ℕ). through (curveAt c (apartOf ends cell)) (at day (place + apartOf ends cell)))
+
+-- where they stand, and how large they are
+pub record RaisesFit (day : List ℕ) (place : ℕ) : Type 0 where
+  pub there : place ≤ 225
+  pub raises-most : (d : ℕ) → d < 25 → at day (place + d) ≤ 56 * 2 ^ 40

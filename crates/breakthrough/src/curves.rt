@@ -1,5 +1,5 @@
-// The canister that a row has, in a season: its curve at each temperature of a day, and what it has lost when a parking starts. A day
-// has 25 temperatures, by a mark's distance from 14:00.
+// A season's a and b at each temperature of a day, and a row's canister by them: its curve there, and what it has lost when a parking
+// starts. A day has 25 temperatures, by a mark's distance from 14:00.
 use crate::loads::loss_error;
 use crate::loads::start_loads;
 use crate::loads::tenth_grams;
@@ -8,17 +8,15 @@ use bounds::short::binary;
 use bounds::short::line;
 use bounds::short::short;
 use exact::Row;
-use exact::Season;
-use fields::classes::halves;
 ghost use mathlib.Core.Path.{_≡_};
 ghost use Prim.Native.Nat.{ℕ, _+_, _*_, _-_, _/_, _^_, _≤_};
 ghost use Rattle.bounds.specs.Exponential.{entries};
 ghost use Rattle.numbers.specs.Lists.{tab, at, AllAtMost};
 ghost use Rattle.sheet.specs.Limits.{vpLimit};
-ghost use Rattle.sheet.specs.Range.{halves};
 ghost use Rattle.bounds.specs.Short.{short, binary, lineOf, reachOf};
-ghost use Rattle.factors.specs.Escape.{base, drivenError};
-ghost use Rattle.breakthrough.specs.Curves.{CurvesFit, CurvesBy, FitReady, CurvesOf};
+ghost use Rattle.factors.specs.Escape.{base, tenthGrams, drivenError};
+ghost use Rattle.factors.specs.Units.{lossError};
+ghost use Rattle.breakthrough.specs.Curves.{CurvesFit, CurvesBy, startsBy, FitReady};
 
 // The values of `Curve` by distance from 14:00; what no temperature changes stands once.
 pub struct Curves {
@@ -48,7 +46,7 @@ const TWO_4: u64 = 16;
 const TWO_9: u64 = 512;
 
 // a at each distance, in units of 2^-44.
-fn bases(warmths: &[u64; 25], vp: u64) -> [u64; 25]
+pub fn bases(warmths: &[u64; 25], vp: u64) -> [u64; 25]
     requires { ⌜ AllAtMost (80 * 10 ^ 10) (now warmths) × (vp ≤ vpLimit) ⌝ }
     ensures { λ r. ⌜ r ≡ tab (λ (d : ℕ). binary (base vp (at (now (warmths .entry)) d))) 25 ⌝ }
 {
@@ -62,7 +60,7 @@ fn bases(warmths: &[u64; 25], vp: u64) -> [u64; 25]
 }
 
 // 2 b s at each distance, for 2 s = times, in units of 2^-44.
-fn growths(warmths: &[u64; 25], vp: u64, times: u64) -> [u64; 25]
+pub fn growths(warmths: &[u64; 25], vp: u64, times: u64) -> [u64; 25]
     requires { ⌜ AllAtMost (80 * 10 ^ 10) (now warmths) × (vp ≤ vpLimit) × (times ≤ 4) ⌝ }
     ensures { λ r. ⌜ r ≡ tab (λ (d : ℕ). binary ((112 * 10 ^ 11 + at (now (warmths .entry)) d - 15 * 10 ^ 8 * vp) * times)) 25 ⌝ }
 {
@@ -156,28 +154,25 @@ fn curves_of(
     }
 }
 
-// A row's canister in a season that has these warmths by distance, the vapour in its tank for a rise of 1, and what it keeps of
-// its load.
+// A row's canister where a and 2 b s are these, the vapour in its tank for a rise of 1, and what it keeps of its load.
 pub fn fit(
     tables: &[u64; 1907],
-    season: Season,
-    warmths: &[u64; 25],
+    bases: &[u64; 25],
+    growths: &[u64; 25],
     row: Row,
     vapour: u64,
     kept: u64,
 ) -> Curves
-    requires { ⌜ (now tables ≡ entries) × FitReady season row (now warmths) vapour kept ⌝ }
-    ensures { λ r. ⌜ CurvesOf season row r ⌝ }
+    requires { ⌜ (now tables ≡ entries) × FitReady row (now bases) (now growths) vapour kept ⌝ }
+    ensures { λ r. ⌜ CurvesBy (at (now (bases .entry))) (at (now (growths .entry))) (startsBy row (now (bases .entry)) (now (growths .entry)))
+        (tenthGrams (row .saturation)) vapour (lossError row) r ⌝ }
 {
-    let bases = bases(warmths, season.vp);
-    let canister = row.canister;
-    let growths = growths(warmths, season.vp, halves(canister));
-    let loads = start_loads(tables, row, kept, &bases, &growths);
+    let loads = start_loads(tables, row, kept, bases, growths);
     let saturation = tenth_grams(row.saturation);
     curves_of(
         tables,
-        &bases,
-        &growths,
+        bases,
+        growths,
         &loads,
         saturation,
         vapour,

@@ -1,16 +1,18 @@
-// What breaks through a row's canister: in the parkings of a season's list, and over a raise at each distance from 14:00.
+// What breaks through a row's canister: in the parkings of a season's list, and over a raise at their ends or starts.
 use crate::curve::Curve;
 use crate::curve::through;
 use crate::curves::Curves;
+use parking::grid::SUM;
+use parking::means::apart_place;
 use parking::season_list::COUNTS;
 use parking::season_list::LENGTH;
 use parking::season_list::RISES;
 ghost use mathlib.Core.Path.{_≡_};
 ghost use Prim.Native.Nat.{ℕ, _*_, _/_, _^_};
 ghost use Rattle.bounds.specs.Exponential.{entries};
-ghost use Rattle.numbers.specs.Lists.{tab, at, AllAtMost};
+ghost use Rattle.parking.specs.Grid.{cellsIn, GridReady};
 ghost use Rattle.parking.specs.SeasonList.{byEntry, ListFits};
-ghost use Rattle.breakthrough.specs.Through.{CurvesReady, curveAt, through};
+ghost use Rattle.breakthrough.specs.Through.{CurvesReady, curveAt, through, RaisesFit, raiseThrough};
 
 // From units of 2^-40 g to units of 2^-28 g.
 const CUT: u64 = 4096;
@@ -39,12 +41,21 @@ pub fn through_list(tables: &[u64; 1907], list: &[u64; 1732], c: Curves) -> u64
     sum
 }
 
-// Of the rise when the temperature at each distance is raised.
-pub fn through_raises(tables: &[u64; 1907], raises: &[u64; 25], c: Curves) -> [u64; 25]
-    requires { ⌜ (now tables ≡ entries) × CurvesReady c × AllAtMost (56 * 2 ^ 40) (now raises) ⌝ }
-    ensures { λ r. ⌜ (r ≡ tab (λ (d : ℕ). through (curveAt c d) (at (now (raises .entry)) d)) 25) × AllAtMost (2 ^ 54) r ⌝ }
+// Of the rise when the temperature at the end, or the start, of each parking is raised, the mean in units of 2^-28 g. The raises stand by
+// distance from a place of the day on.
+pub fn through_raises(
+    tables: &[u64; 1907],
+    grid: &[u64; 627],
+    day: &[u64; 250],
+    ends: bool,
+    place: usize,
+    c: Curves,
+) -> u64
+    requires { ⌜ (now tables ≡ entries) × GridReady (now grid) × CurvesReady c × RaisesFit (now day) place ⌝ }
+    ensures { λ r. ⌜ r ≡ raiseThrough (cellsIn (now (grid .entry))) ends (now (day .entry)) place c ⌝ }
 {
-    let mut out = [0u64; 25];
+    let first = apart_place(ends);
+    let mut sum: u64 = 0;
     let mut d: usize = 0;
     while d < 25 {
         let curve = Curve {
@@ -55,8 +66,8 @@ pub fn through_raises(tables: &[u64; 1907], raises: &[u64; 25], c: Curves) -> [u
             first: c.firsts[d],
             gain: c.gain,
         };
-        out[d] = through(tables, curve, raises[d]);
+        sum += grid[first + d] * (through(tables, curve, day[place + d]) / CUT);
         d += 1;
     }
-    out
+    sum / grid[SUM]
 }

@@ -79,7 +79,7 @@ pub fn row_figures(
     tables: &[u64; 1907],
     grid: &[u64; 627],
     list: &[u64; 1732],
-    day: &[u64; 175],
+    day: &[u64; 250],
     at: AtSeason,
     row: Row,
     kept: u64,

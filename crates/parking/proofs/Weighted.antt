@@ -64,8 +64,8 @@ module _ {grid : List ℕ} (r : GridReady grid) (ends : Bool) (value : ℕ → �
       by-place 25 (apartOf ends) (cellsIn grid) (apartOf-below ends) (λ (d : ℕ). value d / 2 ^ 12) 576 ∙
       counted r (λ (cell : ℕ). value (apartOf ends cell))
 
-  pub distance-fits : ((d : ℕ) → value d ≤ 2 ^ 54) → sum (λ (d : ℕ). at grid (apartPlace ends + d) * (value d / 2 ^ 12)) 25 < 2 ^ 64
-  distance-fits h = fits r (λ (cell : ℕ). value (apartOf ends cell)) added-by-distance (λ cell. h (apartOf ends cell))
+  pub distance-fits : ((d : ℕ) → d < 25 → value d ≤ 2 ^ 54) → sum (λ (d : ℕ). at grid (apartPlace ends + d) * (value d / 2 ^ 12)) 25 < 2 ^ 64
+  distance-fits h = fits r (λ (cell : ℕ). value (apartOf ends cell)) added-by-distance (λ cell. h (apartOf ends cell) (apartOf-below ends cell))
 
   pub distance-mean : {x : ℕ} → x ≡ sum (λ (d : ℕ). at grid (apartPlace ends + d) * (value d / 2 ^ 12)) 25
       → x / at grid sumPlace ≡ meanUnits (cellsIn grid) (λ (cell : ℕ). value (apartOf ends cell))

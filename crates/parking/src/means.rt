@@ -29,7 +29,7 @@ pub fn mean_by_cell(grid: &[u64; 627], values: &[u64; 576]) -> u64
 }
 
 // Where the counts of the distances start, at ends or at starts of parkings.
-fn apart_place(ends: bool) -> usize
+pub fn apart_place(ends: bool) -> usize
     ensures { λ r. ⌜ (r ≡ apartPlace ends) × (r ≤ 601) ⌝ }
 {
     if ends { ENDS } else { STARTS }

@@ -24,8 +24,10 @@ use Rattle.sheet.proofs.Temperature.{warmth-most, warmth-alike}
 use Rattle.factors.proofs.Losses.{duration-most}
 use Rattle.sheet.specs.Range.{SeasonInRange}
 use Rattle.sheet.specs.Range.{halves}
+use Rattle.factors.specs.Escape.{tenthGrams}
 use Rattle.factors.specs.Means.{meanUnits}
-use Rattle.factors.specs.Units.{gain, parkingRise, parkingRates, vapourUnits, throughUnits, escapeUnits, escapeOverUnits, openUnits, startOf, endOf}
+use Rattle.factors.specs.Units.{gain, lossError, parkingRise, parkingRates, vapourUnits, throughUnits, startOf, endOf}
+use Rattle.factors.specs.Units.{escapeUnits, escapeOverUnits, openUnits}
 use Rattle.factors.proofs.Gain.{gain-most}
 use Rattle.factors.proofs.Mean.{meanUnits-most}
 use Rattle.factors.proofs.Sizes.{parking-rise-most, raise-rise-most}
@@ -37,13 +39,13 @@ use Rattle.parking.proofs.Passed.{passedIn-tab}
 use Rattle.parking.proofs.Tally.{markOf-below, apartOf-below}
 use Rattle.parking.proofs.Weighted.{mean-ext, mean-below, cells-mean}
 use Rattle.breakthrough.specs.declared.curves.Curves.{Curves}
-use Rattle.breakthrough.specs.Curves.{FitReady, CurvesOf}
-use Rattle.breakthrough.specs.Through.{CurvesReady, curveAt, through}
-use Rattle.breakthrough.proofs.Fitted.{curves-ready, through-is, through-none, through-alike}
+use Rattle.breakthrough.specs.Curves.{FitReady, basesOf, growthsOf, startsBy, CurvesBy, CurvesOf}
+use Rattle.breakthrough.specs.Through.{CurvesReady, curveAt, through, RaisesFit, raiseThrough}
+use Rattle.breakthrough.proofs.Fitted.{fit-ready, curves-of, curves-ready, through-is, through-none, through-alike}
 use Rattle.row_factors.specs.declared.season.AtSeason.{AtSeason}
 use Rattle.row_factors.specs.declared.escapes.Escapes.{Escapes}
-use Rattle.row_factors.specs.Season.{meanAt, risesOf, RaisedAt, DayReady, RowLent}
-use Rattle.row_factors.specs.Seven.{parkingThrough, raiseThrough, parkingEscape, VapourOf, CarEscapes, TwoWheelerEscapes}
+use Rattle.row_factors.specs.Season.{meanAt, risesOf, growthPlace, RaisedAt, DayReady, RowLent}
+use Rattle.row_factors.specs.Seven.{parkingThrough, parkingEscape, VapourOf, CarEscapes, TwoWheelerEscapes}
 
 module _ (season : Season) (row : Row) (counts : List ℕ) where
   -- with a canister the escape of each cell is averaged
@@ -160,22 +162,27 @@ five-most {a} {b} {c} {d} {e} {bound} p q r s t = record { at-most = each }
     each (suc (suc (suc (suc zero)))) = t
     each (suc (suc (suc (suc (suc k))))) = omega arith
 
--- A row with a canister, from the warmths of its season by distance from 14:00.
-pub fit-needs : {tables grid list day warmths : List ℕ} {given : AtSeason} {row : Row} {vapour kept : ℕ}
-    → RowLent tables grid list day given row kept × (0 < halves (row .canister)) → warmths ≡ tab (λ (d : ℕ). at day (0 + d)) 25
-    → vapour ≡ gain (given .season) row → (tables ≡ entries) × FitReady (given .season) row warmths vapour kept
-fit-needs {day = day} q e v =
-    let m = q .0 .lent .day-ready in (
-      q .0 .lent .tables-are,
-      record {
-        season-in = m .season-in;
-        row-in = q .0 .row-in;
-        canister-there = q .1;
-        warmths-are = e ∙ tab-ext 25 (λ d h. ap (at day) {x = 0 + d} {y = d} (omega arith) ∙ m .warmths-are d h);
-        vapour-is = v;
-        kept-of = q .0 .kept-of;
-      },
-    )
+-- A row with a canister: a and 2·b·s are those of the day.
+module _ {tables grid list day bases growths : List ℕ} {given : AtSeason} {row : Row} {vapour kept place : ℕ}
+    (q : RowLent tables grid list day given row kept × (0 < halves (row .canister))) (there : place ≡ growthPlace (row .canister))
+    (eb : bases ≡ tab (λ (d : ℕ). at day (0 + d)) 25) (eg : growths ≡ tab (λ (d : ℕ). at day (place + d)) 25)
+    (v : vapour ≡ gain (given .season) row) where
+  bases-known : bases ≡ tab (basesOf (given .season) row) 25
+  bases-known = eb ∙ tab-ext 25 (λ d h. ap (at day) {x = 0 + d} {y = d} (omega arith) ∙ q .0 .lent .day-ready .bases-are d h)
+
+  growths-known : growths ≡ tab (growthsOf (given .season) row) 25
+  growths-known = eg ∙ tab-ext 25 (λ d h. rw there (q .0 .lent .day-ready .growths-are (row .canister) (q .1) d h))
+
+  pub fit-needs : (tables ≡ entries) × FitReady row bases growths vapour kept
+  fit-needs = (
+    q .0 .lent .tables-are,
+    fit-ready (q .0 .lent .day-ready .season-in) (q .0 .row-in) (q .1) bases-known growths-known v (q .0 .kept-of),
+  )
+
+  pub fit-right : {c : Curves}
+      → CurvesBy (at bases) (at growths) (startsBy row bases growths) (tenthGrams (row .saturation)) vapour (lossError row) c
+      → CurvesOf (given .season) row c
+  fit-right by = curves-of (given .season) row bases-known growths-known v by
 
 -- A row with a canister, and what is lent to its functions: what they need, and that each mean is its escape.
 module _ {tables grid list day : List ℕ} {given : AtSeason} {row : Row} {kept : ℕ}
@@ -210,14 +217,12 @@ module _ {tables grid list day : List ℕ} {given : AtSeason} {row : Row} {kept 
 
   -- over a raise, which stands from a place of the day on
   module _ (k place : ℕ) (pick : DayReady (given .season) day → RaisedAt (given .season) k day place) where
-    pub raise-needs : k ≤ 60 → place ≤ 150
-        → (tables ≡ entries) × GridReady grid × CurvesReady c × (place ≤ 150) × ((d : ℕ) → d < 25 → at day (place + d) ≤ 56 * 2 ^ 40)
+    pub raise-needs : k ≤ 60 → place ≤ 225 → (tables ≡ entries) × GridReady grid × CurvesReady c × RaisesFit day place
     raise-needs h there = (
       q .0 .lent .tables-are,
       q .0 .lent .grid-ready,
       fitted,
-      there,
-      λ d l. rw (pick its-day d l) (raise-mark-most (its-day .season-in) k (ahead d) h),
+      record { there = there; raises-most = λ d l. rw (pick its-day d l) (raise-mark-most (its-day .season-in) k (ahead d) h) },
     )
 
     pub raise-right : (ends : Bool) {x : ℕ} → x ≡ raiseThrough (cellsIn grid) ends day place c

@@ -4,12 +4,16 @@ use mathlib.Core.Path.{_≡_}
 use Prim.Native.Nat.{ℕ, _+_, _/_, _<_}
 use Rattle.numbers.specs.Lists.{tab, at}
 use Rattle.bounds.specs.Exponential.{entries}
+use Rattle.bounds.specs.Short.{binary}
 use Rattle.bounds.specs.Weights.{ahead}
+use Rattle.exact.specs.declared.Canister.{Canister}
+use Rattle.exact.specs.declared.Canister.the-variants.{None, Small, Medium, Large}
 use Rattle.exact.specs.declared.Season.{Season}
 use Rattle.exact.specs.declared.Row.{Row}
 use Rattle.marks.specs.declared.Marks.{Marks}
 use Rattle.sheet.specs.Range.{SeasonInRange, RowInRange, markWarmth, halves}
 use Rattle.marks.specs.AtMarks.{AtMarks, raisesBy, ratesAt}
+use Rattle.factors.specs.Escape.{base, growth}
 use Rattle.factors.specs.Means.{meanUnits}
 use Rattle.factors.specs.Units.{startOf, endOf, parkingRise, parkingRates}
 use Rattle.parking.specs.Grid.{cellsIn, GridReady}
@@ -44,19 +48,28 @@ pub record MarksReady (season : Season) (marks : Marks) : Type 0 where
 abbrev pub risesOf : Season → List ℕ
 risesOf season = tab (parkingRise season) 576
 
--- its day, by distance from 14:00: in the array stand 25 temperatures, and then the rises of E under each of six raises, 25 numbers each
+-- Its day, by distance from 14:00. In the array stand, 25 numbers each, a and 2·b·s of the three canisters, in units of 2⁻⁴⁴, and the
+-- rises of E under each of six raises.
+unfoldable pub growthPlace : Canister → ℕ
+growthPlace None = 0
+growthPlace Large = 25
+growthPlace Medium = 50
+growthPlace Small = 75
+
 abbrev pub RaisedAt : Season → ℕ → List ℕ → ℕ → Type 0
 RaisedAt season k day place = (d : ℕ) → d < 25 → at day (place + d) ≡ raisesBy season k (ahead d)
 
 pub record DayReady (season : Season) (day : List ℕ) : Type 0 where
   pub season-in : SeasonInRange season
-  pub warmths-are : (d : ℕ) → d < 25 → at day d ≡ markWarmth season (ahead d)
-  pub raise10-are : RaisedAt season 10 day 25
-  pub raise15-are : RaisedAt season 15 day 50
-  pub raise25-are : RaisedAt season 25 day 75
-  pub raise35-are : RaisedAt season 35 day 100
-  pub raise45-are : RaisedAt season 45 day 125
-  pub raise60-are : RaisedAt season 60 day 150
+  pub bases-are : (d : ℕ) → d < 25 → at day d ≡ binary (base (season .vp) (markWarmth season (ahead d)))
+  pub growths-are : (c : Canister) → 0 < halves c → (d : ℕ) → d < 25
+      → at day (growthPlace c + d) ≡ binary (growth c (season .vp) (markWarmth season (ahead d)))
+  pub raise10-are : RaisedAt season 10 day 100
+  pub raise15-are : RaisedAt season 15 day 125
+  pub raise25-are : RaisedAt season 25 day 150
+  pub raise35-are : RaisedAt season 35 day 175
+  pub raise45-are : RaisedAt season 45 day 200
+  pub raise60-are : RaisedAt season 60 day 225
 
 -- the season and its means
 pub record AtSeasonOf (season : Season) (counts : List ℕ) (given : AtSeason) : Type 0 where

@@ -1,5 +1,4 @@
 -- What the escapes of a row in a season are, from which its factors are made up. Definitions only.
-use mathlib.Core.Bool.{Bool}
 use mathlib.Core.List.{List, [], _∷_}
 use mathlib.Core.Path.{_≡_}
 use Prim.Native.Nat.{ℕ, _+_, _*_, _/_, _^_, _<_}
@@ -8,9 +7,7 @@ use Rattle.exact.specs.declared.Season.{Season}
 use Rattle.exact.specs.declared.Row.{Row}
 use Rattle.exact.specs.Factors.{F1, F2, F3, F4, F5, F6, F7}
 use Rattle.marks.specs.Marks.{tenths}
-use Rattle.factors.specs.Means.{meanUnits}
 use Rattle.factors.specs.Units.{startOf, endOf, parkingRise, escapeUnits, escapeOverUnits, openUnits, factorUnits}
-use Rattle.parking.specs.Grid.{apartOf}
 use Rattle.parking.specs.SeasonList.{byEntry}
 use Rattle.breakthrough.specs.declared.curves.Curves.{Curves}
 use Rattle.breakthrough.specs.Through.{curveAt, through}
@@ -20,11 +17,6 @@ use Rattle.row_factors.specs.declared.escapes.Escapes.{Escapes}
 -- the mean of what breaks through: in a parking, from the list of a season, for a sum of all counts
 abbrev pub parkingThrough : List ℕ → ℕ → Curves → ℕ
 parkingThrough list total c = byEntry list (λ (start : ℕ) (rise : ℕ). through (curveAt c start) rise / 2 ^ 12) / total
-
--- and over a raise at the end, or the start, of one, of raises by distance from 14:00 that stand from a place of the day on
-abbrev pub raiseThrough : List ℕ → Bool → List ℕ → ℕ → Curves → ℕ
-raiseThrough cells ends day place c =
-    meanUnits cells (λ (cell : ℕ). through (curveAt c (apartOf ends cell)) (at day (place + apartOf ends cell)))
 
 -- without canister: the vapour of five mean rises
 pub record VapourOf (gain : ℕ) (rises : List ℕ) (e : Escapes) : Type 0 where

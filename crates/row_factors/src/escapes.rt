@@ -1,11 +1,14 @@
 // What escapes on average from a row's tank in a season, with a canister and without, in units of 2^-28 g.
 use crate::season::AtSeason;
+use crate::season::LARGE;
+use crate::season::MEDIUM;
 use crate::season::RAISE_10;
 use crate::season::RAISE_15;
 use crate::season::RAISE_25;
 use crate::season::RAISE_35;
 use crate::season::RAISE_45;
 use crate::season::RAISE_60;
+use crate::season::SMALL;
 use bounds::exp::ZERO;
 use bounds::exp::exponential;
 use bounds::fixed::mul_shift;
@@ -13,11 +16,11 @@ use breakthrough::curves::Curves;
 use breakthrough::curves::fit;
 use breakthrough::losses::through_list;
 use breakthrough::losses::through_raises;
+use exact::Canister;
 use exact::Row;
 use exact::Season;
 use fields::classes::halves;
 use parking::grid::SUM;
-use parking::means::mean_by_distance;
 ghost use mathlib.Core.Path.{_≡_};
 ghost use Prim.Native.Nat.{ℕ, _+_, _*_, _^_, _<_, _≤_};
 ghost use Rattle.numbers.specs.Lists.{tab, at, AllAtMost};
@@ -28,8 +31,8 @@ ghost use Rattle.parking.specs.Grid.{cellsIn, sumPlace, GridReady};
 ghost use Rattle.parking.specs.SeasonList.{ListFits};
 ghost use Rattle.breakthrough.specs.Curves.{CurvesOf};
 ghost use Rattle.breakthrough.specs.Through.{CurvesReady};
-ghost use Rattle.row_factors.specs.Season.{RowLent};
-ghost use Rattle.row_factors.specs.Seven.{parkingThrough, raiseThrough, VapourOf, CarEscapes, TwoWheelerEscapes};
+ghost use Rattle.row_factors.specs.Season.{growthPlace, RowLent};
+ghost use Rattle.row_factors.specs.Seven.{parkingThrough, VapourOf, CarEscapes, TwoWheelerEscapes};
 
 // In a parking, over the lesser raise of a soak and of a trip, and over the greater.
 pub struct Escapes {
@@ -74,8 +77,8 @@ fn parking_through(tables: &[u64; 1907], grid: &[u64; 627], list: &[u64; 1732], 
 }
 
 // The 25 numbers of the day that start at a place.
-fn part(day: &[u64; 175], place: usize) -> [u64; 25]
-    requires { ⌜ place ≤ 150 ⌝ }
+fn part(day: &[u64; 250], place: usize) -> [u64; 25]
+    requires { ⌜ place ≤ 225 ⌝ }
     ensures { λ r. ⌜ r ≡ tab (λ (d : ℕ). at (now (day .entry)) (place + d)) 25 ⌝ }
 {
     let mut out = [0u64; 25];
@@ -87,22 +90,16 @@ fn part(day: &[u64; 175], place: usize) -> [u64; 25]
     out
 }
 
-// What breaks through over a raise at the end, or the start, of a parking; the raises stand from a place of the day on.
-fn raise_through(
-    tables: &[u64; 1907],
-    grid: &[u64; 627],
-    day: &[u64; 175],
-    ends: bool,
-    place: usize,
-    c: Curves,
-) -> u64
-    requires { ⌜ (now tables ≡ entries) × GridReady (now grid) × CurvesReady c × (place ≤ 150)
-        × ((d : ℕ) → d < 25 → at (now day) (place + d) ≤ 56 * 2 ^ 40) ⌝ }
-    ensures { λ r. ⌜ r ≡ raiseThrough (cellsIn (now (grid .entry))) ends (now (day .entry)) place c ⌝ }
+// Where 2 b s of a canister stands in the day.
+fn growth_place(canister: Canister) -> usize
+    ensures { λ r. ⌜ (r ≡ growthPlace canister) × (r ≤ 75) ⌝ }
 {
-    let raises = part(day, place);
-    let through = through_raises(tables, &raises, c);
-    mean_by_distance(grid, ends, &through)
+    match canister {
+        Canister::None => 0,
+        Canister::Large => LARGE,
+        Canister::Medium => MEDIUM,
+        Canister::Small => SMALL,
+    }
 }
 
 // The row's canister.
@@ -110,7 +107,7 @@ fn fitted(
     tables: &[u64; 1907],
     grid: &[u64; 627],
     list: &[u64; 1732],
-    day: &[u64; 175],
+    day: &[u64; 250],
     at: AtSeason,
     row: Row,
     kept: u64,
@@ -118,9 +115,11 @@ fn fitted(
     requires { ⌜ RowLent (now tables) (now grid) (now list) (now day) at row kept × (0 < halves (row .canister)) ⌝ }
     ensures { λ r. ⌜ CurvesOf (at .season) row r ⌝ }
 {
-    let warmths = part(day, 0);
+    let canister = row.canister;
+    let bases = part(day, 0);
+    let growths = part(day, growth_place(canister));
     let vapour = gain(tables, at.season, row);
-    fit(tables, at.season, &warmths, row, vapour, kept)
+    fit(tables, &bases, &growths, row, vapour, kept)
 }
 
 // A car with canister, from which nothing escapes on a trip.
@@ -128,7 +127,7 @@ fn canister_car(
     tables: &[u64; 1907],
     grid: &[u64; 627],
     list: &[u64; 1732],
-    day: &[u64; 175],
+    day: &[u64; 250],
     at: AtSeason,
     row: Row,
     kept: u64,
@@ -139,8 +138,8 @@ fn canister_car(
     let c = fitted(tables, grid, list, day, at, row, kept);
     Escapes {
         parking: parking_through(tables, grid, list, c),
-        soak: raise_through(tables, grid, day, false, RAISE_45, c),
-        hotsoak: raise_through(tables, grid, day, false, RAISE_60, c),
+        soak: through_raises(tables, grid, day, false, RAISE_45, c),
+        hotsoak: through_raises(tables, grid, day, false, RAISE_60, c),
         trip: 0,
         hottrip: 0,
     }
@@ -151,7 +150,7 @@ fn canister_two_wheeler(
     tables: &[u64; 1907],
     grid: &[u64; 627],
     list: &[u64; 1732],
-    day: &[u64; 175],
+    day: &[u64; 250],
     at: AtSeason,
     row: Row,
     kept: u64,
@@ -162,10 +161,10 @@ fn canister_two_wheeler(
     let c = fitted(tables, grid, list, day, at, row, kept);
     Escapes {
         parking: parking_through(tables, grid, list, c),
-        soak: raise_through(tables, grid, day, false, RAISE_15, c),
-        hotsoak: raise_through(tables, grid, day, false, RAISE_35, c),
-        trip: raise_through(tables, grid, day, true, RAISE_10, c),
-        hottrip: raise_through(tables, grid, day, true, RAISE_25, c),
+        soak: through_raises(tables, grid, day, false, RAISE_15, c),
+        hotsoak: through_raises(tables, grid, day, false, RAISE_35, c),
+        trip: through_raises(tables, grid, day, true, RAISE_10, c),
+        hottrip: through_raises(tables, grid, day, true, RAISE_25, c),
     }
 }
 
@@ -174,7 +173,7 @@ pub fn car(
     tables: &[u64; 1907],
     grid: &[u64; 627],
     list: &[u64; 1732],
-    day: &[u64; 175],
+    day: &[u64; 250],
     at: AtSeason,
     row: Row,
     kept: u64,
@@ -197,7 +196,7 @@ pub fn two_wheeler(
     tables: &[u64; 1907],
     grid: &[u64; 627],
     list: &[u64; 1732],
-    day: &[u64; 175],
+    day: &[u64; 250],
     at: AtSeason,
     row: Row,
     kept: u64,

@@ -1,8 +1,10 @@
 // What a season gives to every row: its day, the list of its parkings, and the means that no row changes.
-use bounds::hours::WARMEST;
+use breakthrough::curves::bases;
+use breakthrough::curves::growths;
 use exact::Season;
 use marks::Marks;
 use marks::at_marks;
+use parking::means::by_distance;
 use parking::means::mean_by_cell;
 use parking::means::mean_by_mark;
 use parking::season_list::list_of;
@@ -15,8 +17,6 @@ ghost use Prim.Native.Nat.{ℕ, _+_, _/_, _^_, _≤_};
 ghost use lib.Seq.{sets};
 ghost use Rattle.numbers.specs.Lists.{tab, at, AllAtMost};
 ghost use Rattle.bounds.specs.Exponential.{entries};
-ghost use Rattle.bounds.specs.Weights.{ahead};
-ghost use Rattle.exact.specs.declared.Season.{Season};
 ghost use Rattle.sheet.specs.Range.{SeasonInRange};
 ghost use Rattle.factors.specs.Means.{meanUnits};
 ghost use Rattle.parking.specs.Grid.{cellsIn, GridReady, passedIn};
@@ -49,48 +49,70 @@ pub struct AtSeason {
 // With what is lent to each row: the list of the season's parkings, and its day.
 pub struct Prepared {
     pub list: [u64; 1732],
-    pub day: [u64; 175],
+    pub day: [u64; 250],
     pub at: AtSeason,
 }
 
-// The day has 25 numbers each, by distance from 14:00: the temperatures, and from here on the rise of E(0.0716 T) when T is raised by so
-// many tenths of a degree.
-pub const RAISE_10: usize = 25;
+// The day has 25 numbers each, by distance from 14:00: a, 2 b s of a large, a medium and a small canister, and the rise of E(0.0716 T) when
+// T is raised by so many tenths of a degree.
+pub const LARGE: usize = 25;
 
-pub const RAISE_15: usize = 50;
+pub const MEDIUM: usize = 50;
 
-pub const RAISE_25: usize = 75;
+pub const SMALL: usize = 75;
 
-pub const RAISE_35: usize = 100;
+pub const RAISE_10: usize = 100;
 
-pub const RAISE_45: usize = 125;
+pub const RAISE_15: usize = 125;
 
-pub const RAISE_60: usize = 150;
+pub const RAISE_25: usize = 150;
 
-// Of values by mark those of the marks before 14:00 are laid into the day from a place on, by distance from it.
-fn lay(day: &mut [u64; 175], place: usize, values: &[u64; 48])
-    requires { ⌜ place ≤ 150 ⌝ }
-    ensures { λ _. ⌜ now (day .exit) ≡ sets (now (day .entry)) place (tab (λ (d : ℕ). at (now (values .entry)) (ahead d)) 25) ⌝ }
+pub const RAISE_35: usize = 175;
+
+pub const RAISE_45: usize = 200;
+
+pub const RAISE_60: usize = 225;
+
+// 25 numbers are laid into the day from a place on.
+fn lay(day: &mut [u64; 250], place: usize, values: &[u64; 25])
+    requires { ⌜ place ≤ 225 ⌝ }
+    ensures { λ _. ⌜ now (day .exit) ≡ sets (now (day .entry)) place (tab (at (now (values .entry))) 25) ⌝ }
 {
     let mut d: usize = 0;
     while d < 25 {
-        day[place + d] = values[WARMEST - d];
+        day[place + d] = values[d];
         d += 1;
     }
 }
 
-// The day of the season that has these values at its marks.
-fn day_of(marks: Marks) -> [u64; 175]
-    ensures { λ r. ⌜ ((season : Season) → MarksReady season marks → DayReady season r) ⌝ }
+// The day of a season that has these values at its marks.
+fn day_of(season: Season, marks: Marks) -> [u64; 250]
+    requires { ⌜ MarksReady season marks ⌝ }
+    ensures { λ r. ⌜ DayReady season r ⌝ }
 {
-    let mut day = [0u64; 175];
-    lay(&mut day, 0, &marks.warmth);
-    lay(&mut day, RAISE_10, &marks.raise10);
-    lay(&mut day, RAISE_15, &marks.raise15);
-    lay(&mut day, RAISE_25, &marks.raise25);
-    lay(&mut day, RAISE_35, &marks.raise35);
-    lay(&mut day, RAISE_45, &marks.raise45);
-    lay(&mut day, RAISE_60, &marks.raise60);
+    let vp = season.vp;
+    let warmths = by_distance(&marks.warmth);
+    let mut day = [0u64; 250];
+    let a = bases(&warmths, vp);
+    lay(&mut day, 0, &a);
+    let large = growths(&warmths, vp, 1);
+    lay(&mut day, LARGE, &large);
+    let medium = growths(&warmths, vp, 2);
+    lay(&mut day, MEDIUM, &medium);
+    let small = growths(&warmths, vp, 4);
+    lay(&mut day, SMALL, &small);
+    let raise10 = by_distance(&marks.raise10);
+    lay(&mut day, RAISE_10, &raise10);
+    let raise15 = by_distance(&marks.raise15);
+    lay(&mut day, RAISE_15, &raise15);
+    let raise25 = by_distance(&marks.raise25);
+    lay(&mut day, RAISE_25, &raise25);
+    let raise35 = by_distance(&marks.raise35);
+    lay(&mut day, RAISE_35, &raise35);
+    let raise45 = by_distance(&marks.raise45);
+    lay(&mut day, RAISE_45, &raise45);
+    let raise60 = by_distance(&marks.raise60);
+    lay(&mut day, RAISE_60, &raise60);
     day
 }
 
@@ -147,7 +169,7 @@ pub fn prepare(tables: &[u64; 1907], grid: &[u64; 627], season: Season, canister
     let list = list_where(grid, &rises, canisters);
     Prepared {
         list,
-        day: day_of(marks),
+        day: day_of(season, marks),
         at: at_season(grid, &rises, season, marks),
     }
 }

@@ -51,12 +51,13 @@ pub fn row_units(
     tables: &[u64; 1907],
     grid: &[u64; 627],
     list: &[u64; 1732],
-    day: &[u64; 175],
+    day: &[u64; 250],
     at: AtSeason,
     row: Row,
     kept: u64,
 ) -> [u64; 7]
-    requires { ⌜ Lent (now tables) (now grid) (now day) at × RowInRange (at .season) row × ListFor (now grid) (now list) (at .season) row × KeptOf row kept ⌝ }
+    requires { ⌜ Lent (now tables) (now grid) (now day) at × RowInRange (at .season) row × ListFor (now grid) (now list) (at .season) row
+        × KeptOf row kept ⌝ }
     ensures { λ r. ⌜ r ≡ sevenUnits (at .season) row (cellsIn (now (grid .entry))) ⌝ }
 {
     let means = at.means;

@@ -39,7 +39,7 @@ fits : (c : tie.In-loop Inv-loop μ-loop)
     (at (a .values .now) (c .before .loop .d) / 2 ^ 12) < 2 ^ 64
 fits c =
     let s = c .before .before .before in
-    let all = distance-fits (s .pre .0) (s .args .ends) (at (s .args .values .now)) (s .pre .1 .at-most) in
+    let all = distance-fits (s .pre .0) (s .args .ends) (at (s .args .values .now)) (λ d _. s .pre .1 .at-most d) in
     sum-fits _ (c .loop-test .taken) all (c .before .loop .inv .1) (added c)
 
 returns : tie.Need-returns Inv-loop μ-loop

@@ -14,8 +14,8 @@ returns c =
     let e = f .fitted .ensures in
     record {
       parking-is = parking-right q e (c .before .before .parking-through .ensures);
-      soak-is = raise-right q e 45 125 (λ d. d .raise45-are) false (c .before .raise-through .ensures);
-      hotsoak-is = raise-right q e 60 150 (λ d. d .raise60-are) false (c .raise-through2 .ensures);
+      soak-is = raise-right q e 45 200 (λ d. d .raise45-are) false (c .before .through-raises .ensures);
+      hotsoak-is = raise-right q e 60 225 (λ d. d .raise60-are) false (c .through-raises2 .ensures);
       trip-is = open-shut (s .args .at .season) (s .args .row) _ (s .args .row .canister) (q .1) _;
       hottrip-is = open-shut (s .args .at .season) (s .args .row) _ (s .args .row .canister) (q .1) _;
     }
@@ -26,7 +26,7 @@ canister-car-spec =
     (tie.spec
     (λ c κs. search needs)
     (λ c κs. parking-needs (c .before .pre) (c .fitted .ensures))
-    (λ c κs. let f = c .before in raise-needs (f .before .pre) (f .fitted .ensures) 45 125 (λ d. d .raise45-are) (omega arith) (omega arith))
+    (λ c κs. let f = c .before in raise-needs (f .before .pre) (f .fitted .ensures) 45 200 (λ d. d .raise45-are) (omega arith) (omega arith))
     (λ c κs. let f = c .before .before in
-    raise-needs (f .before .pre) (f .fitted .ensures) 60 150 (λ d. d .raise60-are) (omega arith) (omega arith))
+    raise-needs (f .before .pre) (f .fitted .ensures) 60 225 (λ d. d .raise60-are) (omega arith) (omega arith))
     returns)

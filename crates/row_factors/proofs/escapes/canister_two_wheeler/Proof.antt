@@ -13,10 +13,10 @@ returns c =
     let e = f .fitted .ensures in
     record {
       parking-is = parking-right q e (c .before .before .before .before .parking-through .ensures);
-      soak-is = raise-right q e 15 50 (λ d. d .raise15-are) false (c .before .before .before .raise-through .ensures);
-      hotsoak-is = raise-right q e 35 100 (λ d. d .raise35-are) false (c .before .before .raise-through2 .ensures);
-      trip-is = raise-right q e 10 25 (λ d. d .raise10-are) true (c .before .raise-through3 .ensures);
-      hottrip-is = raise-right q e 25 75 (λ d. d .raise25-are) true (c .raise-through4 .ensures);
+      soak-is = raise-right q e 15 125 (λ d. d .raise15-are) false (c .before .before .before .through-raises .ensures);
+      hotsoak-is = raise-right q e 35 175 (λ d. d .raise35-are) false (c .before .before .through-raises2 .ensures);
+      trip-is = raise-right q e 10 100 (λ d. d .raise10-are) true (c .before .through-raises3 .ensures);
+      hottrip-is = raise-right q e 25 150 (λ d. d .raise25-are) true (c .through-raises4 .ensures);
     }
 
 pub canister-two-wheeler-spec : {M : Type 1} → statement M
@@ -25,11 +25,11 @@ canister-two-wheeler-spec =
     (tie.spec
     (λ c κs. search needs)
     (λ c κs. parking-needs (c .before .pre) (c .fitted .ensures))
-    (λ c κs. let f = c .before in raise-needs (f .before .pre) (f .fitted .ensures) 15 50 (λ d. d .raise15-are) (omega arith) (omega arith))
+    (λ c κs. let f = c .before in raise-needs (f .before .pre) (f .fitted .ensures) 15 125 (λ d. d .raise15-are) (omega arith) (omega arith))
     (λ c κs. let f = c .before .before in
-    raise-needs (f .before .pre) (f .fitted .ensures) 35 100 (λ d. d .raise35-are) (omega arith) (omega arith))
+    raise-needs (f .before .pre) (f .fitted .ensures) 35 175 (λ d. d .raise35-are) (omega arith) (omega arith))
     (λ c κs. let f = c .before .before .before in
-    raise-needs (f .before .pre) (f .fitted .ensures) 10 25 (λ d. d .raise10-are) (omega arith) (omega arith))
+    raise-needs (f .before .pre) (f .fitted .ensures) 10 100 (λ d. d .raise10-are) (omega arith) (omega arith))
     (λ c κs. let f = c .before .before .before .before in
-    raise-needs (f .before .pre) (f .fitted .ensures) 25 75 (λ d. d .raise25-are) (omega arith) (omega arith))
+    raise-needs (f .before .pre) (f .fitted .ensures) 25 150 (λ d. d .raise25-are) (omega arith) (omega arith))
     returns)

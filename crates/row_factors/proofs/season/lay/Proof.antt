@@ -1,17 +1,16 @@
 -- `row_factors::season::lay` meets its contract: the first d numbers are laid, the others are as they were.
 use mathlib.Core.Path.{_≡_, refl}
-use Prim.Native.Nat.{ℕ, _-_, _≤_}
+use Prim.Native.Nat.{_-_, _≤_}
 use borrow.Author.Needs.{needs}
 use native.Mathlib.Omega.{arith}
 use lib.Seq.{sets}
 use Rattle.numbers.specs.Lists.{tab, at}
 use Rattle.numbers.proofs.Stores.{run-more}
-use Rattle.bounds.specs.Weights.{ahead}
 use Rattle.row_factors.proofs.season.lay.Statement.{statement}
 use Rattle.row_factors.proofs.season.lay.Tie as tie
 
 abbrev Inv-loop : tie.InvT-loop
-Inv-loop day₀ place values d₀ day d = (d ≤ 25) × (day ≡ sets day₀ place (tab (λ (k : ℕ). at values (ahead k)) d))
+Inv-loop day₀ place values d₀ day d = (d ≤ 25) × (day ≡ sets day₀ place (tab (at values) d))
 
 abbrev μ-loop : tie.MeasureT-loop
 μ-loop day₀ place values d₀ day d = 25 - d
@@ -39,6 +38,6 @@ lay-spec =
     μ-loop
     loop-holds
     (λ c. search needs) (λ c. search needs) (λ c. search needs) (λ c. search needs) (λ c. search needs)
-    (λ c. search needs) (λ c. search needs) (λ c. search needs)
+    (λ c. search needs) (λ c. search needs)
     loop-again
     returns)

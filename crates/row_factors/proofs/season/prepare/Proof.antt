@@ -1,6 +1,5 @@
 -- `row_factors::season::prepare` meets its contract: the marks, the rises, the list and the day are those of its season.
 use mathlib.Core.Path.{_≡_}
-use borrow.Author.Needs.{needs}
 use Rattle.row_factors.specs.Season.{MarksReady, risesOf}
 use Rattle.row_factors.proofs.Prepared.{steps-most, rises-are}
 use Rattle.row_factors.proofs.season.prepare.Statement.{statement}
@@ -26,7 +25,7 @@ returns c =
       record {
         tables-are = p .0;
         grid-ready = p .1;
-        day-ready = rw (a .season-is) (d .day-of .ensures _ (marks-ready m));
+        day-ready = rw (a .season-is) (d .day-of .ensures);
         means-are = rw (a .season-is) (a .means-are);
       },
       λ wanted. rw (← (rises-ready w)) (k .list-where .ensures wanted),
@@ -39,7 +38,7 @@ prepare-spec =
     (λ c κs. (c .pre .0, c .pre .2))
     (λ c κs. let m = c .before .before in steps-most (m .before .pre .2) (m .at-marks .ensures))
     (λ c κs. c .before .before .before .before .before .pre .1)
-    (λ c κs. search needs)
+    (λ c κs. marks-ready (c .before .before .before .before .before))
     (λ c κs. let w = c .before .before .before .before in
     (w .before .before .before .before .pre .1, marks-ready (w .before .before .before), rises-ready w))
     returns)
