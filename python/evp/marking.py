@@ -70,7 +70,7 @@ def read_filed(name: str) -> FiledTable:
 
 def filed_of(text: str, label: str) -> FiledTable:
     """The filed masses; InputError with a message for each line that cannot be read."""
-    table = read_table(text, label, COLUMNS, COLUMNS)
+    table = read_table(text, label, COLUMNS, COLUMNS, comments=False)  # a sheet's name may start with #
     filings, messages, lines = [], [], {}
     for line in table.lines:
         try:
