@@ -4,6 +4,7 @@ import json
 import random
 import unittest
 from collections.abc import Iterator
+from decimal import Decimal
 
 from support import CAR, GRID_TEXT, LIBRARY, LISTS, SEASONS, TEXT, DeskTestCase, grid, run, sample
 
@@ -376,57 +377,85 @@ class WordsTest(DeskTestCase):
 
 
 class DamagedTest(unittest.TestCase):
-    """2,000 damaged sheets."""
+    """2,000 sheets that are refused since some of their bytes were changed; those that are accepted all the same are
+    passed over, but for what their check and their explanation say."""
 
-    SUMS = ((8, 1), (9, 1), (24, 1), (10, 2), (26, 1))
+    MANY = 2000
+    SUMS = ((8, 1), (9, 1), (24, 1))
+    PLACES = {"lowest": 1, "highest": 1, "vp": 1, "tank": 1, "load": 1, "saturation": 1, "trips": 2}
 
-    def damaged(self):
+    @staticmethod
+    def damaged() -> Iterator[bytes]:
         draw = random.Random(31)
         whole = [sample(name) for name in ("example", "table-3-5", "region", "survey", "odometer")]
-        whole.append(sheet.write(GRID_TEXT + "version 4"))
-        for _ in range(2000):
+        whole += [sheet.write(GRID_TEXT + "version 4"),
+                  sheet.write(grid() + SEASONS + TEN_MILLION * 10 + CAR.replace("18400", "0") + "version 4")]
+        while True:
             data = bytearray(draw.choice(whole))
-            size = len(data)
+            size, records = len(data), layout.seasons_start(data)
             for _ in range(draw.choice((1, 1, 1, 2, 3))):
                 at = draw.choice((draw.randrange(8), draw.randrange(8, layout.LISTS_END), draw.randrange(size),
-                                  draw.randrange(max(0, size - 200), size)))
+                                  draw.randrange(records, size), draw.randrange(max(records, size - 24), size)))
                 data[at] = draw.choice((0, 1, 2, 4, 255, draw.randrange(256)))
+            if draw.random() < 0.03:  # no parking at all
+                data[8:records] = bytes(records - 8)
             yield bytes(data[:draw.randrange(size)] if draw.random() < 0.05 else data)
 
-    def value_in(self, data: bytes, finding: Finding) -> int:
+    def value_in(self, data: bytes, said: Explanation) -> int:
         """What the bytes have: a number, a sum up to there, or the length."""
-        key = finding.number, finding.reason
-        if not finding.bytes:
+        if said.at is None:
             return len(data)
+        key, number = (said.number, said.reason), int.from_bytes(
+            data[said.at:said.at + said.bytes], "little", signed=said.number == 11)
         if key == (10, 2):
-            return sum(layout.season(data, i)["days"] for i in range(finding.index + 1))
+            return sum(layout.season(data, i)["days"] for i in range(said.index))
         if key == (26, 1):
-            return sum(layout.row(data, i)["vehicles"] for i in range(finding.index + 1))
+            return sum(layout.row(data, i)["vehicles"] for i in range(said.index))
         if key in self.SUMS:
-            return sum(layout.number_at(data, at, 2) for at in range(finding.at, finding.at + finding.bytes, 2))
-        shift = 32768 if finding.number == 11 else 0
-        return layout.number_at(data, finding.at, finding.bytes, finding.number == 11) + shift
+            return sum(data[at] + 256 * data[at + 1] for at in range(said.at, said.at + said.bytes, 2))
+        return number
+
+    def words_for(self, data: bytes, said: Explanation) -> str:
+        """The value as the sentence has to have it, by the bytes and the units that a participant writes."""
+        if said.field in ("letters", "spare"):
+            start, end = (0, 3) if said.field == "letters" else (said.at, said.at + said.bytes)
+            return data[start:end].hex(" ")
+        value = self.value_in(data, said)
+        if not value and (said.number, said.reason) in self.SUMS:
+            return "all are 0"
+        places = self.PLACES.get(said.field, 0)
+        return "the file is empty" if not data else "%.*f" % (places, Decimal(value).scaleb(-places))
+
+    def assert_explained(self, data: bytes, said: Explanation, finding: Finding):
+        """What is told holds of the bytes, and what is advised passes."""
+        shift = 32768 if said.number == 11 else 0
+        self.assertEqual(said.value, self.value_in(data, said))
+        self.assertEqual((said.value + shift, said.least + shift, said.most + shift), finding[-3:])
+        self.assertFalse(said.least <= said.value <= said.most)
+        self.assertIn(self.words_for(data, said), said.words.sentence.replace(",", ""))
+        self.assertLess(len(said.lines), 6)
+        self.assertTrue(said.words.advice)
+        for changed_data in mended(data, said):
+            after = LIBRARY.explain(changed_data)
+            self.assertNotEqual((after.number, after.reason, after.index), (*finding[:1], said.reason, finding.index))
 
     def test_damaged(self):
-        numbers = set()
+        reasons, refused = set(), 0
         for data in self.damaged():
             check, finding, second = LIBRARY.check(data), LIBRARY.explain(data), reckoning.check(data)
             self.assertEqual((check.number, check.place) if check else None, second)
             self.assertEqual((finding.number, finding.place), second or (0, 0))
             self.assertEqual(tuple(finding), tuple(findings.explain(data)))
             said = explain(LIBRARY, data)
-            numbers.add((finding.number, finding.reason))
-            if finding.number:
-                self.assertEqual(finding.value, self.value_in(data, finding))
-                self.assertFalse(finding.least <= finding.value <= finding.most)
+            self.assertEqual((said.number, said.place), second or (0, 0))
+            if check:
+                refused += 1
+                reasons.add((said.number, said.reason))
                 self.assertIn("refused %d at %d: " % second, said.line)
-                self.assertLess(len(said.lines), 6)
-                self.assertTrue(said.words.advice)
-                for changed_data in mended(data, said):
-                    after = LIBRARY.explain(changed_data)
-                    self.assertNotEqual((after.number, after.reason, after.index),
-                                        (finding.number, finding.reason, finding.index))
-        self.assertGreater(len(numbers), 25)
+                self.assert_explained(data, said, finding)
+            if refused == self.MANY:
+                break
+        self.assertEqual(reasons, set(REASONS))
 
 
 if __name__ == "__main__":
