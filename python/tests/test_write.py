@@ -133,6 +133,8 @@ class TextTest(DeskTestCase):
                 path = self.put("a.txt", text)
                 found = run("write", path, "--force")
                 self.assertEqual(found.err, "evp: note: %s: %s\n" % (path, said))
+            (TEXT.replace("lowest=-2.0 highest=9.5", "lowest=28.4 highest=49"),  # the winter alone
+             "line 3: lowest 28.4, highest 49: is this °F? In °C it would be -2.0 and 9.4"),
         self.assertEqual(run("write", self.put("a.txt", TEXT), "--force").err, "")
 
     def test_many_doubts(self):

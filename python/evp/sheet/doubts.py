@@ -3,13 +3,13 @@
 from collections.abc import Iterator, Sequence
 from decimal import Decimal, InvalidOperation
 
-from evp.layout import BY_CLASS, CLASSES, FIELDS
+from evp.layout import BY_CLASS, CLASSES
 from evp.sheet.builder import Builder
 
 # Fields that are 0 where they are left out; load and saturation where the row has a canister.
 COUNTED = ("carburettor", "hot", "fill", "vehicles", "trips", "minutes")
 PSI = Decimal("6.89476")  # kPa
-HOT_NIGHT = 30  # °C; few places have a lowest temperature above it
+HOT_NIGHT, HOT_DAY = 30, 45  # °C; few places have a lowest or a highest temperature above these
 
 
 def doubts(builder: Builder) -> Iterator[str]:
@@ -56,7 +56,7 @@ def _wants(name: str, record: bytes) -> bool:
 def _seasons(builder: Builder) -> Iterator[str]:
     for place, given in zip(builder.season_places, builder.season_words):
         lowest, highest, vp = (_number(given[name]) for name in ("lowest", "highest", "vp"))
-        if lowest >= HOT_NIGHT or highest > FIELDS["highest"].most / 10:
+        if lowest >= HOT_NIGHT or highest >= HOT_DAY:
             celsius = [round((word - 32) * 5 / 9, 1) for word in (lowest, highest)]
             yield "%s: lowest %s, highest %s: is this °F? In °C it would be %s and %s" % (
                 place, given["lowest"], given["highest"], *celsius)
