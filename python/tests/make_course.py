@@ -1,24 +1,28 @@
 """Writes samples/course: thirty made-up sheets of a course, and what was filed for them with mistakes of many kinds.
 
-    PYTHONPATH=python:. python3 python/tests/make_course.py
+    python3 python/tests/make_course.py
 
 The sheets are made by evp.sheet, the right masses are the library's, those of a misreading the second reckoning's.
+marks.csv is what `evp mark` writes for them; look at its differences before you keep it:
+
+    ./evp mark samples/course --filed samples/course/filed.csv -o samples/course/marks.csv --force
 """
 
 import random
 import re
 from fractions import Fraction
 
-from evp import library as calls
+from support import LIBRARY, SAMPLES
+
 from evp import sheet
 from evp.figures import Figure, bands
 from evp.hints import MISREADINGS, Guesser
-from evp.library import GROUPS, MECHANISMS, TOP, Band
+from evp.library import GROUPS, MECHANISMS, Band, Library
 from evp.marking import COLUMNS, Marked
 from evp.masses import POWERS
 from evp.tables import table_text
 
-COURSE = TOP / "samples" / "course"
+COURSE = SAMPLES / "course"
 NAMES = """north south east west lakes hills coast islands valley moor forest delta harbour plain ridge marsh upland
 lowland river bay cape fen heath glen downs sound border midland headland orchard""".split()
 
@@ -66,12 +70,12 @@ def figure_text(mass: Fraction, unit: str, places: int, cut: bool = False) -> st
     return "%s.%s" % (digits[:-places], digits[-places:]) if places else digits
 
 
-def filed_bands(library: calls.Library, name: str, data: bytes) -> dict[Figure, Band]:
+def filed_bands(library: Library, name: str, data: bytes) -> dict[Figure, Band]:
     """What a participant took for the bands: those of a changed sheet, or of a misreading."""
     right = bands(library.report(data))
     misreading = {"lakes": "divided", "moor": "cooling", "fen": "cut"}.get(name)
     if misreading:
-        guesser = Guesser(library, Marked(data, "", right), {})
+        guesser = Guesser(library, Marked(data, "", right), {}, [])
         found = next(one for one in MISREADINGS if one.name == misreading)
         return {figure: guesser._misread(figure, found) for figure in FILED}
     if name in ("valley", "glen"):  # read from a wrong line: other trips, other days
@@ -81,7 +85,7 @@ def filed_bands(library: calls.Library, name: str, data: bytes) -> dict[Figure, 
     return right
 
 
-def lines_of(library: calls.Library, name: str):
+def lines_of(library: Library, name: str):
     taken = filed_bands(library, name, sheet.write(text_of(name)))
     unit, places = {"bay": ("kg", 3), "sound": ("kg", 1)}.get(name, ("t", 3))
     for figure in FILED:
@@ -99,14 +103,17 @@ def lines_of(library: calls.Library, name: str):
         yield "border.evp", "9", "diurnal", "0.012", "t"
 
 
+def files() -> dict[str, bytes]:
+    """The sheets and filed.csv by their names."""
+    lines = [line for name in NAMES for line in lines_of(LIBRARY, name)]
+    lines.append(("atlantis.evp", "total", "", "54.311", "t"))
+    return {**{name + ".evp": sheet_of(name) for name in NAMES}, "filed.csv": table_text(COLUMNS, lines).encode()}
+
+
 def main():
     COURSE.mkdir(exist_ok=True)
-    library, lines = calls.load(), []
-    for name in NAMES:
-        (COURSE / (name + ".evp")).write_bytes(sheet_of(name))
-        lines += lines_of(library, name)
-    lines.append(("atlantis.evp", "total", "", "54.311", "t"))
-    (COURSE / "filed.csv").write_text(table_text(COLUMNS, lines), encoding="utf-8")
+    for name, data in files().items():
+        (COURSE / name).write_bytes(data)
 
 
 if __name__ == "__main__":
