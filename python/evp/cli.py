@@ -1,21 +1,25 @@
 """The command `evp`: its arguments and its exit status."""
 
 import argparse
+import contextlib
 import difflib
+import errno
 import io
 import os
 import signal
 import sys
 import textwrap
+from collections.abc import Callable
 
 from evp import commands
 from evp.desk import command as desk_command
-from evp.files import InputError
+from evp.files import InputError, failed
 from evp.library import MissingCall
 from evp.masses import UNITS
 from evp.pages import command as page_command
-from evp.wording import quoted
+from evp.wording import MOST_SHOWN, printable, quoted
 
+TAKES_NO_MORE = (errno.ENOSPC, errno.EDQUOT, errno.EFBIG, errno.EIO)  # what a disk that is full answers, or broken
 STATUS = "Exit status 0 fine, 1 refused or a figure wrong,\n2 not readable or not understood."
 
 
@@ -29,9 +33,26 @@ class Parser(argparse.ArgumentParser):
         super().__init__(*words, epilog="example:\n%s\n%s" % (lines, STATUS),
                          formatter_class=argparse.RawDescriptionHelpFormatter, **more)
 
+    def print_help(self, file=None):
+        super().print_help(file)
+        sys.stdout.flush()  # so that a full disk is told
+
     def error(self, message: str):
+        message = printable(message)
+        short = message if len(message) <= MOST_SHOWN else message[:MOST_SHOWN] + "…"
         self.print_usage(sys.stderr)
-        self.exit(2, "evp: %s; %s --help says more\n" % (message, self.prog))
+        self.exit(2, "evp: %s; %s --help says more\n" % (short, self.prog))
+
+
+def _version(*versions: int) -> Callable[[str], int]:
+    """The type of an argument that is a version of the sheet; int() would take the digits of any script."""
+    words = list(map(str, versions))
+
+    def version(word: str) -> int:
+        if word not in words:
+            raise argparse.ArgumentTypeError("%s is none of %s" % (quoted(word), ", ".join(words)))
+        return int(word)
+    return version
 
 
 def _add(subparsers, name: str, run, about: str, example: str, *options: str) -> Parser:
@@ -75,7 +96,7 @@ def _add_sheet_commands(add):
     convert = _add(add, "convert", commands.convert, "makes the same inventory in a later version of the sheet",
                    "evp convert north.evp --to 4 -o north4.evp", "force")
     convert.add_argument("sheet", metavar="SHEET")
-    convert.add_argument("--to", type=int, choices=(2, 3, 4), required=True, metavar="2|3|4")
+    convert.add_argument("--to", type=_version(2, 3, 4), required=True, metavar="2|3|4")
     convert.add_argument("-o", dest="output", metavar="FILE", help="SHEET's name with -version-N where none is given")
 
 
@@ -86,7 +107,8 @@ def _add_table_commands(add):
     write.add_argument("source", metavar="TEXT|FOLDER")
     write.add_argument("-o", dest="output", metavar="SHEET",
                        help="the name of TEXT or FOLDER with .evp where none is given")
-    write.add_argument("--version", type=int, choices=(1, 2, 3, 4), help="another version than the text makes")
+    write.add_argument("--version", type=_version(1, 2, 3, 4), metavar="1|2|3|4",
+                       help="another version than the text makes")
     read = _add(add, "read", commands.read_back, "prints the text of a sheet, or makes its csv files",
                 "evp read north.evp --csv north", "force")
     read.add_argument("sheet", metavar="SHEET")
@@ -109,6 +131,7 @@ def _add_report_commands(add):
     mark.add_argument("--filed", required=True, metavar="FILE", help="csv: sheet,row,mechanism,mass,unit")
     mark.add_argument("-o", dest="output", metavar="FILE",
                       help="csv: the same columns, then verdict,low_mg,high_mg,off_mg,note,sha256")
+    mark.add_argument("--page", metavar="FILE", help="a page of the class for a browser, as evp page class makes it")
     mark.add_argument("--hints", action="store_true", help="guess at the reason of a wrong figure")
     compare = _add(add, "compare", commands.compare,
                    "says which masses of two sheets differ for certain, and which way",
@@ -148,35 +171,65 @@ def _no_command(top: Parser, words: list[str]) -> int | None:
     return 2
 
 
-def _complain(text: str):
-    for line in commands.limited(text.split("\n"), "such messages"):
-        print("evp: %s" % line, file=sys.stderr)
+def _complain(text: str, start: str = "evp: "):
+    try:
+        for line in commands.limited(text.split("\n"), "such messages"):
+            print(start + line, file=sys.stderr, flush=True)
+    except OSError:  # nobody can be told, and the exit status tells
+        _drop(sys.stderr)
+
+
+def _drop(stream: io.TextIOWrapper):
+    """What a stream could not take is not tried again when Python ends."""
+    with contextlib.suppress(OSError):  # a stream of a test has no number
+        os.dup2(os.open(os.devnull, os.O_WRONLY), stream.fileno())
 
 
 def main(words: list[str] | None = None) -> int:
     """Runs a command; whatever goes wrong is said in words."""
     if words is None and hasattr(signal, "SIGPIPE"):  # a reader such as head may leave early
         signal.signal(signal.SIGPIPE, signal.SIG_DFL)
+    if sys.stderr is None:  # it is closed, and print would take standard output for it
+        sys.stderr = open(os.devnull, "w", encoding="utf-8")
+    if sys.stdout is None:
+        _complain("standard output: it is closed")
+        return 2
     for stream in (sys.stdout, sys.stderr):
         if isinstance(stream, io.TextIOWrapper):  # a terminal may not know a sign
             stream.reconfigure(errors="replace")
     top, words = parser(), sys.argv[1:] if words is None else words
     status = _no_command(top, words)
-    if status is not None:
-        return status
-    given = top.parse_args(words)
+    return _run(top, words) if status is None else status
+
+
+def _run(top: Parser, words: list[str]) -> int:
+    """The exit status of a command."""
     try:
-        return given.run(given)
+        given = top.parse_args(words)
+        status = given.run(given)
+        sys.stdout.flush()
+        return status
     except commands.SheetRefused as refused:
-        print(refused, file=sys.stderr)
+        _complain(str(refused), "")
         return commands.REFUSED
     except (InputError, MissingCall) as error:
         _complain(str(error))
     except KeyboardInterrupt:
         _complain("stopped")
     except Exception as error:  # no traceback reaches a user
-        if os.environ.get("EVP_TRACEBACK"):
+        said = _of_a_file(error) if isinstance(error, OSError) else ""
+        if not said and os.environ.get("EVP_TRACEBACK"):
             raise
-        _complain("this is a fault of evp itself: %s: %s\nEVP_TRACEBACK=1 says more" % (
-            type(error).__name__, str(error)[:200]))
+        _complain(said or "this is a fault of evp itself: %s: %s\nEVP_TRACEBACK=1 says more" % (
+            type(error).__name__, printable(str(error))[:MOST_SHOWN]))
     return 2
+
+
+def _of_a_file(error: OSError) -> str:
+    """What is wrong with the file that an error names, or with standard output; empty where it is something else."""
+    if error.filename is not None:
+        return str(failed(error.filename, error))
+    if error.errno not in TAKES_NO_MORE:
+        return ""
+    _drop(sys.stdout)
+    return str(failed("standard output", error))

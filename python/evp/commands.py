@@ -6,20 +6,24 @@ import os
 import sys
 import time
 from argparse import Namespace
-from collections.abc import Iterable
+from collections.abc import Iterable, Iterator
+from functools import partial
 
 from evp import library as calls
 from evp import marking, show
 from evp.cells import cells_csv, cells_of, read_travel
 from evp.convert import converted
 from evp.explain import Explanation, call_text, explain, looks_like
-from evp.files import InputError, make_folder, read_sheet, read_text, write_file
+from evp.files import FileError, InputError, failed, make_folder, read_sheet, read_text, write_file
 from evp.hints import with_hints
-from evp.library import Library, Refusal, Report
+from evp.library import SHEET_BYTES, Library, Refusal, Report
 from evp.making import make_library
+from evp.marking import FiledTable, Mark, Marked
+from evp.pages.needs import require
 from evp.sheet import Builder, TextError, doubts, folder_of, read, take_folder, take_text, templates
+from evp.sheet.folders import TABLES
 from evp.sheet.reader import told_version
-from evp.wording import name_shown
+from evp.wording import apart, counted, name_shown
 
 MOST_LINES = 20  # of messages that any input can make
 MOST_HINTS = 12  # of these
@@ -114,19 +118,31 @@ def _taken(source: str) -> Builder:
     return take_text(read_text(source), name_shown(source) + ": ")
 
 
-def _target(source: str, given: str | None) -> str:
+def _target(source: str, given: str | None, end: str = ".evp") -> str:
+    """Where a sheet is written: as it is given, or by the name of what it is made from."""
     if given:
         return given
     if source == "-":
         raise InputError("standard input has no name: -o SHEET names the sheet")
-    folder = os.path.isdir(source)
-    return os.path.normpath(source) + ".evp" if folder else os.path.splitext(source)[0] + ".evp"
+    return (os.path.normpath(source) if os.path.isdir(source) else os.path.splitext(source)[0]) + end
 
 
-def _keep_source(source: str, target: str):
-    """Never over the text, under another name or through a link either."""
-    if source != "-" and os.path.exists(source) and os.path.exists(target) and os.path.samefile(source, target):
-        raise InputError("%s: the sheet would overwrite its text; -o SHEET names another file" % name_shown(target))
+def _save(target: str, data: bytes, force: bool, *sources: str | os.PathLike):
+    """Writes a file, but never over one that it is made from, under another name or through a link either."""
+    if target != "-" and any(map(partial(_same, target), sources)):
+        raise InputError("%s: this would overwrite what it is made from; -o names another file" % name_shown(target))
+    write_file(target, data, force)
+
+
+def _same(one: str | os.PathLike, other: str | os.PathLike) -> bool:
+    return other != "-" and os.path.exists(one) and os.path.exists(other) and os.path.samefile(one, other)
+
+
+def _tables_in(source: str) -> list[str]:
+    """What a sheet is made from: a text, or the tables of a folder."""
+    if source == "-" or not os.path.isdir(source):
+        return [source]
+    return [os.path.join(source, name) for name in TABLES]
 
 
 def write_sheet(given: Namespace) -> int:
@@ -137,15 +153,14 @@ def write_sheet(given: Namespace) -> int:
         data = builder.data()
     except TextError as error:
         raise InputError(str(error)) from None
-    _keep_source(given.source, target)
-    write_file(target, data, given.force)
+    _save(target, data, given.force, *_tables_in(given.source))
     for line in limited(doubts(builder), "things to look at"):
         print("evp: note: %s" % line, file=sys.stderr)
     explanation = explain(library, data)
     out = sys.stderr if target == "-" else sys.stdout
     where = _source_of(builder, explanation)
     line = explanation.refusal if where else explanation.line
-    print("%s: %d bytes, %s" % (name_shown(target), len(data), line), file=out)
+    print("%s: %d bytes, %s" % (name_shown(target, "standard output"), len(data), line), file=out)
     if where:
         print("%s: %s" % (where, explanation.text), file=out)
     return REFUSED if explanation.number else FINE
@@ -159,6 +174,9 @@ def _source_of(builder: Builder, explanation: Explanation) -> str:
 
 def read_back(given: Namespace) -> int:
     data = read_sheet(given.sheet)
+    if len(data) > SHEET_BYTES:
+        raise InputError("%s: this is no sheet; it has more than %s bytes" % (
+            name_shown(given.sheet), apart(SHEET_BYTES)))
     other = looks_like(data)
     if data and other:
         raise InputError("%s: this is no sheet; %s" % (name_shown(given.sheet), other))
@@ -199,8 +217,8 @@ def convert(given: Namespace) -> int:
         later = converted(data, given.to)
     except InputError as error:
         raise InputError("%s: %s" % (name_shown(given.sheet), error)) from None
-    target = given.output or "%s-version-%d.evp" % (os.path.splitext(given.sheet)[0], given.to)
-    write_file(target, later, given.force)
+    target = _target(given.sheet, given.output, "-version-%d.evp" % given.to)
+    _save(target, later, given.force, given.sheet)
     if target != "-":
         same = "the same report" if library.report(later) == report else "the same exact masses, other bands"
         print("%s: %d bytes, version %d, %s" % (name_shown(target), len(later), given.to, same))
@@ -225,8 +243,7 @@ class Progress:
 
 
 def mark(given: Namespace) -> int:
-    if not given.output and not given.json:
-        raise InputError("-o FILE names the file for the marks, --json prints them")
+    _check_outputs(given)
     library, filed = get_library(), marking.read_filed(given.filed)
     if not os.path.isdir(given.folder):
         raise InputError("%s: a folder with sheets is wanted" % name_shown(given.folder))
@@ -235,17 +252,51 @@ def mark(given: Namespace) -> int:
     summary, remarks = marking.summary(marks, len(sheets)), []
     if given.hints:
         marks, remarks = with_hints(library, sheets, filed.filings, marks, Progress())
-    hints = limited(remarks, "such lines; the notes of the marks have all", MOST_HINTS)  # both on one screen
-    lines = [*limited(summary, "sheets to look at", MOST_LINES - len(hints)), *hints]
-    if given.output:
-        text = marking.marks_csv(marks, filed.semicolon)
-        write_file(given.output, text.encode("utf-8", "surrogateescape"), given.force)  # names as the folder has them
+    _save_marks(given, sheets, filed, marks)
     if given.json:
         print_json([line._asdict() for line in marks])
     elif given.output != "-":
-        say(lines)
-        print("%s: %d lines" % (name_shown(given.output), len(marks)))
+        say([*_on_one_screen(summary, remarks), *_files_made(given, marks)])
+    unread = [str(FileError(os.path.join(given.folder, name), sheet.unread)) for name, sheet in sheets.items()
+              if sheet.unread]
+    if unread:
+        raise InputError("\n".join(unread))
     return FINE if all(line.verdict in marking.FINE for line in marks) else REFUSED
+
+
+def _check_outputs(given: Namespace):
+    """Before the work: that what is asked for can be told apart, and that a page can be made."""
+    if given.json and given.output == "-" or given.page == "-" and (given.json or given.output == "-"):
+        raise InputError("two of -o, --json and --page would share standard output")
+    if given.page:
+        require("jinja2")
+    for target in (given.output, given.page):
+        if target not in (None, "-") and os.path.isfile(target) and not given.force:
+            raise failed(target, FileExistsError())
+
+
+def _save_marks(given: Namespace, sheets: dict[str, Marked], filed: FiledTable, marks: list[Mark]):
+    """marks.csv, and the page of the class."""
+    sources = given.filed, *(os.path.join(given.folder, name) for name in sheets)
+    if given.output:
+        text = marking.marks_csv(marks, filed.semicolon)
+        _save(given.output, text.encode("utf-8", "surrogateescape"), given.force, *sources)  # names as the folder's
+    if given.page:
+        from evp.pages.classes import page_class
+        html = page_class(sheets, filed.filings, marks, hints=given.hints)
+        _save(given.page, html.encode(), given.force, *sources)
+
+
+def _on_one_screen(summary: Iterable[str], remarks: list[str]) -> list[str]:
+    hints = limited(remarks, "such lines; the notes of the marks have all", MOST_HINTS)
+    return [*limited(summary, "sheets to look at", MOST_LINES - len(hints)), *hints]
+
+
+def _files_made(given: Namespace, marks: list[Mark]) -> Iterator[str]:
+    yield "%s: %s" % (name_shown(given.output), counted(len(marks), "line")) if given.output else (
+        "-o FILE keeps the marks of all figures")
+    if given.page:
+        yield "%s: the page of the class" % name_shown(given.page)
 
 
 def compare(given: Namespace) -> int:
@@ -281,7 +332,7 @@ def cells(given: Namespace) -> int:
     travels = read_travel(given.travel, len(report.rows))
     text = cells_csv(cells_of(library, report, travels))
     if given.output:
-        write_file(given.output, text.encode(), given.force)
+        _save(given.output, text.encode(), given.force, given.sheet, given.travel)
     else:
         print(text, end="")
     return FINE
@@ -295,7 +346,7 @@ def pool(given: Namespace) -> int:
         pooled = library.pool(first, second)
     except Refusal as refusal:
         raise SheetRefused(pool_refusal(library, refusal, names, (first, second))) from None
-    write_file(given.output, pooled, given.force)
+    _save(given.output, pooled, given.force, *names)
     if given.output != "-":
         print("%s: %d bytes, %s" % (name_shown(given.output), len(pooled), explain(library, pooled).line))
     return FINE

@@ -185,7 +185,8 @@ def looks_like(data: bytes) -> str:
     if data.startswith(b"EVP"):
         return ""
     if not data.strip(b"\0"):
-        return "all its bytes are 0: take the sheet again"
+        all_bytes = "all its bytes" if len(data) <= SHEET_BYTES else "its first %s bytes" % apart(len(data))
+        return "%s are 0: take the sheet again" % all_bytes
     if data.startswith(b"PK\3\4"):
         return "this looks like a workbook: save its tables as csv, then evp write makes a sheet of them"
     try:

@@ -1,5 +1,6 @@
 """Files that are read and written, with messages for who named them."""
 
+import hashlib
 import os
 import sys
 from pathlib import Path
@@ -15,6 +16,14 @@ class InputError(Exception):
     """What was named cannot be read or written, or is not understood."""
 
 
+class FileError(InputError):
+    """A file that cannot be read or written, and why."""
+
+    def __init__(self, name: str | os.PathLike, reason: str):
+        super().__init__("%s: %s" % (name_shown(name), reason))
+        self.reason = reason
+
+
 def _reason(error: OSError) -> str:
     reasons = {
         FileNotFoundError: "there is no such file", IsADirectoryError: "this is a folder, and a file is wanted",
@@ -24,12 +33,14 @@ def _reason(error: OSError) -> str:
     return reasons.get(type(error), error.strerror or str(error))
 
 
-def failed(name: str | os.PathLike, error: OSError) -> InputError:
-    return InputError("%s: %s" % (name_shown(name), _reason(error)))
+def failed(name: str | os.PathLike, error: OSError) -> FileError:
+    return FileError(name, _reason(error))
 
 
 def read_some(name: str | os.PathLike, most: int) -> bytes:
     """The first bytes of a file, or of standard input for `-`: one more than `most` where there are more."""
+    if name == "-" and sys.stdin is None:
+        raise FileError(name, "it is closed")
     try:
         if name == "-":
             return sys.stdin.buffer.read(most + 1)
@@ -38,12 +49,26 @@ def read_some(name: str | os.PathLike, most: int) -> bytes:
     except OSError as error:
         raise failed(name, error) from None
     except ValueError:  # a zero byte in the name
-        raise InputError("%s: this is no name of a file" % name_shown(name)) from None
+        raise FileError(name, "this is no name of a file") from None
 
 
 def read_sheet(name: str | os.PathLike) -> bytes:
     """The bytes of a sheet; no more than tell that it is too long."""
     return read_some(name, SHEET_BYTES)
+
+
+def digest_of(name: str | os.PathLike, data: bytes) -> str:
+    """The SHA-256 of a sheet: of the bytes that were read, or of the whole file where it has more than a sheet."""
+    if len(data) <= SHEET_BYTES:
+        return hashlib.sha256(data).hexdigest()
+    found = hashlib.sha256()
+    try:
+        with open(name, "rb") as file:
+            while part := file.read(1 << 20):
+                found.update(part)
+    except OSError as error:
+        raise failed(name, error) from None
+    return found.hexdigest()
 
 
 def read_text(name: str | os.PathLike) -> str:
@@ -63,6 +88,8 @@ def text_of(data: bytes, shown: str) -> str:
     if not data.strip():
         raise InputError("%s: the file is empty" % shown)
     zero = data.find(0)
+    if zero >= 0 and _every_second(data[:64]):
+        raise InputError("%s: this looks like UTF-16; %s" % (shown, SAVE))
     if zero >= 0:
         raise InputError("%s: this is no text: byte %d is 0" % (shown, zero))
     if len(data) > TEXT_BYTES:
@@ -75,18 +102,30 @@ def text_of(data: bytes, shown: str) -> str:
             shown, line, error.start, data[error.start], SAVE)) from None
 
 
+def _every_second(data: bytes) -> bool:
+    """Whether every second byte is 0 and no other, as in a text of plain letters in UTF-16."""
+    halves = data[0::2], data[1::2]
+    return any(not any(one) and other and all(other) for one, other in (halves, halves[::-1]))
+
+
 def write_file(name: str | os.PathLike, data: bytes, force: bool = False):
-    """Writes a file, or standard output for `-`; over one that is there only by force."""
+    """Writes a file, or standard output for `-`; over one that is there only by force. A new file that cannot be
+    finished is taken away again."""
+    if name == "-":
+        sys.stdout.buffer.write(data)
+        sys.stdout.buffer.flush()
+        return
+    begun = False
     try:
-        if name == "-":
-            sys.stdout.buffer.write(data)
-            return
         with open(name, "wb" if force else "xb") as file:
+            begun = not force
             file.write(data)
     except FileNotFoundError:
-        raise InputError("%s: there is no such folder" % name_shown(name)) from None
+        raise FileError(name, "there is no such folder") from None
     except OSError as error:
-        raise failed(name, error) from None
+        if begun:
+            Path(name).unlink(missing_ok=True)
+        raise failed(name, IsADirectoryError() if os.path.isdir(name) else error) from None
 
 
 def make_folder(name: str | os.PathLike) -> Path:

@@ -4,16 +4,17 @@ import hashlib
 import re
 from collections import Counter
 from collections.abc import Callable, Iterable, Iterator
+from fractions import Fraction
 from functools import cache
 from pathlib import Path
 from typing import NamedTuple
 
 from evp.explain import explain
 from evp.figures import TOTAL, Figure, bands
-from evp.files import InputError, failed, read_sheet, read_text
+from evp.files import FileError, InputError, digest_of, failed, read_sheet, read_text
 from evp.layout import row_count
 from evp.library import GROUPS, MECHANISMS, Band, Filed, Library, Outcome, Refusal
-from evp.masses import UNITS, shown
+from evp.masses import POWERS, UNITS, shown
 from evp.sheet.words import TextError
 from evp.tables import Line, Table, read_table, table_text
 from evp.wording import apart, counted, name_shown, quoted
@@ -23,10 +24,7 @@ MOST_WORD = 2 ** 64 - 1
 FINE = ("agrees", "fits")
 # The first five as the library counts them.
 VERDICTS = ("agrees", "fits", "low", "high", "unreadable", "refused", "absent", "missing")
-NOTES = {
-    Outcome.FITS: "the band does not settle it: it reaches over a rounding edge",
-    Outcome.UNREADABLE: "10^18 mg or more, or a last place below 10^-6 mg",
-}
+SETTLES_NOTHING = "the band does not settle it: it reaches over a rounding edge"
 MASSES = {point: re.compile("([0-9]+)(?:%s([0-9]+))?" % re.escape(point)) for point in ".,"}  # by the decimal sign
 
 
@@ -100,7 +98,7 @@ def _figure(row: str, mechanism: str) -> Figure:
     if row == TOTAL:
         if mechanism:
             raise TextError("mechanism: %s beside total, which has none" % quoted(mechanism))
-    elif row not in GROUPS and not re.fullmatch("[1-9][0-9]{0,5}", row):
+    elif row not in GROUPS and not re.fullmatch("[1-9][0-9]{0,17}", row):
         raise TextError("row: %s is no row; write a number from 1, %s or %s" % (quoted(row), ", ".join(GROUPS), TOTAL))
     elif mechanism not in MECHANISMS:
         raise TextError("mechanism: %s is none of %s" % (quoted(mechanism), ", ".join(MECHANISMS)))
@@ -120,7 +118,7 @@ def _filed(mass: str, unit: str, table: Table) -> Filed:
     if unit not in UNITS:
         raise TextError("unit: %s is none of %s" % (quoted(unit), ", ".join(UNITS)))
     digits, places = (form[1] + (form[2] or "")).lstrip("0"), len(form[2] or "")
-    # more than 64 bits are 10^18 mg or more in any unit, or have a place that is not read
+    # of more than 18 digits the library reads none, so that those beyond 64 bits may share one number
     value = int(digits or "0") if len(digits) <= 19 else MOST_WORD
     return Filed(min(value, MOST_WORD), places, UNITS[unit])
 
@@ -129,19 +127,29 @@ def _filed(mass: str, unit: str, table: Table) -> Filed:
 
 
 class Marked(NamedTuple):
-    """A sheet of the folder: its digest, and its bands or why it has none."""
+    """A sheet of the folder: its digest, and its bands or why it has none: it is refused, or it cannot be read."""
     data: bytes
     digest: str
     bands: dict[Figure, Band]
     refusal: str = ""
+    unread: str = ""
 
 
-def marked(library: Library, data: bytes) -> Marked:
-    digest = hashlib.sha256(data).hexdigest()
+def marked(library: Library, data: bytes, digest: str = "") -> Marked:
+    """A sheet by its bytes; `digest` where they are not all that its file has."""
+    digest = digest or hashlib.sha256(data).hexdigest()
     try:
         return Marked(data, digest, bands(library.report(data)))
     except Refusal:
         return Marked(data, digest, {}, explain(library, data).line)
+
+
+def _marked_file(library: Library, path: Path) -> Marked:
+    try:
+        data = read_sheet(path)
+        return marked(library, data, digest_of(path, data))
+    except FileError as error:  # the others are marked all the same
+        return Marked(b"", "", {}, unread=error.reason)
 
 
 def sheets_of(folder: str | Path) -> list[Path]:
@@ -160,7 +168,7 @@ def read_sheets(library: Library, folder: str | Path, progress: Callable[[int, i
     paths, found = sheets_of(folder), {}
     for i, path in enumerate(paths):
         progress(i, len(paths))
-        found[path.name] = marked(library, read_sheet(path))
+        found[path.name] = _marked_file(library, path)
     progress(len(paths), len(paths))
     return found
 
@@ -185,6 +193,8 @@ def _mark(library: Library, sheets: dict[str, Marked], filing: Filing) -> Mark:
     sheet = sheets.get(filing.sheet)
     if sheet is None:
         return Mark(*filed, "absent", note=_no_sheet(filing.sheet, sheets))
+    if sheet.unread:
+        return Mark(*filed, "unreadable", note=sheet.unread)
     if sheet.refusal:
         return Mark(*filed, "refused", note=sheet.refusal, sha256=sheet.digest)
     band = sheet.bands.get(filing.figure)
@@ -193,13 +203,28 @@ def _mark(library: Library, sheets: dict[str, Marked], filing: Filing) -> Mark:
         return Mark(*filed, "absent", note=note, sha256=sheet.digest)
     outcome, off = library.mark(filing.filed, band)
     wrong = outcome in (Outcome.LOW, Outcome.HIGH)
-    note = "the mass is %s" % shown(band, filing.unit) if wrong else NOTES.get(outcome, "")
-    return Mark(*filed, VERDICTS[outcome], band.low, band.high, off if wrong else "", note, sheet.digest)
+    return Mark(*filed, VERDICTS[outcome], band.low, band.high, off if wrong else "", _note(outcome, filing, band),
+                sheet.digest)
+
+
+def _note(outcome: Outcome, filing: Filing, band: Band) -> str:
+    if outcome == Outcome.UNREADABLE:
+        return _beyond(filing)
+    return {Outcome.AGREES: "", Outcome.FITS: SETTLES_NOTHING}.get(
+        outcome, "the mass is %s" % shown(band, filing.unit))
+
+
+def _beyond(filing: Filing) -> str:
+    """What of a figure is beyond those that the library reads."""
+    power = POWERS[filing.unit] - filing.filed.places
+    if power < -6:
+        return "a last place below 10^-6 mg"
+    return "10^18 mg or more" if filing.filed.digits * Fraction(10) ** power >= 10 ** 18 else "more than 18 digits"
 
 
 def _no_sheet(name: str, sheets: dict[str, Marked]) -> str:
     if name + ".evp" in sheets:
-        return "there is no such sheet; %s is there" % (name + ".evp")
+        return "there is no such sheet; %s is there" % name_shown(name + ".evp")
     return "there is no such sheet in the folder"
 
 
@@ -224,7 +249,7 @@ def _sheet_summary(marks: list[Mark]) -> str:
     first = marks[0]
     if first.verdict in ("refused", "missing"):
         return first.note
-    if first.verdict == "absent" and not first.sha256:
+    if first.verdict in ("absent", "unreadable") and not first.sha256:  # no such sheet, or none that can be read
         return "%s filed, and %s" % (counted(len(marks), "figure"), first.note)
     words = _verdicts(Counter(mark.verdict for mark in marks))
     filed = Figure(first.row, first.mechanism).name

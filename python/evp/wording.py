@@ -18,8 +18,15 @@ def quoted(word: str) -> str:
     return repr(word if len(word) <= 40 else word[:40] + "…")
 
 
-def name_shown(name: str | os.PathLike) -> str:
-    """A file's name for a message, likewise."""
-    word = "standard input" if name == "-" else os.fspath(name)
-    shown = "".join(sign if sign.isprintable() else "?" for sign in word)
-    return shown if len(shown) <= 200 else "…" + shown[-199:]
+MOST_SHOWN = 200  # signs of a name or of what was called, in a message
+
+
+def printable(word: str) -> str:
+    """A word without what a terminal would obey."""
+    return "".join(sign if sign.isprintable() else "?" for sign in word)
+
+
+def name_shown(name: str | os.PathLike, dash: str = "standard input") -> str:
+    """A file's name for a message, likewise; `dash` is what - stands for."""
+    shown = printable(dash if name == "-" else os.fspath(name)) or "''"
+    return shown if len(shown) <= MOST_SHOWN else "…" + shown[1 - MOST_SHOWN:]

@@ -2,6 +2,7 @@
 
 import contextlib
 import io
+import subprocess
 import sys
 import tempfile
 import unittest
@@ -71,6 +72,26 @@ def _run(words, out, err, given: bytes = b"") -> int:
         return error.code
     finally:
         sys.stdin = stdin
+
+
+# The modules and codecs are loaded before, since the other user may not be allowed to read them.
+WITHOUT_RIGHTS = """
+import codecs, contextlib, io, os, sys
+sys.path.insert(0, sys.argv.pop(1))
+from evp.cli import main
+with contextlib.redirect_stdout(io.StringIO()):
+    main(["check", os.devnull])
+codecs.lookup("utf-8-sig")
+os.getuid() or os.setuid(65534)
+sys.exit(main())
+"""
+
+
+def run_without_rights(*words: object) -> Run:
+    """A command as a user who has no right to what is closed: the superuser, who has, becomes another one."""
+    found = subprocess.run([sys.executable, "-I", "-c", WITHOUT_RIGHTS, TOP / "python", *words], capture_output=True,
+                           text=True, env={"EVP_LIBRARY": str(library.find())})
+    return Run(found.returncode, found.stdout, found.stderr)
 
 
 def sample(name: str) -> bytes:

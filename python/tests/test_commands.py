@@ -74,6 +74,15 @@ class ConvertTest(DeskTestCase):
         path = self.put("a.evp", sample("region"))
         self.assertEqual(run("convert", path, "--to", 2).status, 0)
         self.assertTrue((self.folder / "a-version-2.evp").exists())
+        self.assertEqual(run("convert", "-", "--to", 2, given=sample("region")), (
+            2, "", "evp: standard input has no name: -o SHEET names the sheet\n"))
+
+    def test_own_sheet(self):
+        path = self.put("a.evp", sample("region"))
+        found = run("convert", path, "--to", 2, "-o", path, "--force")
+        self.assertEqual((found.status, found.err), (
+            2, "evp: %s: this would overwrite what it is made from; -o names another file\n" % path))
+        self.assertEqual(path.read_bytes(), sample("region"))
 
     def test_earlier(self):
         found = run("convert", SAMPLES / "odometer.evp", "--to", 3)
@@ -148,6 +157,8 @@ class CellsTest(DeskTestCase):
         target = self.folder / "cells.csv"
         self.assertEqual(run("cells", SAMPLES / "survey.evp", "--travel", travel, "-o", target), (0, "", ""))
         self.assertTrue(target.exists())
+        found = run("cells", SAMPLES / "survey.evp", "--travel", travel, "-o", travel, "--force")
+        self.assertIn("this would overwrite what it is made from", found.err)
 
     def test_mistakes(self):
         for lines, said in (
@@ -169,6 +180,8 @@ class PoolTest(DeskTestCase):
         self.assertEqual(run("pool", first, second, "-o", target), (
             0, "%s: 1272 bytes, accepted: version 4, 2 seasons, 4 rows\n" % target, ""))
         self.assertEqual(run("pool", first, second, "-o", target).status, 2)
+        self.assertIn("this would overwrite what it is made from",
+                      run("pool", first, second, "-o", second, "--force").err)
 
     def test_refused(self):
         first, target = self.put_sheet("a.evp", GRID_TEXT + "version 4"), self.folder / "c.evp"

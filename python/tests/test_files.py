@@ -3,13 +3,17 @@
 import json
 import os
 import random
+import shutil
+import signal
 import subprocess
 import sys
+import tempfile
 import threading
 import unittest
+from pathlib import Path
 from unittest import mock
 
-from support import TEXT, TOP, DeskTestCase, run, sample
+from support import TEXT, TOP, DeskTestCase, run, run_without_rights, sample
 
 from evp import library, sheet
 from evp.masses import shown
@@ -31,7 +35,10 @@ class BadFilesTest(DeskTestCase):
     def test_300_megabytes_of_zeros(self):
         path = self.put("zeros.evp", b"")
         os.truncate(path, 300_000_000)
-        self.assert_each(path, "all its bytes are 0", "this is no text: byte 0 is 0", status=(1, 2))
+        self.assert_each(path, "its first 25,257 bytes are 0", "this is no text: byte 0 is 0",
+                         "this is no sheet; it has more than 25,256 bytes", status=(1, 2))
+        os.truncate(path, 20_000)
+        self.assertIn("all its bytes are 0", run("check", path).out)
 
     def test_300_megabytes_behind_a_sheet(self):
         path = self.put("long.evp", sample("example"))
@@ -95,18 +102,22 @@ class BadFilesTest(DeskTestCase):
                          "standard input: accepted: version 1, 4 seasons, 24 rows\n")
 
     def test_no_right(self):
-        """As a user who is not the owner; only the superuser can become one."""
-        if os.getuid() != 0:
-            self.skipTest("only the superuser can become another user")
+        """Files and folders that are closed to who calls."""
         os.chmod(self.folder, 0o755)
-        path = self.put("secret.evp", sample("region"))
-        os.chmod(path, 0)
-        # once before, since the other user may not be allowed to read the modules
-        code = ("import os, sys; sys.path.insert(0, sys.argv.pop(1)); from evp.cli import main; "
-                "main(['check', '/dev/null']); os.setuid(65534); sys.exit(main())")
-        found = subprocess.run([sys.executable, "-I", "-c", code, TOP / "python", "check", path], capture_output=True,
-                               text=True, env={"EVP_LIBRARY": str(library.find())})
-        self.assertEqual((found.returncode, found.stderr), (2, "evp: %s: you have no right to it\n" % path))
+        path, text = self.put("secret.evp", sample("region")), self.put("a.txt", TEXT)
+        locked = self.put("locked/seasons.csv", "days\n").parent
+        for closed in (path, locked):
+            os.chmod(closed, 0)
+            self.addCleanup(os.chmod, closed, 0o755)
+        for name, *words in (
+            (path, "check", path), (path, "show", path), (path, "read", path), (path, "write", path),
+            (path, "compare", path, path), (locked / "grid.csv", "write", locked),
+            (path, "mark", locked, "--filed", path, "-o", "-"),
+            (locked / "a.evp", "write", text, "-o", locked / "a.evp"),
+            (locked / "seasons.csv", "template", locked), (locked / "below", "template", locked / "below"),
+        ):
+            with self.subTest(words=words):
+                self.assertEqual(run_without_rights(*words), (2, "", "evp: %s: you have no right to it\n" % name))
 
     def test_strange_name(self):
         found = run("check", self.put("a\x1b[2J\nb.evp", b"x"))
@@ -116,25 +127,31 @@ class BadFilesTest(DeskTestCase):
     def test_target(self):
         """A target that cannot be written."""
         source = self.put("a.txt", TEXT)
-        for target, said in ((self.folder, "there is such a file already"),
-                             (self.folder / "none" / "a.evp", "there is no such folder")):
-            found = run("write", source, "-o", target)
-            self.assert_plain(found, 2)
-            self.assertIn(said, found.err)
-        self.assertIn("this is a folder", run("write", source, "-o", self.folder, "--force").err)
+        for target, said in ((self.folder, "this is a folder, and a file is wanted"),
+                             (self.folder / "none" / "a.evp", "there is no such folder"),
+                             (source / "a.evp", "a part of its path is a file, not a folder")):
+            for force in ((), ("--force",)):
+                found = run("write", source, "-o", target, *force)
+                self.assert_plain(found, 2)
+                self.assertEqual(found.err, "evp: %s: %s\n" % (target, said))
         self.assertIn("a folder is wanted", run("template", source).err)
 
     def test_command_line(self):
         for words in ((), ("check",), ("convert", "a.evp"), ("convert", "a.evp", "--to", "5"),
-                      ("show", "a", "--unit", "lb")):
+                      ("show", "a", "--unit", "lb"), ("show", "a", "--unit", "x" * 9999), ("check", "--" + "\x1b[2J"),
+                      ("show", "a", "\x1b[2J" * 999), ("\x1b[2J" * 999,), ("--\n" * 99,)):
             found = run(*words)
             self.assert_plain(found, 2)
-            self.assertIn("--help says ", found.err)
+            self.assertRegex(found.err, "--help (says|lists) ")
+            self.assertNotIn("\x1b", found.err)
+            self.assertLess(len(found.err), 600)
         for words, said in (
             ((), "a command is wanted: check, explain, show, convert, write, read, template, mark, "),
             (("chek", "a.evp"), "there is no command 'chek'; did you mean evp check?"),
             (("nothing",), "there is no command 'nothing'; evp --help lists them"),
             (("convert", "a.evp"), "the following arguments are required: --to; evp convert --help says more"),
+            (("convert", "a.evp", "--to", "\u0663"),
+             "argument --to: '\u0663' is none of 2, 3, 4; evp convert --help says more"),
         ):
             self.assertIn("evp: %s" % said, run(*words).err)
 
@@ -156,7 +173,6 @@ class BadFilesTest(DeskTestCase):
         self.assertEqual(found.status, 2)
         self.assertIn("this is a fault of evp itself: ZeroDivisionError", found.err)
         self.assertNotIn("Traceback", found.err)
-
 
     def test_name_that_is_no_text(self):
         """A name that is no UTF-8, on the command line and in a folder."""
@@ -199,6 +215,9 @@ class DesignTableTest(DeskTestCase):
         self.assertEqual(self.said(b""), "evp: a.txt: the file is empty")
         self.assertEqual(self.said(None, "none.txt"), "evp: none.txt: there is no such file")
         self.assertEqual(self.said(bytes(10) + draw.randbytes(2_000_000)), "evp: a.txt: this is no text: byte 0 is 0")
+        for name in ("utf-16-le", "utf-16-be"):
+            self.assertEqual(self.said(TEXT.encode(name)),
+                             'evp: a.txt: this looks like UTF-16; save it as UTF-8, in Excel as "CSV UTF-8"')
         binary = self.said(bytes(draw.randrange(128, 256) for _ in range(2_000_000)))
         self.assertRegex(binary, r"^evp: a.txt: line 1: byte \d+ \([0-9a-f]{2} hexadecimal\) is no UTF-8; save it as")
 
@@ -262,6 +281,48 @@ class StartTest(unittest.TestCase):
         line = "'%s' show samples/districts.evp | head -1" % (TOP / "evp")
         found = subprocess.run(line, shell=True, capture_output=True, text=True, cwd=TOP)
         self.assertEqual(found.stderr, "")
+
+    def in_shell(self, line: str) -> tuple[int, str, str]:
+        """A line of a shell, in which evp is the command."""
+        plain = {name: word for name, word in os.environ.items() if not name.startswith("PYTHON")}
+        found = subprocess.run(line.replace("evp ", "'%s' " % (TOP / "evp"), 1), shell=True, capture_output=True,
+                               text=True, cwd=TOP, env=plain)  # as who calls has it: output is kept back
+        return found.returncode, found.stdout, found.stderr
+
+    def test_streams_that_are_closed_or_full(self):
+        """What cannot be printed is said, and ends with 2; a closed standard error changes no status."""
+        for line, said in (
+            ("evp show samples/region.evp >/dev/full", "standard output: No space left on device"),
+            ("evp read samples/region.evp >/dev/full", "standard output: No space left on device"),
+            ("evp convert samples/region.evp --to 4 -o - >/dev/full", "standard output: No space left on device"),
+            ("evp --help >/dev/full", "standard output: No space left on device"),
+            ("evp check samples/region.evp >&-", "standard output: it is closed"),
+            ("evp check - <&-", "standard input: it is closed"),
+        ):
+            self.assertEqual(self.in_shell(line), (2, "", "evp: %s\n" % said), line)
+        for stream in ("2>&-", "2>/dev/full"):
+            self.assertEqual(self.in_shell("evp check none.evp " + stream), (2, "", ""))
+            self.assertEqual(self.in_shell("evp show samples/course/heath.evp " + stream), (1, "", ""))
+
+    def interrupted(self, command: list, pipe: Path) -> tuple[int, str]:
+        """What a command says and ends with that gets Ctrl-C as soon as it reads a pipe."""
+        with subprocess.Popen(command, stderr=subprocess.PIPE, text=True,
+                              preexec_fn=lambda: signal.signal(signal.SIGINT, signal.SIG_DFL)) as process:
+            with open(pipe, "wb"):  # waits until it reads
+                process.send_signal(signal.SIGINT)
+                return process.wait(20), process.stderr.read()
+
+    def test_interrupt(self):
+        """Ctrl-C, while a command waits and while evp starts: a line and status 2."""
+        with tempfile.TemporaryDirectory() as folder:
+            pipe = Path(folder) / "pipe"
+            os.mkfifo(pipe)
+            self.assertEqual(self.interrupted([TOP / "evp", "check", pipe], pipe), (2, "evp: stopped\n"))
+            copy = Path(folder) / "evp"
+            shutil.copy(TOP / "evp", copy)
+            (Path(folder) / "python" / "evp").mkdir(parents=True)
+            (Path(folder) / "python" / "evp" / "cli.py").write_text("open(%r).read()\n" % str(pipe))
+            self.assertEqual(self.interrupted([copy], pipe), (2, "evp: stopped\n"))
 
     def test_a_terminal_without_signs(self):
         changed = {**os.environ, "PYTHONIOENCODING": "ascii"}

@@ -1,19 +1,24 @@
 """Marks: thirty sheets against stored marks, filed.csv and its mistakes, and guesses."""
 
 import csv
+import hashlib
 import json
+import os
+import resource
 import shutil
-import time
+import subprocess
 import unittest
 from fractions import Fraction
+from importlib.util import find_spec
 from unittest import mock
 
-from support import LIBRARY, SAMPLES, TEXT, DeskTestCase, run, sample
+import make_course
+from support import LIBRARY, SAMPLES, TEXT, TOP, DeskTestCase, run, run_without_rights, sample
 
 from evp import hints, layout, marking, sheet
 from evp.figures import Figure, bands
-from evp.library import Band, Filed, Unit
-from evp.masses import exact, shown
+from evp.library import SHEET_BYTES, Band, Filed, Unit
+from evp.masses import shown
 from evp.tables import table_text
 from tools import reckoning
 
@@ -30,6 +35,27 @@ class CourseTest(DeskTestCase):
         found = run("mark", COURSE, "--filed", COURSE / "filed.csv", "-o", self.folder / "marks.csv", "--hints")
         self.assertIn("\n8 more sheets to look at\n", found.out)
         self.assertEqual(len(found.out.splitlines()), 21)  # and the line of the file
+
+    def test_made(self):
+        """The sheets and what was filed are what make_course.py makes."""
+        for name, data in make_course.files().items():
+            self.assertEqual((COURSE / name).read_bytes(), data, name)
+
+    def test_page(self):
+        """--page makes the page of the class beside the marks."""
+        page, marks = self.folder / "class.html", self.folder / "marks.csv"
+        words = ("mark", COURSE, "--filed", COURSE / "filed.csv", "-o", marks, "--page", page)
+        if find_spec("jinja2") is None:
+            self.assertIn("pages need jinja2", run(*words).err)
+            return
+        found = run(*words)
+        self.assertEqual(found.out.splitlines()[-2:],
+                         ["%s: 437 lines" % marks, "%s: the page of the class" % page])
+        self.assertIn("harbour", page.read_text(encoding="utf-8"))
+        marks.unlink()
+        found = run(*words)
+        self.assertEqual((found.status, found.err, marks.exists()), (
+            2, "evp: %s: there is such a file already; --force writes over it\n" % page, False))
 
     def test_stored_marks(self):
         target = self.folder / "marks.csv"
@@ -193,6 +219,16 @@ class FiledTest(DeskTestCase):
             ("a.evp,1,,2,t", "mechanism: '' is none of diurnal, soak, running"),
             ("a.evp,0,soak,2,t", "row: '0' is no row; write a number from 1, cars, light, two, all or total"),
             ("a.evp,car,soak,2,t", "row: 'car' is no row; write a number from 1, cars, light, two, all or total"),
+            ("a.evp,007,soak,2,t", "row: '007' is no row; write a number from 1, cars, light, two, all or total"),
+            ("a.evp,1.0,soak,2,t", "row: '1.0' is no row; write a number from 1, cars, light, two, all or total"),
+            ("a.evp,\uff11,soak,2,t",
+             "row: '\uff11' is no row; write a number from 1, cars, light, two, all or total"),
+            ("a.evp,total,,\uff12,t", "mass: '\uff12' is no mass; write digits and at most one decimal sign"),
+            ("a.evp,total,,2 834,t", "mass: '2 834' is no mass; write digits and at most one decimal sign"),
+            ("a.evp,total,,\x1b[2J,t", "mass: '\\x1b[2J' is no mass; write digits and at most one decimal sign"),
+            ("a.evp;total;;2,834;t", "its cells are parted by ;, and the columns of the header by ,"),
+            ('a.evp,total,,"2.834,t', "a quotation mark opens a cell, and none closes it"),
+            ("a.evp,1,soak,2,834,t", "6 cells, and the header has 5 columns; the decimal sign is a point here"),
             (",1,soak,2,t", "sheet: the name of the sheet is missing"),
         ):
             with self.subTest(said):
@@ -204,6 +240,40 @@ class FiledTest(DeskTestCase):
         self.assertEqual(self.mark("", HEADER.replace(",", "\t")).err,
                          "evp: %s: the columns are parted by tabs; save it with , or ; between them\n" % (
                              self.folder / "filed.csv"))
+
+    def test_a_quotation_mark_loses_no_line(self):
+        """One that opens a note and is not closed would take the lines behind it along."""
+        found = self.mark('a.evp,1,soak,2,t,"he said\na.evp,2,soak,2,t,\n', HEADER.strip() + ",note\n")
+        self.assertEqual((found.status, found.err), (
+            2, "evp: %s: line 2: a quotation mark opens a cell, and none closes it\n" % (self.folder / "filed.csv")))
+
+    def test_names(self):
+        """A sheet may start with #, and none makes a terminal do anything."""
+        for name in ("#1.evp", "\x1b[2J.evp"):
+            self.put_sheet(name, TEXT)
+        found = self.mark("#1.evp,1,soak,2,t\n\x1b[2J,1,soak,2,t\n\x1b[2J.evp,1,soak,2,t\n")
+        self.assertNotIn("\x1b", found.out)
+        self.assertIn("  ?[2J: 1 figure filed, and there is no such sheet; ?[2J.evp is there\n", found.out)
+        self.assertEqual(self.marks("#1.evp,1,soak,2,t\n"), ["low", "missing", "missing"])
+
+    def test_sheets_that_cannot_be_read(self):
+        """They are told, and the others are marked all the same."""
+        self.put_sheet("a.evp", TEXT)
+        os.chmod(self.folder, 0o755)
+        os.chmod(self.put_sheet("b.evp", TEXT), 0)
+        filed = self.put("filed.csv", HEADER + "a.evp,1,soak,2,t\nb.evp,1,soak,2,t\n")
+        found = run_without_rights("mark", self.folder, "--filed", filed, "-o", "-")
+        self.assertEqual([line.split(",")[5] for line in found.out.splitlines()], ["verdict", "low", "unreadable"])
+        self.assertIn("b.evp,1,soak,2,t,unreadable,,,,you have no right to it,\n", found.out)
+        self.assertEqual((found.status, found.err), (2, "evp: %s: you have no right to it\n" % (self.folder / "b.evp")))
+
+    def test_digest_of_a_long_file(self):
+        """It is that of the whole file, though no more than a sheet is looked at."""
+        data = sample("example") + bytes(3 * SHEET_BYTES) + b"end"
+        self.put("a.evp", data)
+        filed = self.put("filed.csv", HEADER + "a.evp,1,soak,2,t\n")
+        mark, = json.loads(run("mark", self.folder, "--filed", filed, "--json").out)
+        self.assertEqual((mark["verdict"], mark["sha256"]), ("refused", hashlib.sha256(data).hexdigest()))
 
     def test_twice(self):
         found = self.mark("a.evp,1,soak,2,t\nb.evp,1,soak,2,t\na.evp,1,soak,3,kg\n")
@@ -226,8 +296,12 @@ class FiledTest(DeskTestCase):
         total = LIBRARY.report(sheet.write(TEXT)).total
         self.assertEqual(self.marks("".join("a.evp,%s\n" % line for line in (
             "total,,%d,mg" % total.low, "1,diurnal,0,mg", "2,soak,99999999,t", "7,soak,1,t",
-            "all,soak,%s,kg" % ("9" * 40),
-            "cars,diurnal,1.%s,kg" % ("0" * 50)))), ["fits", "low", "high", "absent", "unreadable", "unreadable"])
+            "9%s,soak,1,t" % ("0" * 17),
+            "all,soak,%s,kg" % ("9" * 40), "all,running,1234.567890123456789,t",  # 19 digits
+            "cars,diurnal,1.%s,kg" % ("0" * 50)))), ["fits", "low", "high"] + ["absent"] * 2 + ["unreadable"] * 3)
+        marks = (self.folder / "m.csv").read_text()
+        for beyond in ("10^18 mg or more", "more than 18 digits", "a last place below 10^-6 mg"):
+            self.assertEqual(marks.count(",,%s," % beyond), 1)
         self.assertEqual(self.marks("b.evp,total,,1,t\n../a.evp,total,,1,t\na,total,,1,t\n"),
                          ["absent"] * 3 + ["missing"])
         self.assertIn("a.evp is there", (self.folder / "m.csv").read_text())
@@ -248,11 +322,22 @@ class FiledTest(DeskTestCase):
             ((self.folder, "--filed", filed, "-o", self.folder / "x"),
              "no sheet, that is no file whose name ends with .evp"),
             ((self.folder, "--filed", self.folder / "none.csv", "-o", "x"), "there is no such file"),
-            ((self.folder, "--filed", filed), "-o FILE names the file for the marks"),
+            ((SAMPLES, "--filed", filed, "-o", "-", "--json"), "two of -o, --json and --page would share standard"),
+            ((SAMPLES, "--filed", filed, "-o", filed), "there is such a file already"),
+            ((SAMPLES, "--filed", filed, "-o", filed, "--force"), "this would overwrite what it is made from"),
+            ((SAMPLES, "--filed", filed, "-o", SAMPLES / "region.evp", "--force"), "this would overwrite what it is"),
         ):
             found = run("mark", *words)
             self.assert_plain(found, 2)
             self.assertIn(said, found.err)
+
+    def test_a_look(self):
+        """Without -o there is the summary alone."""
+        found = self.mark("a.evp,1,soak,2,t\n")
+        filed = self.folder / "filed.csv"
+        look = run("mark", self.folder, "--filed", filed)
+        self.assertEqual((look.status, look.out.splitlines()), (
+            1, [*found.out.splitlines()[:-1], "-o FILE keeps the marks of all figures"]))
 
     def test_large_digits(self):
         table = marking.Table(",", [], [])
@@ -261,24 +346,27 @@ class FiledTest(DeskTestCase):
 
 
 class SpeedTest(DeskTestCase):
-    """Thirty sheets of 300 rows."""
+    """Thirty sheets of 300 rows, with a figure filed for each of their masses: the command itself, its start
+    included, takes less than two seconds of processor time."""
 
     def test_thirty_sheets(self):
         data, lines = sample("districts"), []
-        vehicles = [layout.row_place(data, i) + 8 for i in range(layout.row_count(data))]
+        self.assertEqual(layout.row_count(data), 300)
+        vehicles = [layout.row_place(data, i) + 8 for i in range(300)]
         for k in range(30):
             changed = bytearray(data)
             for at in vehicles:
                 count = layout.number_at(data, at, 4) * (60 + k) // 100
                 changed[at:at + 4] = count.to_bytes(4, "little")
-            self.put("%d.evp" % k, bytes(changed))
-            lines += [("%d.evp" % k, *figure, exact(5 * 10 ** 9, "t"), "t") for figure in
-                      (Figure(str(row), "soak") for row in range(1, 301))]
+            name = self.put("%d.evp" % k, bytes(changed)).name
+            lines += [(name, *figure, band.low, "mg") for figure, band in bands(LIBRARY.report(bytes(changed))).items()]
         filed = self.put("filed.csv", table_text(HEADER.strip().split(","), lines))
-        start = time.process_time()
-        found = run("mark", self.folder, "--filed", filed, "-o", self.folder / "m.csv")
-        self.assertLess(time.process_time() - start, 2)
-        self.assertTrue(found.out.startswith("30 sheets, 9,000 figures: "), found.out)
+        before = resource.getrusage(resource.RUSAGE_CHILDREN)
+        found = subprocess.run([TOP / "evp", "mark", self.folder, "--filed", filed, "-o", self.folder / "m.csv"],
+                               capture_output=True, text=True)
+        after = resource.getrusage(resource.RUSAGE_CHILDREN)
+        self.assertLess(after.ru_utime + after.ru_stime - before.ru_utime - before.ru_stime, 2)
+        self.assertTrue(found.stdout.startswith("30 sheets, 27,390 figures: "), found)
 
 
 class WordsTest(unittest.TestCase):

@@ -2,7 +2,7 @@
 
 import unittest
 
-from support import CAR, FITTED, GRID_TEXT, LISTS, SEASONS, TEXT, DeskTestCase, grid, run, sample, samples
+from support import CAR, FITTED, GRID_TEXT, LISTS, SAMPLES, SEASONS, TEXT, DeskTestCase, grid, run, sample, samples
 
 from evp import sheet
 
@@ -89,7 +89,9 @@ class TextTest(DeskTestCase):
         self.assertEqual(run("write", path),
                          (2, "", "evp: %s: there is such a file already; --force writes over it\n" % target))
         self.assertEqual(run("write", path, "--force").status, 0)
-        self.assertEqual(run("write", "-", "-o", "-", given=TEXT.encode()).status, 0)
+        found = run("write", "-", "-o", "-", given=TEXT.encode())
+        self.assertEqual((found.status, found.err),
+                         (0, "standard output: 168 bytes, accepted: version 1, 2 seasons, 2 rows\n"))
         self.assertEqual(run("write", "-", given=TEXT.encode()).err,
                          "evp: standard input has no name: -o SHEET names the sheet\n")
         grid_text = self.put("b.txt", GRID_TEXT)
@@ -112,7 +114,12 @@ class TextTest(DeskTestCase):
         path = self.put("a.evp", TEXT)
         found = run("write", path, "--force")
         self.assertEqual((found.status, path.read_text()), (2, TEXT))
-        self.assertIn("would overwrite its text", found.err)
+        self.assertEqual(found.err,
+                         "evp: %s: this would overwrite what it is made from; -o names another file\n" % path)
+        linked = self.folder / "linked.evp"
+        linked.symlink_to(path)
+        self.assertIn("this would overwrite what it is made from", run("write", path, "-o", linked, "--force").err)
+        self.assertEqual(path.read_text(), TEXT)
 
     def test_doubts(self):
         for text, said in (
@@ -126,6 +133,8 @@ class TextTest(DeskTestCase):
              "lines 5, 7: these rows are alike in all but vehicles; was one entered twice?"),
             (TEXT.replace("lowest=14.5 highest=29.0", "lowest=41 highest=49.5"),
              "line 4: lowest 41, highest 49.5: is this °F? In °C it would be 5.0 and 9.7"),
+            (TEXT.replace("lowest=-2.0 highest=9.5", "lowest=28.4 highest=49"),  # the winter alone
+             "line 3: lowest 28.4, highest 49: is this °F? In °C it would be -2.0 and 9.4"),
             (TEXT.replace("vp=60.0", "vp=9.0"), "line 4: vp 9.0: is this psi? In kPa it would be 62.1"),
             (TEXT.replace("vp=60.0", "vp=600"), "line 4: vp 600: is this hPa? In kPa it would be 60.0"),
         ):
@@ -133,8 +142,6 @@ class TextTest(DeskTestCase):
                 path = self.put("a.txt", text)
                 found = run("write", path, "--force")
                 self.assertEqual(found.err, "evp: note: %s: %s\n" % (path, said))
-            (TEXT.replace("lowest=-2.0 highest=9.5", "lowest=28.4 highest=49"),  # the winter alone
-             "line 3: lowest 28.4, highest 49: is this °F? In °C it would be -2.0 and 9.4"),
         self.assertEqual(run("write", self.put("a.txt", TEXT), "--force").err, "")
 
     def test_many_doubts(self):
@@ -145,6 +152,9 @@ class TextTest(DeskTestCase):
         for path in samples():
             found = run("read", path)
             self.assertEqual((found.status, sheet.write(found.out)), (0, path.read_bytes()))
+        found = run("read", self.put("a", b"EVP\1\0\1\1" + bytes(2_000_000)))
+        self.assertEqual((found.status, found.err), (
+            2, "evp: %s: this is no sheet; it has more than 25,256 bytes\n" % (self.folder / "a")))
         found = run("read", self.put("a", b"EVP\1\0\1\1"))
         self.assertEqual((found.status, found.err), (2, "evp: %s: 7 bytes, too few for a head\n" % (self.folder / "a")))
 
@@ -159,8 +169,11 @@ class FolderTest(DeskTestCase):
         return self.folder / "f"
 
     def test_there_and_back(self):
-        """Every sample, parted by , and by ; with and without a byte order mark, lines ended as Windows does."""
-        for path in samples():
+        """Every sample, parted by , and by ; with and without a byte order mark, lines ended as Windows does. Of the
+        course's sheets one is cut off, and no table holds it."""
+        course = [path for path in sorted(SAMPLES.glob("course/*.evp")) if path.stem != "cape"]
+        self.assertEqual(len(course), 29)
+        for path in samples() + course:
             for options in ((), ("--semicolon",)):
                 folder = self.folder / path.stem
                 self.assertEqual(run("read", path, "--csv", folder, "--force", *options).status, 0)
@@ -168,7 +181,8 @@ class FolderTest(DeskTestCase):
                     for table in folder.iterdir() if plain else ():
                         table.write_bytes(table.read_bytes().removeprefix(b"\xef\xbb\xbf").replace(b"\n", b"\r\n"))
                     target = self.folder / "back.evp"
-                    self.assertEqual(run("write", folder, "-o", target, "--force").status, 0)
+                    refused = path.stem == "heath"  # it has 31 trips a day, which a table holds
+                    self.assertEqual(run("write", folder, "-o", target, "--force").status, 1 if refused else 0)
                     self.assertEqual(target.read_bytes(), path.read_bytes(), path)
 
     def test_version_is_told(self):
@@ -189,6 +203,8 @@ class FolderTest(DeskTestCase):
             "vp,days,lowest,highest,,\n90.0,182,-2.0,9.5,,\n60.0,183,14.5,29.0,,\n",
             "sep=;\ndays;lowest;highest;vp\n182;-2,0;9,5;90,0\n183;14.5;29;60.0\n",
             "days;lowest;highest;vp\r\n182;-2;9,5;90\r\n183;14,5;29,0;60,0\r\n",
+            "vp;days;lowest;highest\n90,0;182;-2,0;9,5\n60,0;183;14,5;29,0\n",
+            "days,lowest,highest,vp,note\n182,-2.0,9.5,90.0,cold; dark; wet; long; grey\n183,14.5,29.0,60.0,\n",
         ):
             found = run("write", self.put_folder(seasons=seasons), "-o", self.folder / "b.evp", "--force")
             self.assertEqual(found.status, 0, found)
@@ -200,24 +216,6 @@ class FolderTest(DeskTestCase):
              "seasons.csv: line 3: lowest: '14,5' is no number; the decimal sign is a point: 14.5"),
             ({"seasons": SEASONS_CSV.replace("14.5", "14,5")},
              "seasons.csv: line 3: 5 cells, and the header has 4 columns; the decimal sign is a point here"),
-            ({"seasons": SEASONS_CSV.replace("days", "tage")},
-             "seasons.csv: line 1: 'tage' is no column of this table (days, lowest, highest, vp)"),
-            ({"seasons": "days,lowest,highest\n1,2,3\n"}, "seasons.csv: line 1: the column vp is missing"),
-            ({"seasons": "days,days,lowest,highest,vp\n"}, "seasons.csv: line 1: the column days is there twice"),
-            ({"seasons": ""}, "seasons.csv: the file is empty"),
-            "vp;days;lowest;highest\n90,0;182;-2,0;9,5\n60,0;183;14,5;29,0\n",
-            "days,lowest,highest,vp,note\n182,-2.0,9.5,90.0,cold; dark; wet; long; grey\n183,14.5,29.0,60.0,\n",
-            ({"seasons": "# nothing\n"},
-             "seasons.csv: the table is empty; its first line names the columns: days, lowest, highest, vp"),
-            ({"seasons": SEASONS_CSV.replace("183", "")}, "seasons.csv: line 3: season: days is missing"),
-            ({"seasons": SEASONS_CSV.replace(",", ";").replace("14.5", "1.234,5")},
-             "seasons.csv: line 3: lowest: '1.234,5' is no number"),
-            ({"fleet": FLEET_CSV.replace("500", "5.000")},
-             "fleet.csv: line 3: vehicles: 5.000 has a point, and the field is a whole number"),
-            ({"fleet": FLEET_CSV.replace("2,3,", "2,,")}, "fleet.csv: line 3: row: technology is missing"),
-            ({"parking": PARKING_HEADER + "0.5,1,1,1\n0.5,1,2,1\n"},
-             "parking.csv: line 3: duration 0.5 is given twice"),
-            ({"parking": PARKING_HEADER + "0.7,1,1,1\n"}, "parking.csv: line 2: duration: '0.7' is not 0.5 to 12"),
             ({"seasons": SEASONS_CSV.replace("183,14.5,29.0,60.0", "183;14,5;29,0;60,0")},
              "seasons.csv: line 3: its cells are parted by ;, and the columns of the header by ,"),
             ({"seasons": SEASONS_CSV.replace("days,lowest,highest,vp", "days;lowest;highest;vp")},
@@ -233,6 +231,22 @@ class FolderTest(DeskTestCase):
              "fleet.csv: line 3: vehicles: '\uff15\uff10\uff10' is no number"),
             ({"parking": PARKING_HEADER + "\u0661,1,1,1\n"},
              "parking.csv: line 2: duration: '\u0661' is not 0.5 to 12"),
+            ({"seasons": SEASONS_CSV.replace("days", "tage")},
+             "seasons.csv: line 1: 'tage' is no column of this table (days, lowest, highest, vp)"),
+            ({"seasons": "days,lowest,highest\n1,2,3\n"}, "seasons.csv: line 1: the column vp is missing"),
+            ({"seasons": "days,days,lowest,highest,vp\n"}, "seasons.csv: line 1: the column days is there twice"),
+            ({"seasons": ""}, "seasons.csv: the file is empty"),
+            ({"seasons": "# nothing\n"},
+             "seasons.csv: the table is empty; its first line names the columns: days, lowest, highest, vp"),
+            ({"seasons": SEASONS_CSV.replace("183", "")}, "seasons.csv: line 3: season: days is missing"),
+            ({"seasons": SEASONS_CSV.replace(",", ";").replace("14.5", "1.234,5")},
+             "seasons.csv: line 3: lowest: '1.234,5' is no number"),
+            ({"fleet": FLEET_CSV.replace("500", "5.000")},
+             "fleet.csv: line 3: vehicles: 5.000 has a point, and the field is a whole number"),
+            ({"fleet": FLEET_CSV.replace("2,3,", "2,,")}, "fleet.csv: line 3: row: technology is missing"),
+            ({"parking": PARKING_HEADER + "0.5,1,1,1\n0.5,1,2,1\n"},
+             "parking.csv: line 3: duration 0.5 is given twice"),
+            ({"parking": PARKING_HEADER + "0.7,1,1,1\n"}, "parking.csv: line 2: duration: '0.7' is not 0.5 to 12"),
             ({"parking": PARKING_HEADER + "".join("%g,1,%d,1\n" % (d / 2, d) for d in range(1, 24))},
              "parking.csv: duration: all of 0.5 to 12 are wanted; 12 is missing"),
             ({"parking": PARKING_HEADER + "0.5,1,1,1\n"},
@@ -302,6 +316,9 @@ class FolderTest(DeskTestCase):
             found = run(*words)
             self.assertEqual((found.status, found.out), (2, ""))
             self.assertIn("--force writes over it", found.err)
+        self.assertEqual((folder / "fleet.csv").read_text(), FLEET_CSV)
+        found = run("write", folder, "-o", folder / "fleet.csv", "--force")
+        self.assertIn("this would overwrite what it is made from", found.err)
         self.assertEqual((folder / "fleet.csv").read_text(), FLEET_CSV)
 
     def test_bytes_without_a_place(self):

@@ -15,7 +15,7 @@ from evp.sheet.words import TextError
 from evp.tables import NOTE, Line, Table, read_table, table_text
 from evp.wording import name_shown, quoted
 
-SEASONS, FLEET, PARKING, GRID = "seasons.csv", "fleet.csv", "parking.csv", "grid.csv"
+SEASONS, FLEET, PARKING, GRID = TABLES = "seasons.csv", "fleet.csv", "parking.csv", "grid.csv"
 SEASON_COLUMNS = [field.name for field in SEASON_FIELDS]
 ROW_COLUMNS = [field.name for field in (*ROW_FIELDS, MILEAGE)]
 PARKING_COLUMNS = ["duration", "lasting", "end_hour", "ending"]
