@@ -18,14 +18,14 @@ from evp import layout
 from evp.figures import TOTAL, Figure
 from evp.library import MECHANISMS, TOP, Band, Filed, Library, Outcome, Unit
 from evp.marking import Filing, Mark, Marked
-from evp.masses import POWERS
-from evp.wording import counted, name_shown
+from evp.masses import POWERS, UNITS
+from evp.wording import apart, counted, name_shown
 
 ALL = range(1, 10)
 GROUP_CLASSES = {"cars": range(1, 4), "light": range(4, 5), "two": range(5, 10), "all": ALL, TOTAL: ALL}
 WRONG = ("low", "high")
-UNIT_NAMES = {Unit.MG: "mg", Unit.G: "g", Unit.KG: "kg", Unit.T: "t"}
-UNIT_POWERS = {unit: POWERS[name] for unit, name in UNIT_NAMES.items()}
+UNIT_POWERS = {UNITS[name]: power for name, power in POWERS.items()}
+UNITS_BY_POWER = {power: name for name, power in POWERS.items()}
 TRIES = 480  # rows times seasons that one run takes through the misreadings: some seconds
 MOST_NEAR = 20  # figures that one is compared with
 BY_CHANCE = 10  # a figure tells another row where not one wrong figure in so many sheets would tell one by chance
@@ -106,6 +106,12 @@ def _pair(a: Figure, b: Figure) -> tuple[str, str]:
     return min(names), max(names)
 
 
+def _scaled(filed: Filed, power: int) -> Filed | None:
+    """The same digits with a last place 10^power times as large; None where the library reads no such place."""
+    places = UNIT_POWERS[Unit.T] - (UNIT_POWERS[filed.unit] - filed.places + power)
+    return Filed(filed.digits, places, Unit.T) if places >= 0 else None
+
+
 def _around(filed: Filed) -> tuple[int, int]:
     """Whole milligrams around all that a figure stands for."""
     power = UNIT_POWERS[filed.unit] - filed.places
@@ -133,9 +139,8 @@ class Guesser:
 
     def __init__(self, library: Library, sheet: Marked, filings: dict[Figure, Filing], wrong: list[Filing]):
         self.library, self.sheet, self.filings = library, sheet, filings
-        self.kept: dict[tuple[int, str], tuple[Fraction, ...]] = {}  # the masses of a row by a misreading
+        self.kept: dict[tuple[int, str], list[Fraction]] = {}  # milligrams of a row by the name of a misreading
         self.explained: Counter[Misreading] = Counter()  # figures that a misreading explains
-        self.seen: dict[str, bool] = {}  # by the name of a misreading: whether it changes a figure that was tried
         self.skipped: set[tuple[Figure, str]] = set()  # figures with the name of a misreading that was not tried
         self.many = len(wrong)
         self.guesses = {filing.figure: self._plain(filing) for filing in wrong}
@@ -160,21 +165,23 @@ class Guesser:
     def _plain(self, filing: Filing) -> str:
         return self._unit(filing) or self._rounding(filing) or self._exchange(filing)
 
-    def _fits(self, filing: Filing, band: Band | None, unit: Unit | None = None) -> bool:
-        """Whether a figure would be right for another band, or in another unit."""
-        filed = filing.filed if unit is None else filing.filed._replace(unit=unit)
-        return band is not None and self.library.mark(filed, band).outcome in (Outcome.AGREES, Outcome.FITS)
+    def _fits(self, filed: Filed | None, band: Band) -> bool:
+        """Whether a figure is right for a band."""
+        return filed is not None and self.library.mark(filed, band).outcome in (Outcome.AGREES, Outcome.FITS)
 
     def _unit(self, filing: Filing) -> str:
-        band = self.sheet.bands[filing.figure]
-        units = [unit for unit in Unit if unit != filing.filed.unit and self._fits(filing, band, unit)]
-        if not units or not filing.filed.digits:
-            return ""
-        return "the figure is in %s, not in %s" % (UNIT_NAMES[units[0]], filing.unit)
+        """The same digits 1,000 times as large or as small: in another unit, or in none that there is."""
+        filed, band = filing.filed, self.sheet.bands[filing.figure]
+        for power in (3, -3, 6, -6, 9, -9) if filed.digits else ():
+            if self._fits(_scaled(filed, power), band):
+                unit = UNITS_BY_POWER.get(UNIT_POWERS[filed.unit] + power)
+                return "the figure is in %s, not in %s" % (unit, filing.unit) if unit else (
+                    "the figure is %s times too %s" % (apart(10 ** abs(power)), "small" if power > 0 else "large"))
+        return ""
 
     def _rounding(self, filing: Filing) -> str:
         """The figure that is one more in its last place."""
-        more = filing._replace(filed=filing.filed._replace(digits=filing.filed.digits + 1))
+        more = filing.filed._replace(digits=filing.filed.digits + 1)
         return "cut, not rounded" if self._fits(more, self.sheet.bands[filing.figure]) else ""
 
     @cached_property
@@ -193,9 +200,9 @@ class Guesser:
         if len(near) > MOST_NEAR:  # so few digits tell no figure
             return ""
         near += [Figure(figure.row, mechanism) for mechanism in MECHANISMS]
-        found = [other for other in near if other != figure and self._fits(filing, self.sheet.bands[other])]
+        found = [other for other in near if other != figure and self._fits(filing.filed, self.sheet.bands[other])]
         band = self.sheet.bands[figure]
-        both = [other for other in found if other in self.filings and self._fits(self.filings[other], band)]
+        both = [other for other in found if other in self.filings and self._fits(self.filings[other].filed, band)]
         if len(both) == 1:
             return "%s and %s are exchanged" % _pair(figure, both[0])
         by_chance = digits < BY_CHANCE * self.many * len(self._nearby[figure.mechanism].bands)
@@ -218,7 +225,7 @@ class Guesser:
 
     def misread(self, misreadings: Sequence[Misreading], share: int):
         """Tries misreadings on the figures without a guess, those of single rows first, each on as many rows as its
-        share allows."""
+        share allows; then on the other rows, where all of them can be, to say whether the sheet can show it."""
         left = {misreading: share // self.seasons for misreading in misreadings}
         for figure in sorted(self.left(), key=lambda figure: len(self._rows(figure.row))):
             self.skipped |= {(figure, misreading.name) for misreading in misreadings}
@@ -235,6 +242,11 @@ class Guesser:
                     self.guesses[figure] = misreading.words
                     self.explained[misreading] += 1
                     break
+        for misreading in misreadings if self.left() else ():
+            rows = [i for i in self._rows_of(misreading) if (i, misreading.name) not in self.kept]
+            if len(rows) <= left[misreading]:
+                for i in rows:
+                    self._reckon(i, misreading)
 
     def _touched(self, figure: Figure, misreading: Misreading) -> list[int]:
         """The rows of a figure whose masses a misreading can change."""
@@ -242,21 +254,31 @@ class Guesser:
             return []
         return [i for i in self._rows(figure.row) if misreading.rows(self._records[i])]
 
+    def _rows_of(self, misreading: Misreading) -> list[int]:
+        """All rows that a misreading can touch."""
+        return [i for i, record in enumerate(self._records) if misreading.rows(record)]
+
     def _explains(self, misreading: Misreading, figure: Figure) -> bool:
         misread, right = self._misread(figure, misreading), self.sheet.bands[figure]
         same = right.low <= misread.low and misread.high <= right.high
-        self.seen[misreading.name] = self.seen.get(misreading.name, False) or not same
-        return not same and self._fits(self.filings[figure], misread)
+        return not same and self._fits(self.filings[figure].filed, misread)
 
     def cannot_show(self) -> Iterator[str]:
-        """Which misreadings this sheet cannot tell from the right reading."""
+        """Which misreadings this sheet cannot tell from the right reading: every row has been tried, and the misread
+        masses of all lie in their bands."""
         if not reckoning():
             yield "misreadings (the second reckoning, tools/, is not there)"
             return
         for misreading in MISREADINGS:
-            touched = any(map(misreading.rows, self._records))
-            if not touched or not self.untried() and not self.seen.get(misreading.name, True):
+            if all(self._is_same(i, misreading) for i in self._rows_of(misreading)):
                 yield "%s (%s)" % (misreading.words, misreading.unseen)
+
+    def _is_same(self, i: int, misreading: Misreading) -> bool:
+        """Whether a row was tried, and its misread masses lie in its bands."""
+        misread = self.kept.get((i, misreading.name))
+        bands = (self.sheet.bands[Figure(str(i + 1), mechanism)] for mechanism in MECHANISMS)
+        return misread is not None and all(
+            band.low <= mass <= band.high for band, mass in zip(bands, misread))
 
     def _misread(self, figure: Figure, misreading: Misreading) -> Band:
         """The mass that a figure would have, cut down and up to milligrams."""
@@ -282,12 +304,17 @@ class Guesser:
         """Both ends of a row's mass: its band where the misreading cannot touch it."""
         if mechanism not in misreading.mechanisms or not misreading.rows(self._records[i]):
             return self.sheet.bands[Figure(str(i + 1), mechanism)]
+        milligrams = self._reckon(i, misreading)[MECHANISMS.index(mechanism)]
+        return milligrams, milligrams
+
+    def _reckon(self, i: int, misreading: Misreading) -> list[Fraction]:
+        """The masses of a row by a misreading, each row once."""
         key = i, misreading.name
         if key not in self.kept:
             second = reckoning()
-            self.kept[key] = second.masses(self._second_sheet, i, reading=second.Reading(**{misreading.name: True}))
-        milligrams = 1000 * self.kept[key][MECHANISMS.index(mechanism)]
-        return milligrams, milligrams
+            grams = second.masses(self._second_sheet, i, reading=second.Reading(**{misreading.name: True}))
+            self.kept[key] = [1000 * mass for mass in grams]
+        return self.kept[key]
 
     @cached_property
     def _second_sheet(self):

@@ -13,7 +13,7 @@ from importlib.util import find_spec
 from unittest import mock
 
 import make_course
-from support import LIBRARY, SAMPLES, TEXT, TOP, DeskTestCase, run, run_without_rights, sample
+from support import LIBRARY, LISTS, SAMPLES, SEASONS, TEXT, TOP, DeskTestCase, run, run_without_rights, sample
 
 from evp import hints, layout, marking, sheet
 from evp.figures import Figure, bands
@@ -128,6 +128,42 @@ class CourseTest(DeskTestCase):
             found = run("mark", self.folder, "--filed", filed, "-o", self.folder / "marks.csv", "--hints")
         self.assertIn("  no guess: moor.evp: 7 figures\n"
                       "  cannot show: moor.evp: misreadings (the second reckoning, tools/, is not there)\n", found.out)
+
+
+class OneSheetHintsTest(DeskTestCase):
+    """Guesses on a sheet of two rows with small canisters, of which the second overflows."""
+
+    ROW = ("row class=1 technology=1 carburettor=20 hot=45 fill=40 vehicles=22750 trips=4.80 minutes=12 "
+           "load=%s saturation=55.0\n")
+    OVERFLOWS = "vapour cut off at m_sat (no canister overflows)"
+
+    def hints(self, line: str, *loads: str) -> str:
+        self.put_sheet("a.evp", LISTS + SEASONS + "".join(self.ROW % load for load in loads))
+        filed = self.put("filed.csv", HEADER + "a.evp,%s\n" % line)
+        return run("mark", self.folder, "--filed", filed, "-o", self.folder / "m.csv", "--hints", "--force").out
+
+    def test_a_factor_of_1000(self):
+        """In another unit, or beyond the units that there are."""
+        self.hints("1,soak,1,t", "10.0")
+        soak = bands(LIBRARY.report((self.folder / "a.evp").read_bytes()))[Figure("1", "soak")].low
+        for mass, unit, said in (
+            ("%.1f" % (soak / 1e3), "kg", "the figure is in g, not in kg"),
+            ("%.4f" % (soak / 1e9), "kg", "the figure is in t, not in kg"),
+            ("%.4f" % (soak / 1e9), "mg", "the figure is in t, not in mg"),
+            ("%d" % (soak * 1000), "mg", "the figure is 1,000 times too large"),
+            ("%.7f" % (soak / 1e12), "t", "the figure is 1,000 times too small"),
+        ):
+            with self.subTest(mass=mass, unit=unit):
+                self.assertIn("\n  guess: a.evp: 1 figure: %s\n" % said,
+                              self.hints("1,soak,%s,%s" % (mass, unit), "10.0"))
+
+    def test_cannot_show(self):
+        """It is said of the whole sheet: where another row overflows, the sheet can show a vapour that is cut off."""
+        said = self.hints("1,soak,1.2345,t", "10.0")
+        self.assertIn("\n  cannot show: a.evp: %s\n" % self.OVERFLOWS, said)
+        said = self.hints("1,soak,1.2345,t", "10.0", "54.5")
+        self.assertIn("\n  no guess: a.evp: 1 figure\n", said)
+        self.assertNotIn("cannot show", said)
 
 
 class ManyRowsHintsTest(DeskTestCase):
