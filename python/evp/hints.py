@@ -19,7 +19,7 @@ from evp.figures import TOTAL, Figure
 from evp.library import MECHANISMS, TOP, Band, Filed, Library, Outcome, Unit
 from evp.marking import Filing, Mark, Marked
 from evp.masses import POWERS, UNITS
-from evp.wording import apart, counted, name_shown
+from evp.wording import counted, name_shown
 
 ALL = range(1, 10)
 GROUP_CLASSES = {"cars": range(1, 4), "light": range(4, 5), "two": range(5, 10), "all": ALL, TOTAL: ALL}
@@ -170,13 +170,13 @@ class Guesser:
         return filed is not None and self.library.mark(filed, band).outcome in (Outcome.AGREES, Outcome.FITS)
 
     def _unit(self, filing: Filing) -> str:
-        """The same digits 1,000 times as large or as small: in another unit, or in none that there is."""
+        """The same digits in another unit, or 1,000 times as large or as small where there is no such unit."""
         filed, band = filing.filed, self.sheet.bands[filing.figure]
         for power in (3, -3, 6, -6, 9, -9) if filed.digits else ():
-            if self._fits(_scaled(filed, power), band):
-                unit = UNITS_BY_POWER.get(UNIT_POWERS[filed.unit] + power)
+            unit = UNITS_BY_POWER.get(UNIT_POWERS[filed.unit] + power)
+            if (unit or abs(power) == 3) and self._fits(_scaled(filed, power), band):
                 return "the figure is in %s, not in %s" % (unit, filing.unit) if unit else (
-                    "the figure is %s times too %s" % (apart(10 ** abs(power)), "small" if power > 0 else "large"))
+                    "the figure is 1,000 times too %s" % ("small" if power > 0 else "large"))
         return ""
 
     def _rounding(self, filing: Filing) -> str:

@@ -210,8 +210,9 @@ def _mark(library: Library, sheets: dict[str, Marked], filing: Filing) -> Mark:
 def _note(outcome: Outcome, filing: Filing, band: Band) -> str:
     if outcome == Outcome.UNREADABLE:
         return _beyond(filing)
-    return {Outcome.AGREES: "", Outcome.FITS: SETTLES_NOTHING}.get(
-        outcome, "the mass is %s" % shown(band, filing.unit))
+    if outcome == Outcome.FITS:
+        return SETTLES_NOTHING
+    return "" if outcome == Outcome.AGREES else "the mass is %s" % shown(band, filing.unit)
 
 
 def _beyond(filing: Filing) -> str:
