@@ -194,6 +194,13 @@ class ManyRowsHintsTest(DeskTestCase):
             notes = {mark["note"].partition("; ")[2] for mark in csv.DictReader(file)}
         self.assertEqual(notes, {"no guess", "no guess, misreadings not tried"})
 
+    def test_rows_that_were_not_tried(self):
+        """A canister that was tried does not overflow; those of the other rows might."""
+        row = next(i for i in range(300) if layout.canister_of(layout.row(self.data, i)) == 2)
+        found = self.hints({Figure(str(row + 1), "soak"): 12345678})
+        self.assertIn("\n  no guess: a.evp: 1 figure\n", found.out)
+        self.assertNotIn("cannot show", found.out)
+
     def test_misread_rows(self):
         """A misreading that explains a row goes on to others, as far as TRIES allows."""
         second = reckoning.read(self.data)

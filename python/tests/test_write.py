@@ -177,6 +177,8 @@ class FolderTest(DeskTestCase):
             for options in ((), ("--semicolon",)):
                 folder = self.folder / path.stem
                 self.assertEqual(run("read", path, "--csv", folder, "--force", *options).status, 0)
+                if options:  # a spreadsheet that has a decimal comma would take 14.5 for a day in May
+                    self.assertNotIn(b".", b"".join(table.read_bytes() for table in folder.iterdir()))
                 for plain in (False, True):
                     for table in folder.iterdir() if plain else ():
                         table.write_bytes(table.read_bytes().removeprefix(b"\xef\xbb\xbf").replace(b"\n", b"\r\n"))
@@ -297,6 +299,8 @@ class FolderTest(DeskTestCase):
                 0, "".join("%s/%s\n" % (folder, name) for name in ("seasons.csv", "fleet.csv", more))
                 + "Fill them in, then evp write %s makes the sheet.\n" % folder, ""))
             sign, point = (";", ",") if "--semicolon" in options else (",", ".")
+            limits = "# least,1,-30.0,-30.0,30.0\n# most,366,50.0,50.0,110.0\n"
+            self.assertIn(limits.replace(",", sign).replace(".", point), (folder / "seasons.csv").read_text())
             with open(folder / "seasons.csv", "a", encoding="utf-8") as file:
                 file.write("summer,183,14.5,29,60\n".replace(",", sign).replace(".", point))
             with open(folder / "fleet.csv", "a", encoding="utf-8") as file:
