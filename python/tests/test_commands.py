@@ -12,8 +12,10 @@ from unittest import mock
 from support import CAR, GRID_TEXT, LIBRARY, SAMPLES, SEASONS, TEXT, TOP, DeskTestCase, run, sample, samples
 
 from evp import commands, layout, library, making
+from evp.figures import Figure
 from evp.files import InputError
-from evp.library import SPECIES
+from evp.library import SPECIES, Band
+from evp.show import Difference
 
 REGION = SAMPLES / "region.evp"
 
@@ -119,6 +121,12 @@ class CompareTest(DeskTestCase):
         self.assertEqual(found.out,
             "A: %s\nB: %s\n\nWith bands apart, 0 of 85 figures are higher in B for certain, "
             "and 0 lower.\n85 have the same band in both, 0 are open.\n" % (REGION, REGION))
+
+    def test_verdicts(self):
+        """Higher or lower for certain only where the bands are apart."""
+        for a, b, verdict in (((1, 5), (6, 9), "higher"), ((1, 5), (5, 9), "open"), ((1, 5), (2, 4), "open"),
+                              ((6, 9), (1, 5), "lower"), ((5, 9), (1, 5), "open"), ((1, 5), (1, 5), "alike")):
+            self.assertEqual(Difference(Figure("total", ""), Band(*a), Band(*b)).verdict, verdict)
 
     def test_other_rows(self):
         """Sheets with other rows are compared by their sums."""

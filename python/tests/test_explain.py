@@ -328,6 +328,19 @@ class WordsTest(DeskTestCase):
                 self.assertEqual((found.number, found.reason), key)
                 self.assertEqual("\n".join(found.lines), expected.strip())
 
+    def test_limits_and_classes_of_the_desk(self):
+        """What templates and pages show of limits, tanks and canisters is what the library asks and the second
+        reckoning has."""
+        found = {}
+        for _, text, _ in CASES:
+            said = explain(LIBRARY, sheet.write(text))
+            found.setdefault(said.field, (said.least, said.most))  # by a number's first reason
+        for name, field in layout.FIELDS.items():
+            if name not in ("class", "technology", "load", "saturation"):  # of these other fields say the most
+                self.assertEqual(found[name], (field.least, field.most), name)
+        self.assertEqual({number: (tank, canisters) for number, _, tank, canisters in reckoning.CLASS_TABLE},
+                         {number: words[1:] for number, words in layout.CLASSES.items()})
+
     def test_no_reason_is_left_out(self):
         self.assertEqual({key for key, _, _ in CASES}, set(REASONS))
         self.assertEqual({number for number, _ in REASONS} | set(CALLS) | {0}, set(Number))

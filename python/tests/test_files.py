@@ -3,6 +3,7 @@
 import json
 import os
 import random
+import resource
 import shutil
 import signal
 import subprocess
@@ -311,6 +312,16 @@ class StartTest(unittest.TestCase):
             with open(pipe, "wb"):  # waits until it reads
                 process.send_signal(signal.SIGINT)
                 return process.wait(20), process.stderr.read()
+
+    def test_a_file_that_cannot_be_finished(self):
+        """A new one is taken away again; the limit stands for a disk that is full."""
+        with tempfile.TemporaryDirectory() as folder:
+            source, target = Path(folder) / "a.txt", Path(folder) / "a.evp"
+            source.write_text(TEXT)
+            found = subprocess.run([TOP / "evp", "write", source], capture_output=True, text=True,
+                                   preexec_fn=lambda: resource.setrlimit(resource.RLIMIT_FSIZE, (100, 100)))
+            self.assertEqual((found.returncode, found.stderr, target.exists()),
+                             (2, "evp: %s: File too large\n" % target, False))
 
     def test_interrupt(self):
         """Ctrl-C, while a command waits and while evp starts: a line and status 2."""

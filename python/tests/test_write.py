@@ -147,6 +147,10 @@ class TextTest(DeskTestCase):
     def test_many_doubts(self):
         rows = "".join(CAR.replace("hot=45", "hot=%d" % (i // 2)) for i in range(80))
         self.assert_plain(run("write", self.put("a.txt", grid() + SEASONS + rows)), 0)
+        seasons = "season days=1 lowest=50 highest=80 vp=9\n" * 40
+        found = run("write", self.put("a.txt", LISTS + seasons + CAR), "--force")
+        self.assert_plain(found, 1)
+        self.assertEqual(found.err.splitlines()[-1], "evp: note: 61 more things to look at")
 
     def test_read(self):
         for path in samples():
@@ -324,6 +328,9 @@ class FolderTest(DeskTestCase):
         found = run("write", folder, "-o", folder / "fleet.csv", "--force")
         self.assertIn("this would overwrite what it is made from", found.err)
         self.assertEqual((folder / "fleet.csv").read_text(), FLEET_CSV)
+        (folder / "seasons.csv").unlink()
+        self.assertEqual(run("template", folder).status, 2)
+        self.assertFalse((folder / "seasons.csv").exists())  # none where not all can be
 
     def test_bytes_without_a_place(self):
         for text, said in ((TEXT + "zero 1", "byte 7 is not 0"), (TEXT + "tail 00", "tables hold whole sheets"),
