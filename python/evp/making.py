@@ -3,10 +3,12 @@
 import shutil
 import subprocess
 import sys
+from collections.abc import Iterable
 from pathlib import Path
 
 from evp.files import InputError
 from evp.library import TOP
+from evp.wording import MOST_SHOWN, printable
 
 TARGET = "evaporation"
 
@@ -36,20 +38,35 @@ def make_library():
     wanted = crates_wanted((TOP / "crates.txt").read_text(encoding="utf-8"))
     print("evp: the library is not made yet. Proving and making it takes some minutes;\n"
           "evp: it is kept, and the next call starts at once.", file=sys.stderr)
-    proved, last = set(), ""
     with subprocess.Popen(["bash", script], stdout=subprocess.PIPE, stderr=subprocess.STDOUT, text=True) as making:
-        for line in making.stdout:
-            last = line.strip() or last
-            words = line.split()
-            if len(words) > 2 and words[0] == "rt:" and words[2] == "proved" and words[1] in wanted - proved:
-                proved.add(words[1])
-                _say("evp: %d of %d parts proved" % (len(proved), len(wanted)))
+        try:
+            last = _follow(making.stdout, wanted)
+        except KeyboardInterrupt:
+            _next_line()
+            raise
     if making.returncode:
-        if proved and sys.stderr.isatty():
-            print(file=sys.stderr)  # behind the line that was written over
+        _next_line()
         raise InputError("the library could not be made: %s\nrun it by itself to see more: bash %s" % (
-            last[:200], Path("c") / "shared"))
+            printable(last[:MOST_SHOWN]), Path("c") / "shared"))
     _say("evp: all %d parts proved, the library is made" % len(wanted), True)  # the last with the library
+
+
+def _follow(lines: Iterable[str], wanted: set[str]) -> str:
+    """Says of each part that is proved how many are; the last line that the kit prints."""
+    proved, last = set(), ""
+    for line in lines:
+        last = line.strip() or last
+        words = line.split()
+        if len(words) > 2 and words[0] == "rt:" and words[2] == "proved" and words[1] in wanted - proved:
+            proved.add(words[1])
+            _say("evp: %d of %d parts proved" % (len(proved), len(wanted)))
+    return last
+
+
+def _next_line():
+    """Behind the line that is written over on a terminal."""
+    if sys.stderr.isatty():
+        print(file=sys.stderr)
 
 
 def _say(words: str, is_last: bool = False):
