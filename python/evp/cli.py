@@ -214,8 +214,8 @@ def _run(top: Parser, words: list[str]) -> int:
         return commands.REFUSED
     except (InputError, MissingCall) as error:
         _complain(str(error))
-    except KeyboardInterrupt:
-        _complain("stopped")
+    except KeyboardInterrupt:  # on a terminal behind ^C, and behind how far it is
+        _complain("stopped", "\nevp: " if sys.stderr.isatty() else "evp: ")
     except Exception as error:  # no traceback reaches a user
         said = _of_a_file(error) if isinstance(error, OSError) else ""
         if not said and os.environ.get("EVP_TRACEBACK"):

@@ -112,6 +112,12 @@ def _scaled(filed: Filed, power: int) -> Filed | None:
     return Filed(filed.digits, places, Unit.T) if places >= 0 else None
 
 
+def _distinct(filed: Filed, band: Band) -> Fraction:
+    """How many masses up to a figure can be told apart by its last place and a band of this width."""
+    last = Fraction(10) ** (UNIT_POWERS[filed.unit] - filed.places)
+    return filed.digits * last / (last + band.high - band.low)
+
+
 def _around(filed: Filed) -> tuple[int, int]:
     """Whole milligrams around all that a figure stands for."""
     power = UNIT_POWERS[filed.unit] - filed.places
@@ -205,8 +211,11 @@ class Guesser:
         both = [other for other in found if other in self.filings and self._fits(self.filings[other].filed, band)]
         if len(both) == 1:
             return "%s and %s are exchanged" % _pair(figure, both[0])
-        by_chance = digits < BY_CHANCE * self.many * len(self._nearby[figure.mechanism].bands)
-        return "this is the mass of %s" % found[0].name if len(found) == 1 and not by_chance else ""
+        if len(found) != 1:
+            return ""
+        by_chance = BY_CHANCE * self.many * len(self._nearby[figure.mechanism].bands)
+        return "this is the mass of %s" % found[0].name if (
+            _distinct(filing.filed, self.sheet.bands[found[0]]) >= by_chance) else ""
 
     # -------------------------------------------------------------- misreadings
 

@@ -39,13 +39,10 @@ def make_library():
     print("evp: the library is not made yet. Proving and making it takes some minutes;\n"
           "evp: it is kept, and the next call starts at once.", file=sys.stderr)
     with subprocess.Popen(["bash", script], stdout=subprocess.PIPE, stderr=subprocess.STDOUT, text=True) as making:
-        try:
-            last = _follow(making.stdout, wanted)
-        except KeyboardInterrupt:
-            _next_line()
-            raise
+        last = _follow(making.stdout, wanted)
     if making.returncode:
-        _next_line()
+        if sys.stderr.isatty():
+            print(file=sys.stderr)  # behind the line that was written over
         raise InputError("the library could not be made: %s\nrun it by itself to see more: bash %s" % (
             printable(last[:MOST_SHOWN]), Path("c") / "shared"))
     _say("evp: all %d parts proved, the library is made" % len(wanted), True)  # the last with the library
@@ -61,12 +58,6 @@ def _follow(lines: Iterable[str], wanted: set[str]) -> str:
             proved.add(words[1])
             _say("evp: %d of %d parts proved" % (len(proved), len(wanted)))
     return last
-
-
-def _next_line():
-    """Behind the line that is written over on a terminal."""
-    if sys.stderr.isatty():
-        print(file=sys.stderr)
 
 
 def _say(words: str, is_last: bool = False):

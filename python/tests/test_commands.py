@@ -257,13 +257,6 @@ class MakingTest(DeskTestCase):
         with self.assertRaisesRegex(InputError, r"could not be made: no \?\[2Jroom\nrun it by itself to see more"):
             self.make("echo rt: numbers proved; printf 'no \\033[2Jroom\\n'; exit 1")
 
-    def test_stopped(self):
-        """Ctrl-C stops it, behind the line that was written over."""
-        with mock.patch("evp.making._follow", side_effect=KeyboardInterrupt), mock.patch(
-                "evp.making._next_line") as next_line, self.assertRaises(KeyboardInterrupt):
-            self.make("exit 1")
-        next_line.assert_called_once_with()
-
     def test_crates(self):
         wanted = making.crates_wanted((TOP / "crates.txt").read_text(encoding="utf-8"))
         self.assertIn("bounds", wanted)

@@ -194,6 +194,15 @@ class ManyRowsHintsTest(DeskTestCase):
             notes = {mark["note"].partition("; ")[2] for mark in csv.DictReader(file)}
         self.assertEqual(notes, {"no guess", "no guess, misreadings not tried"})
 
+    def test_by_chance(self):
+        """Where all figures are wrong, one that lies in another row's band tells nothing: bands are wide enough."""
+        figures = {figure: band.low * 137 // 100 + 1 for figure, band in self.bands.items()}
+        figures[Figure("3", "soak")] = self.bands[Figure("40", "soak")].low
+        with mock.patch("evp.hints.TRIES", 0):
+            self.assertNotIn("this is the mass", self.hints(figures).out)
+        self.assertIn("this is the mass of row 40 soak",
+                      self.hints({Figure("3", "soak"): figures[Figure("3", "soak")]}).out)
+
     def test_rows_that_were_not_tried(self):
         """A canister that was tried does not overflow; those of the other rows might."""
         row = next(i for i in range(300) if layout.canister_of(layout.row(self.data, i)) == 2)
