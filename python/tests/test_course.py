@@ -10,9 +10,12 @@ import subprocess
 import sys
 import tempfile
 import unittest
+from decimal import Decimal
 from pathlib import Path
 
 from support import SAMPLES, TOP, run_together
+
+from evp.masses import exact
 
 COURSE, README = TOP / "docs" / "COURSE.md", TOP / "README.md"
 BLOCK = re.compile(r"(?<=^```console\n).*?(?=^```$)", re.M | re.S)
@@ -54,6 +57,16 @@ class CourseTest(unittest.TestCase):
                 text = page.read_text(encoding="utf-8")
                 self.assertEqual(made(page).splitlines(), text.splitlines())
                 self.assertGreaterEqual(text.count("$ ./evp "), commands)
+
+    def test_the_figure_that_fits(self):
+        """What is said in words of a band is what the command above it prints."""
+        text = " ".join(COURSE.read_text(encoding="utf-8").split())
+        filed, low, high = re.search(r" ridge\.evp,cars,soak,([0-9.]+),t,fits,([0-9]+),([0-9]+) ", text).groups()
+        self.assertIn("asks why %s t of the cars' soak mass" % filed, text)
+        self.assertIn("The band, %s t to %s t, reaches over" % (exact(int(low), "t"), exact(int(high), "t")), text)
+        middle = Decimal(filed)
+        self.assertIn("%s t stands for %s t to %s t." % (filed, middle - Decimal("0.0005"), middle + Decimal("0.0005")),
+                      text)
 
 
 def main():
