@@ -250,8 +250,10 @@ def _length_advice(data: bytes) -> str:
         other = "version 1" if records == layout.LISTS_END else "versions 2 to 4"
         return "it is as long as a sheet of %s: look at bytes 3 and 4" % other
     rows, rest = divmod(len(data) - layout.row_place(data, 0), layout.ROW_BYTES)
-    if not rest and rows > 0 and len(data) <= SHEET_BYTES:
-        return "it is as long as a sheet with %s: look at byte 6, or take the whole file again" % counted(rows, "row")
+    has_many = layout.version_of(data) == 4
+    if not rest and 0 < rows <= (layout.MANY_ROWS if has_many else layout.MOST_ROWS):
+        return "it is as long as a sheet with %s: look at %s, or take the whole file again" % (
+            counted(rows, "row"), "bytes 6 and 7" if has_many else "byte 6")
     return "take the whole file again"
 
 

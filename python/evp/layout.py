@@ -63,7 +63,7 @@ MILEAGE = Field("mileage", 4, "km", most=1_000_000)  # behind them in versions 3
 FIELDS = {field.name: field for field in (*SEASON_FIELDS, *ROW_FIELDS, MILEAGE)}
 
 HEAD_BYTES, SEASON_BYTES, ROW_BYTES = 8, 8, 24
-MOST_ROWS = 32  # up to version 3
+MOST_ROWS, MANY_ROWS = 32, 1000  # up to version 3, and in version 4
 LISTS_END, GRID_END = 104, 1160
 BY_CLASS = 255
 

@@ -106,6 +106,18 @@ refused 7 at 0: sheet
   head: version 1, 2 seasons, 3 rows
   it is as long as a sheet with 2 rows: look at byte 6, or take the whole file again
 """),
+    ((7, 1), GRID_TEXT + "version 4\nrows 300", """
+refused 7 at 0: sheet
+  1,224 bytes, and the head asks for 8,376: 7,152 are missing
+  head: version 4, 2 seasons, 300 rows
+  it is as long as a sheet with 2 rows: look at bytes 6 and 7, or take the whole file again
+"""),
+    ((7, 1), TEXT + "tail " + "00" * 24 * 31, """
+refused 7 at 0: sheet
+  912 bytes, and the head asks for 168: 744 too many
+  head: version 1, 2 seasons, 2 rows
+  take the whole file again
+"""),
     ((8, 1), changed("durations 420", "durations 4200"), """
 refused 8 at 8: parking (bytes 8 to 103)
   the counts of the 24 durations (bytes 8 to 55): they sum to 4,490
