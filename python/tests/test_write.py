@@ -303,6 +303,7 @@ class FolderTest(DeskTestCase):
                 0, "".join("%s/%s\n" % (folder, name) for name in ("seasons.csv", "fleet.csv", more))
                 + "Fill them in, then evp write %s makes the sheet.\n" % folder, ""))
             sign, point = (";", ",") if "--semicolon" in options else (",", ".")
+            self.assertIn("1 car below 1.4 l; 2 car 1.4 to 2.0 l; ", (folder / "fleet.csv").read_text(encoding="utf-8"))
             limits = "# least,1,-30.0,-30.0,30.0\n# most,366,50.0,50.0,110.0\n"
             self.assertIn(limits.replace(",", sign).replace(".", point), (folder / "seasons.csv").read_text())
             with open(folder / "seasons.csv", "a", encoding="utf-8") as file:

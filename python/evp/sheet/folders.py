@@ -6,7 +6,7 @@ from pathlib import Path
 
 from evp.files import InputError, read_text
 from evp.layout import (
-    LISTS_END, MILEAGE, ROW_FIELDS, SEASON_FIELDS, Field, counts, has_grid, has_mileage, length_of, row_count,
+    CLASSES, LISTS_END, MILEAGE, ROW_FIELDS, SEASON_FIELDS, Field, counts, has_grid, has_mileage, length_of, row_count,
     row_place, season_count, season_place, version_of,
 )
 from evp.sheet.builder import Builder
@@ -173,7 +173,7 @@ def _lists_of(data: bytes, semicolon: bool) -> dict[str, str]:
 
 WORDS = {
     "days": "all seasons together at most 366",
-    "class": "1 to 9",
+    "class": "; ".join("%d %s" % (number, words[0]) for number, words in CLASSES.items()),
     "technology": "0 conventional; 1 to 5 Euro 1 to 5; classes 5 to 8 up to 3; class 9 up to 2",
     "canister": "none small medium large (0 to 3); empty: by class",
     "carburettor": "% of vehicles with carburettor or fuel return",
