@@ -17,7 +17,7 @@ from evp.files import InputError, failed
 from evp.library import MissingCall
 from evp.masses import UNITS
 from evp.pages import command as page_command
-from evp.wording import MOST_SHOWN, printable, quoted
+from evp.wording import MOST_SHOWN, printable, quoted, shortened
 
 TAKES_NO_MORE = (errno.ENOSPC, errno.EDQUOT, errno.EFBIG, errno.EIO)  # what a disk that is full answers, or broken
 STATUS = "Exit status 0 fine, 1 refused or a figure wrong,\n2 not readable or not understood."
@@ -38,10 +38,8 @@ class Parser(argparse.ArgumentParser):
         sys.stdout.flush()  # so that a full disk is told
 
     def error(self, message: str):
-        message = printable(message)
-        short = message if len(message) <= MOST_SHOWN else message[:MOST_SHOWN] + "…"
         self.print_usage(sys.stderr)
-        self.exit(2, "evp: %s; %s --help says more\n" % (short, self.prog))
+        self.exit(2, "evp: %s; %s --help says more\n" % (shortened(printable(message), MOST_SHOWN), self.prog))
 
 
 def _version(*versions: int) -> Callable[[str], int]:

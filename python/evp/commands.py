@@ -53,7 +53,7 @@ def limited(lines: Iterable[str], rest: str, most: int = MOST_LINES) -> list[str
     lines = list(lines)
     if len(lines) <= most:
         return lines
-    return [*lines[:most - 1], "%d more %s" % (len(lines) - most + 1, rest)]
+    return [*lines[:most - 1], "%s more %s" % (apart(len(lines) - most + 1), rest)]
 
 
 def print_json(found: object):

@@ -17,7 +17,7 @@ from evp.library import GROUPS, MECHANISMS, Band, Filed, Library, Outcome, Refus
 from evp.masses import POWERS, UNITS, shown
 from evp.sheet.words import TextError
 from evp.tables import Line, Table, read_table, table_text
-from evp.wording import apart, counted, name_shown, quoted
+from evp.wording import apart, counted, name_shown, quoted, shortened
 
 COLUMNS = ["sheet", "row", "mechanism", "mass", "unit"]
 MOST_WORD = 2 ** 64 - 1
@@ -254,7 +254,7 @@ def _sheet_summary(marks: list[Mark]) -> str:
         return "%s filed, and %s" % (counted(len(marks), "figure"), first.note)
     words = _verdicts(Counter(mark.verdict for mark in marks))
     filed = Figure(first.row, first.mechanism).name
-    return "%s; first %s: %s %s filed, %s" % (words, filed, first.mass, first.unit, first.note)
+    return "%s; first %s: %s %s filed, %s" % (words, filed, shortened(first.mass), first.unit, first.note)
 
 
 def _verdicts(counts: Counter[str]) -> str:

@@ -13,9 +13,13 @@ def counted(number: int, name: str) -> str:
     return "%s %s%s" % (apart(number), name, "" if number == 1 else "s")
 
 
+def shortened(word: str, most: int = 40) -> str:
+    return word if len(word) <= most else word[:most] + "…"
+
+
 def quoted(word: str) -> str:
     """A word of someone else in a message: nothing that a terminal would obey, and not long."""
-    return repr(word if len(word) <= 40 else word[:40] + "…")
+    return repr(shortened(word))
 
 
 MOST_SHOWN = 200  # signs of a name or of what was called, in a message

@@ -327,6 +327,13 @@ class FiledTest(DeskTestCase):
         mark, = json.loads(run("mark", self.folder, "--filed", filed, "--json").out)
         self.assertEqual((mark["verdict"], mark["sha256"]), ("refused", hashlib.sha256(data).hexdigest()))
 
+    def test_a_long_mass(self):
+        """It stands in the marks, and no more than some of its digits on the screen."""
+        found = self.mark("a.evp,1,soak,%s,t\n" % ("9" * 100_000))
+        self.assertLess(len(found.out), 500)
+        self.assertIn("first row 1 soak: %s… t filed, 10^18 mg or more\n" % ("9" * 40), found.out)
+        self.assertIn(",%s,t,unreadable," % ("9" * 100_000), (self.folder / "m.csv").read_text())
+
     def test_twice(self):
         found = self.mark("a.evp,1,soak,2,t\nb.evp,1,soak,2,t\na.evp,1,soak,3,kg\n")
         self.assertEqual(found.err,

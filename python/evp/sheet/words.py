@@ -3,7 +3,7 @@
 import re
 
 from evp.layout import Field
-from evp.wording import quoted
+from evp.wording import quoted, shortened
 
 MOST_DIGITS = 12  # no field holds a number of more
 
@@ -30,7 +30,7 @@ def encode(word: str, field: Field) -> bytes:
     form = re.fullmatch(r"([+-]?)0*([0-9]+)(?:\.([0-9]+))?", word, re.ASCII)
     if form is None:
         raise TextError("%s: %s is no number%s" % (field.name, quoted(word), _no_number(word)))
-    short = word if len(word) <= 40 else word[:40] + "…"
+    short = shortened(word)
     sign, whole, fraction = form[1], form[2], form[3] or ""
     if sign and not field.signed:
         raise TextError("%s: %s has a sign, and the field has none" % (field.name, short))
