@@ -94,7 +94,7 @@ def _add_sheet_commands(add):
     convert = _add(add, "convert", commands.convert, "makes the same inventory in a later version of the sheet",
                    "evp convert north.evp --to 4 -o north4.evp", "force")
     convert.add_argument("sheet", metavar="SHEET")
-    convert.add_argument("--to", type=_version(2, 3, 4), required=True, metavar="2|3|4")
+    convert.add_argument("--to", type=_version(2, 3, 4), required=True, metavar="2|3|4", help="the later version")
     convert.add_argument("-o", dest="output", metavar="FILE", help="SHEET's name with -version-N where none is given")
 
 
@@ -102,7 +102,8 @@ def _add_table_commands(add):
     write = _add(add, "write", commands.write_sheet,
                  "makes a sheet from a text, or from a folder with seasons.csv, fleet.csv and parking.csv or grid.csv",
                  "evp write north.txt\nevp write north -o north.evp", "force")
-    write.add_argument("source", metavar="TEXT|FOLDER")
+    write.add_argument("source", metavar="TEXT|FOLDER", help="a text as evp read prints it, or tables as evp template "
+                       "makes them")
     write.add_argument("-o", dest="output", metavar="SHEET",
                        help="the name of TEXT or FOLDER with .evp where none is given")
     write.add_argument("--version", type=_version(1, 2, 3, 4), metavar="1|2|3|4",
@@ -139,15 +140,15 @@ def _add_report_commands(add):
     species = _add(add, "species", commands.species, "splits the high total of a sheet among the species of Table 3-14",
                    "evp species north.evp --csv")
     species.add_argument("sheet", metavar="SHEET")
-    species.add_argument("--csv", action="store_true")
+    species.add_argument("--csv", action="store_true", help="a line for each species, in mg")
     cells = _add(add, "cells", commands.cells,
                  "makes the urban, rural and highway cells of the rows of a sheet, as csv",
                  "evp cells north.evp --travel travel.csv -o cells.csv\n\ntravel.csv, a line for a row or for all:\n"
                  "row,town,urban_mileage,rural_mileage,highway_mileage,rural_speed,highway_speed\n"
                  "all,yes,40,35,25,60,100", "force")
     cells.add_argument("sheet", metavar="SHEET")
-    cells.add_argument("--travel", required=True, metavar="FILE")
-    cells.add_argument("-o", dest="output", metavar="FILE")
+    cells.add_argument("--travel", required=True, metavar="FILE", help="csv: where the vehicles of the rows drive")
+    cells.add_argument("-o", dest="output", metavar="FILE", help="csv; printed where none is given")
     pool = _add(add, "pool", commands.pool, "pools two sheets of version 4 with the same seasons and parking",
                 "evp pool north.evp south.evp -o both.evp", "force")
     pool.add_argument("first", metavar="FIRST")
