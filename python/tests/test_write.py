@@ -47,6 +47,49 @@ MISTAKES = (
      "line 5: vehicles: '\\x1b[2J" + "9" * 36 + "…' is no number"),
 )
 
+# A table that is changed and what is said of it, behind the name of the folder.
+TABLE_MISTAKES = (
+    ({"seasons": SEASONS_CSV.replace("14.5", '"14,5"')},
+     "seasons.csv: line 3: lowest: '14,5' is no number; the decimal sign is a point: 14.5"),
+    ({"seasons": SEASONS_CSV.replace("14.5", "14,5")},
+     "seasons.csv: line 3: 5 cells, and the header has 4 columns; the decimal sign is a point here"),
+    ({"seasons": SEASONS_CSV.replace("183,14.5,29.0,60.0", "183;14,5;29,0;60,0")},
+     "seasons.csv: line 3: its cells are parted by ;, and the columns of the header by ,"),
+    ({"seasons": SEASONS_CSV.replace("days,lowest,highest,vp", "days;lowest;highest;vp")},
+     "seasons.csv: line 2: its cells are parted by ,, and the columns of the header by ;"),
+    ({"seasons": SEASONS_CSV.replace("182,", '"182,')},
+     "seasons.csv: line 2: a quotation mark opens a cell, and none closes it"),
+    ({"seasons": SEASONS_CSV.replace("182,", '"18"2,')},
+     "seasons.csv: line 2: something stands behind the quotation mark that closes a cell; within a cell write "
+     "it twice"),
+    ({"seasons": SEASONS_CSV.replace("182", "\u0661\u0668\u0662")},
+     "seasons.csv: line 2: days: '\u0661\u0668\u0662' is no number"),
+    ({"fleet": FLEET_CSV.replace("500", "\uff15\uff10\uff10")},
+     "fleet.csv: line 3: vehicles: '\uff15\uff10\uff10' is no number"),
+    ({"parking": PARKING_HEADER + "\u0661,1,1,1\n"},
+     "parking.csv: line 2: duration: '\u0661' is not 0.5 to 12"),
+    ({"seasons": SEASONS_CSV.replace("days", "tage")},
+     "seasons.csv: line 1: 'tage' is no column of this table (days, lowest, highest, vp)"),
+    ({"seasons": "days,lowest,highest\n1,2,3\n"}, "seasons.csv: line 1: the column vp is missing"),
+    ({"seasons": "days,days,lowest,highest,vp\n"}, "seasons.csv: line 1: the column days is there twice"),
+    ({"seasons": ""}, "seasons.csv: the file is empty"),
+    ({"seasons": "# nothing\n"},
+     "seasons.csv: the table is empty; its first line names the columns: days, lowest, highest, vp"),
+    ({"seasons": SEASONS_CSV.replace("183", "")}, "seasons.csv: line 3: season: days is missing"),
+    ({"seasons": SEASONS_CSV.replace(",", ";").replace("14.5", "1.234,5")},
+     "seasons.csv: line 3: lowest: '1.234,5' is no number"),
+    ({"fleet": FLEET_CSV.replace("500", "5.000")},
+     "fleet.csv: line 3: vehicles: 5.000 has a point, and the field is a whole number"),
+    ({"fleet": FLEET_CSV.replace("2,3,", "2,,")}, "fleet.csv: line 3: row: technology is missing"),
+    ({"parking": PARKING_HEADER + "0.5,1,1,1\n0.5,1,2,1\n"},
+     "parking.csv: line 3: duration 0.5 is given twice"),
+    ({"parking": PARKING_HEADER + "0.7,1,1,1\n"}, "parking.csv: line 2: duration: '0.7' is not 0.5 to 12"),
+    ({"parking": PARKING_HEADER + "".join("%g,1,%d,1\n" % (d / 2, d) for d in range(1, 24))},
+     "parking.csv: duration: all of 0.5 to 12 are wanted; 12 is missing"),
+    ({"parking": PARKING_HEADER + "0.5,1,1,1\n"},
+     "parking.csv: duration: all of 0.5 to 12 are wanted; 1, 1.5, 2 and 20 more are missing"),
+)
+
 
 class TextTest(DeskTestCase):
     """Texts."""
@@ -217,47 +260,7 @@ class FolderTest(DeskTestCase):
             self.assertEqual((self.folder / "b.evp").read_bytes(), sheet.write(TEXT))
 
     def test_mistakes(self):
-        for changed, said in (
-            ({"seasons": SEASONS_CSV.replace("14.5", '"14,5"')},
-             "seasons.csv: line 3: lowest: '14,5' is no number; the decimal sign is a point: 14.5"),
-            ({"seasons": SEASONS_CSV.replace("14.5", "14,5")},
-             "seasons.csv: line 3: 5 cells, and the header has 4 columns; the decimal sign is a point here"),
-            ({"seasons": SEASONS_CSV.replace("183,14.5,29.0,60.0", "183;14,5;29,0;60,0")},
-             "seasons.csv: line 3: its cells are parted by ;, and the columns of the header by ,"),
-            ({"seasons": SEASONS_CSV.replace("days,lowest,highest,vp", "days;lowest;highest;vp")},
-             "seasons.csv: line 2: its cells are parted by ,, and the columns of the header by ;"),
-            ({"seasons": SEASONS_CSV.replace("182,", '"182,')},
-             "seasons.csv: line 2: a quotation mark opens a cell, and none closes it"),
-            ({"seasons": SEASONS_CSV.replace("182,", '"18"2,')},
-             "seasons.csv: line 2: something stands behind the quotation mark that closes a cell; within a cell write "
-             "it twice"),
-            ({"seasons": SEASONS_CSV.replace("182", "\u0661\u0668\u0662")},
-             "seasons.csv: line 2: days: '\u0661\u0668\u0662' is no number"),
-            ({"fleet": FLEET_CSV.replace("500", "\uff15\uff10\uff10")},
-             "fleet.csv: line 3: vehicles: '\uff15\uff10\uff10' is no number"),
-            ({"parking": PARKING_HEADER + "\u0661,1,1,1\n"},
-             "parking.csv: line 2: duration: '\u0661' is not 0.5 to 12"),
-            ({"seasons": SEASONS_CSV.replace("days", "tage")},
-             "seasons.csv: line 1: 'tage' is no column of this table (days, lowest, highest, vp)"),
-            ({"seasons": "days,lowest,highest\n1,2,3\n"}, "seasons.csv: line 1: the column vp is missing"),
-            ({"seasons": "days,days,lowest,highest,vp\n"}, "seasons.csv: line 1: the column days is there twice"),
-            ({"seasons": ""}, "seasons.csv: the file is empty"),
-            ({"seasons": "# nothing\n"},
-             "seasons.csv: the table is empty; its first line names the columns: days, lowest, highest, vp"),
-            ({"seasons": SEASONS_CSV.replace("183", "")}, "seasons.csv: line 3: season: days is missing"),
-            ({"seasons": SEASONS_CSV.replace(",", ";").replace("14.5", "1.234,5")},
-             "seasons.csv: line 3: lowest: '1.234,5' is no number"),
-            ({"fleet": FLEET_CSV.replace("500", "5.000")},
-             "fleet.csv: line 3: vehicles: 5.000 has a point, and the field is a whole number"),
-            ({"fleet": FLEET_CSV.replace("2,3,", "2,,")}, "fleet.csv: line 3: row: technology is missing"),
-            ({"parking": PARKING_HEADER + "0.5,1,1,1\n0.5,1,2,1\n"},
-             "parking.csv: line 3: duration 0.5 is given twice"),
-            ({"parking": PARKING_HEADER + "0.7,1,1,1\n"}, "parking.csv: line 2: duration: '0.7' is not 0.5 to 12"),
-            ({"parking": PARKING_HEADER + "".join("%g,1,%d,1\n" % (d / 2, d) for d in range(1, 24))},
-             "parking.csv: duration: all of 0.5 to 12 are wanted; 12 is missing"),
-            ({"parking": PARKING_HEADER + "0.5,1,1,1\n"},
-             "parking.csv: duration: all of 0.5 to 12 are wanted; 1, 1.5, 2 and 20 more are missing"),
-        ):
+        for changed, said in TABLE_MISTAKES:
             with self.subTest(said):
                 folder = self.put_folder(**changed)
                 found = run("write", folder, "-o", self.folder / "b.evp")
