@@ -1,12 +1,14 @@
-//! The report in f64, with the standard library's `exp`: the masses of each row in milligrams, with no bound
-//! on their error. Three programs, each with more shared among the rows than the one before: `plain`, as a
-//! user would write it; `shared`, with the rises of the parkings once a season; and `all`, with every saving
-//! that the whole-number program knows.
-pub mod all;
-pub mod plain;
-pub mod shared;
+//! The report in f64: the masses of each row in milligrams, with no bound on their error. Three programs with
+//! the standard library's `exp`, each with more shared among the rows than the one before: `plain`, as a user
+//! would write it; `shared`, with the rises of the parkings once a season; and `all`, with every saving that
+//! the whole-number program knows. A fourth is `all` with a short exponential of its own, as that program has.
+mod all;
+mod exponential;
+mod plain;
+mod shared;
 
 use common::sheet::{Refusal, Row, Sheet};
+use exponential::{Short, Standard};
 
 /// Diurnal, soak and running.
 pub type Masses = [f64; 3];
@@ -14,10 +16,11 @@ pub type Masses = [f64; 3];
 /// A sheet's masses, row by row.
 pub type Program = fn(&[u8]) -> Result<Vec<Masses>, Refusal>;
 
-pub const PROGRAMS: [(&str, Program); 3] = [
+pub const PROGRAMS: [(&str, Program); 4] = [
     ("plain, as a user would write it", plain::report),
     ("the rises of the parkings once a season", shared::report),
-    ("list, 25 marks, raises and exponents hoisted", all::report),
+    ("list, 25 marks, raises and exponents hoisted", all::report::<Standard>),
+    ("list, 25 marks, hoisted, a short exponential", all::report::<Short>),
 ];
 
 const MARKS: usize = 48;
