@@ -2,6 +2,8 @@
 use bounds::exp::ZERO;
 use bounds::exp::exponential;
 use bounds::fixed::mul_shift;
+use bounds::hours::WARMEST;
+use bounds::hours::apart;
 use bounds::hours::weights_table;
 use bounds::order::minus;
 use bounds::power::power;
@@ -9,10 +11,9 @@ use exact::Season;
 use fields::warmth;
 ghost use mathlib.Core.Path.{_≡_};
 ghost use Prim.Native.Nat.{ℕ, _+_, _*_, _-_, _/_, _%_, _^_, _<_, _≤_};
-ghost use lib.ListN.{getD};
 ghost use Rattle.bounds.specs.Exponential.{entries};
-ghost use Rattle.numbers.specs.Lists.{tab, AllAtMost};
-ghost use Rattle.bounds.specs.Weights.{weights};
+ghost use Rattle.numbers.specs.Lists.{tab, at, AllAtMost};
+ghost use Rattle.bounds.specs.Weights.{weights, apart, ahead};
 ghost use Rattle.sheet.specs.Limits.{vpLimit};
 ghost use Rattle.sheet.specs.Range.{warmth, warmthLimit, markWarmth, SeasonInRange};
 ghost use Rattle.marks.specs.AtMarks.{AtMarks};
@@ -66,7 +67,7 @@ fn between(lowest: u64, span: u64, weight: u64) -> u64
 // The temperatures at the marks, from the lowest of the day and the span up to the highest.
 fn temperatures(lowest: u64, span: u64, weights: [u64; 48]) -> [u64; 48]
     requires { ⌜ (lowest ≤ warmthLimit) × (span ≤ warmthLimit) × AllAtMost (10 ^ 9) weights ⌝ }
-    ensures { λ r. ⌜ r ≡ tab (λ (i : ℕ). lowest * 10 ^ 9 + span * getD weights i 0) 48 ⌝ }
+    ensures { λ r. ⌜ r ≡ tab (λ (i : ℕ). lowest * 10 ^ 9 + span * at weights i) 48 ⌝ }
 {
     let mut out = [0u64; 48];
     let mut i: usize = 0;
@@ -87,6 +88,33 @@ fn season_temperatures(season: Season) -> [u64; 48]
     temperatures(lowest, span, weights_table())
 }
 
+// Of values by mark those of the marks before 14:00, by distance from it.
+pub fn by_distance(values: &[u64; 48]) -> [u64; 25]
+    ensures { λ r. ⌜ r ≡ tab (λ (d : ℕ). at (now (values .entry)) (ahead d)) 25 ⌝ }
+{
+    let mut out = [0u64; 25];
+    let mut d: usize = 0;
+    while d < 25 {
+        out[d] = values[WARMEST - d];
+        d += 1;
+    }
+    out
+}
+
+// At each mark the value of its distance from 14:00.
+fn by_mark(values: &[u64; 25]) -> [u64; 48]
+    ensures { λ r. ⌜ r ≡ tab (λ (i : ℕ). at (now (values .entry)) (apart i)) 48 ⌝ }
+{
+    let mut out = [0u64; 48];
+    let mut i: usize = 0;
+    while i < 48 {
+        let d = apart(i);
+        out[i] = values[d];
+        i += 1;
+    }
+    out
+}
+
 // E(0.0716 T), up to 56 °C.
 fn heat_at(tables: &[u64; 1907], warmth: u64) -> u64
     requires { ⌜ (now tables ≡ entries) × (warmth ≤ 86 * 10 ^ 10) ⌝ }
@@ -95,16 +123,16 @@ fn heat_at(tables: &[u64; 1907], warmth: u64) -> u64
     exponential(tables, 716 * warmth + COLDEST)
 }
 
-// E(0.0716 T) at the marks.
-fn heats(tables: &[u64; 1907], warmths: [u64; 48]) -> [u64; 48]
+// E(0.0716 T) at each distance from 14:00.
+fn heats(tables: &[u64; 1907], warmths: [u64; 25]) -> [u64; 25]
     requires { ⌜ (now tables ≡ entries) × AllAtMost (80 * 10 ^ 10) warmths ⌝ }
-    ensures { λ r. ⌜ (r ≡ tab (λ (i : ℕ). heat (getD warmths i 0)) 48) × AllAtMost (56 * 2 ^ 40) r ⌝ }
+    ensures { λ r. ⌜ (r ≡ tab (λ (d : ℕ). heat (at warmths d)) 25) × AllAtMost (56 * 2 ^ 40) r ⌝ }
 {
-    let mut out = [0u64; 48];
-    let mut i: usize = 0;
-    while i < 48 {
-        out[i] = heat_at(tables, warmths[i]);
-        i += 1;
+    let mut out = [0u64; 25];
+    let mut d: usize = 0;
+    while d < 25 {
+        out[d] = heat_at(tables, warmths[d]);
+        d += 1;
     }
     out
 }
@@ -119,7 +147,7 @@ fn above(a: u64, b: u64, error: u64) -> u64
 
 // The rise of E(0.0716 T) from each mark to the next, where it rises.
 fn steps(heats: [u64; 48]) -> [u64; 48]
-    ensures { λ r. ⌜ r ≡ tab (λ (i : ℕ). getD heats ((i + 1) % 48) 0 - getD heats i 0) 48 ⌝ }
+    ensures { λ r. ⌜ r ≡ tab (λ (i : ℕ). at heats ((i + 1) % 48) - at heats i) 48 ⌝ }
 {
     let mut out = [0u64; 48];
     let mut i: usize = 0;
@@ -130,16 +158,16 @@ fn steps(heats: [u64; 48]) -> [u64; 48]
     out
 }
 
-// The rise of E(0.0716 T) at each mark when T is raised.
-fn raises(tables: &[u64; 1907], warmths: [u64; 48], heats: [u64; 48], raise: u64) -> [u64; 48]
+// The rise of E(0.0716 T) at each distance when T is raised.
+fn raises(tables: &[u64; 1907], warmths: [u64; 25], heats: [u64; 25], raise: u64) -> [u64; 25]
     requires { ⌜ (now tables ≡ entries) × AllAtMost (80 * 10 ^ 10) warmths × AllAtMost (56 * 2 ^ 40) heats × (raise ≤ 6 * 10 ^ 10) ⌝ }
-    ensures { λ r. ⌜ r ≡ tab (λ (i : ℕ). heat (getD warmths i 0 + raise) - (getD heats i 0 + raisedError)) 48 ⌝ }
+    ensures { λ r. ⌜ r ≡ tab (λ (d : ℕ). heat (at warmths d + raise) - (at heats d + raisedError)) 25 ⌝ }
 {
-    let mut out = [0u64; 48];
-    let mut i: usize = 0;
-    while i < 48 {
-        out[i] = above(heat_at(tables, warmths[i] + raise), heats[i], RAISED_ERROR);
-        i += 1;
+    let mut out = [0u64; 25];
+    let mut d: usize = 0;
+    while d < 25 {
+        out[d] = above(heat_at(tables, warmths[d] + raise), heats[d], RAISED_ERROR);
+        d += 1;
     }
     out
 }
@@ -163,40 +191,61 @@ fn rate_at(pressure: u64, warmth: u64) -> u64
     )
 }
 
-// Permeation per hour at the marks, each temperature raised.
-fn rates(pressure: u64, warmths: [u64; 48], raise: u64) -> [u64; 48]
+// Permeation per hour at each distance, each temperature raised.
+fn rates(pressure: u64, warmths: [u64; 25], raise: u64) -> [u64; 25]
     requires { ⌜ (pressure < 2 ^ 46) × AllAtMost (80 * 10 ^ 10) warmths × (raise ≤ 15 * 10 ^ 10) ⌝ }
-    ensures { λ r. ⌜ r ≡ tab (λ (i : ℕ). pressure * bracketUnits (getD warmths i 0 + raise) / 2 ^ 40) 48 ⌝ }
+    ensures { λ r. ⌜ r ≡ tab (λ (d : ℕ). pressure * bracketUnits (at warmths d + raise) / 2 ^ 40) 25 ⌝ }
 {
-    let mut out = [0u64; 48];
-    let mut i: usize = 0;
-    while i < 48 {
-        out[i] = rate_at(pressure, warmths[i] + raise);
-        i += 1;
+    let mut out = [0u64; 25];
+    let mut d: usize = 0;
+    while d < 25 {
+        out[d] = rate_at(pressure, warmths[d] + raise);
+        d += 1;
     }
     out
 }
 
-// The values of a season at its marks. The tables are those that `tables` of `bounds` gives.
+// The same at the marks.
+fn mark_rates(pressure: u64, warmths: [u64; 25], raise: u64) -> [u64; 48]
+    requires { ⌜ (pressure < 2 ^ 46) × AllAtMost (80 * 10 ^ 10) warmths × (raise ≤ 15 * 10 ^ 10) ⌝ }
+    ensures { λ r. ⌜ r ≡ tab (λ (i : ℕ). pressure * bracketUnits (at warmths (apart i) + raise) / 2 ^ 40) 48 ⌝ }
+{
+    let by = rates(pressure, warmths, raise);
+    by_mark(&by)
+}
+
+// The rises at the marks.
+fn mark_raises(tables: &[u64; 1907], warmths: [u64; 25], heats: [u64; 25], raise: u64) -> [u64; 48]
+    requires { ⌜ (now tables ≡ entries) × AllAtMost (80 * 10 ^ 10) warmths × AllAtMost (56 * 2 ^ 40) heats × (raise ≤ 6 * 10 ^ 10) ⌝ }
+    ensures { λ r. ⌜ r ≡ tab (λ (i : ℕ). heat (at warmths (apart i) + raise) - (at heats (apart i) + raisedError)) 48 ⌝ }
+{
+    let by = raises(tables, warmths, heats, raise);
+    by_mark(&by)
+}
+
+// The values of a season at its marks, each made once for the marks of one temperature. The tables are those that `tables` of `bounds`
+// gives.
 pub fn at_marks(tables: &[u64; 1907], season: Season) -> Marks
     requires { ⌜ (now tables ≡ entries) × SeasonInRange season ⌝ }
     ensures { λ r. ⌜ AtMarks season r ⌝ }
 {
     let warmth = season_temperatures(season);
-    let heat = heats(tables, warmth);
+    let few = by_distance(&warmth);
+    let heat = heats(tables, few);
+    let step = steps(by_mark(&heat));
     let pressure = pressure_factor(tables, season.vp);
     Marks {
         warmth,
-        step: steps(heat),
-        rate: rates(pressure, warmth, 0),
-        soak: rates(pressure, warmth, 110 * TENTH),
-        run: rates(pressure, warmth, 150 * TENTH),
-        raise10: raises(tables, warmth, heat, 10 * TENTH),
-        raise15: raises(tables, warmth, heat, 15 * TENTH),
-        raise25: raises(tables, warmth, heat, 25 * TENTH),
-        raise35: raises(tables, warmth, heat, 35 * TENTH),
-        raise45: raises(tables, warmth, heat, 45 * TENTH),
-        raise50: raises(tables, warmth, heat, 50 * TENTH),
-        raise60: raises(tables, warmth, heat, 60 * TENTH),
+        step,
+        rate: mark_rates(pressure, few, 0),
+        soak: mark_rates(pressure, few, 110 * TENTH),
+        run: mark_rates(pressure, few, 150 * TENTH),
+        raise10: mark_raises(tables, few, heat, 10 * TENTH),
+        raise15: mark_raises(tables, few, heat, 15 * TENTH),
+        raise25: mark_raises(tables, few, heat, 25 * TENTH),
+        raise35: mark_raises(tables, few, heat, 35 * TENTH),
+        raise45: mark_raises(tables, few, heat, 45 * TENTH),
+        raise50: mark_raises(tables, few, heat, 50 * TENTH),
+        raise60: mark_raises(tables, few, heat, 60 * TENTH),
     }
 }

@@ -3,10 +3,10 @@
 use crate::grid::ENDS;
 use crate::grid::STARTS;
 use crate::grid::SUM;
-use bounds::hours::WARMEST;
+use marks::by_distance;
 ghost use mathlib.Core.Path.{_≡_};
 ghost use Prim.Native.Nat.{ℕ, _^_, _≤_};
-ghost use Rattle.numbers.specs.Lists.{tab, at, AllAtMost};
+ghost use Rattle.numbers.specs.Lists.{at, AllAtMost};
 ghost use Rattle.bounds.specs.Weights.{ahead};
 ghost use Rattle.factors.specs.Means.{meanUnits};
 ghost use Rattle.parking.specs.Grid.{apartOf, cellsIn, apartPlace, GridReady};
@@ -48,19 +48,6 @@ pub fn mean_by_distance(grid: &[u64; 627], ends: bool, values: &[u64; 25]) -> u6
         d += 1;
     }
     sum / grid[SUM]
-}
-
-// Of values by mark those of the marks before 14:00, by distance from it.
-pub fn by_distance(values: &[u64; 48]) -> [u64; 25]
-    ensures { λ r. ⌜ r ≡ tab (λ (d : ℕ). at (now (values .entry)) (ahead d)) 25 ⌝ }
-{
-    let mut out = [0u64; 25];
-    let mut d: usize = 0;
-    while d < 25 {
-        out[d] = values[WARMEST - d];
-        d += 1;
-    }
-    out
 }
 
 // The mean of values by mark, each taken from the mark before 14:00 that is as far from it.

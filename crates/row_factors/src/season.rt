@@ -4,7 +4,7 @@ use breakthrough::curves::growths;
 use exact::Season;
 use marks::Marks;
 use marks::at_marks;
-use parking::means::by_distance;
+use marks::by_distance;
 use parking::means::mean_by_cell;
 use parking::means::mean_by_mark;
 use parking::season_list::list_of;

@@ -1,4 +1,4 @@
--- `parking::means::by_distance` meets its contract: the first distances hold their values.
+-- `marks::by_distance` meets its contract: the first distances hold their values.
 use mathlib.Core.Path.{refl}
 use Prim.Native.Nat.{ℕ, _-_}
 use native.Mathlib.Omega.{arith}
@@ -7,8 +7,8 @@ use Rattle.numbers.specs.Lists.{at}
 use Rattle.numbers.proofs.Lists.{Filled, filled-none, filled-more, filled-all}
 use Rattle.bounds.specs.Weights.{ahead}
 use borrow.Author.Needs.{needs}
-use Rattle.parking.proofs.means.by_distance.Statement.{statement}
-use Rattle.parking.proofs.means.by_distance.Tie as tie
+use Rattle.marks.proofs.by_distance.Statement.{statement}
+use Rattle.marks.proofs.by_distance.Tie as tie
 
 abbrev Inv-loop : tie.InvT-loop
 Inv-loop values out₀ d₀ out d = Filled (λ (k : ℕ). at values (ahead k)) 25 d out
