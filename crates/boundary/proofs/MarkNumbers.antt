@@ -57,30 +57,40 @@ numbers-mark : (f : Filed) (low high : ℕ) (v : Verdict) → Marked f low high 
 unfolding verdictNumbers
 numbers-mark f low high Agrees m = record {
   every = λ x i. record { agrees = λ e. (m .every x i) .agrees refl; low = λ e. absurd (omega arith); high = λ e. absurd (omega arith) };
+  far-low = λ e. absurd (omega arith);
+  far-high = λ e. absurd (omega arith);
   fits = λ e. absurd (omega arith);
   read = λ n. m .read (λ e. let z : _≡_ {A = ℕ} 0 1 = cc in absurd (omega arith));
   unread = λ e. absurd (omega arith);
 }
 numbers-mark f low high Fits m = record {
   every = λ x i. record { agrees = λ e. absurd (omega arith); low = λ e. absurd (omega arith); high = λ e. absurd (omega arith) };
+  far-low = λ e. absurd (omega arith);
+  far-high = λ e. absurd (omega arith);
   fits = λ e. m .fits refl;
   read = λ n. m .read (λ e. let z : _≡_ {A = ℕ} 0 1 = cc in absurd (omega arith));
   unread = λ e. absurd (omega arith);
 }
 numbers-mark f low high (Low d) m = record {
   every = λ x i. record { agrees = λ e. absurd (omega arith); low = λ e. (m .every x i) .low d refl; high = λ e. absurd (omega arith) };
+  far-low = λ e. m .far-low d refl;
+  far-high = λ e. absurd (omega arith);
   fits = λ e. absurd (omega arith);
   read = λ n. m .read (λ e. let z : _≡_ {A = ℕ} 0 1 = cc in absurd (omega arith));
   unread = λ e. absurd (omega arith);
 }
 numbers-mark f low high (High d) m = record {
   every = λ x i. record { agrees = λ e. absurd (omega arith); low = λ e. absurd (omega arith); high = λ e. (m .every x i) .high d refl };
+  far-low = λ e. absurd (omega arith);
+  far-high = λ e. m .far-high d refl;
   fits = λ e. absurd (omega arith);
   read = λ n. m .read (λ e. let z : _≡_ {A = ℕ} 0 1 = cc in absurd (omega arith));
   unread = λ e. absurd (omega arith);
 }
 numbers-mark f low high Unreadable m = record {
   every = λ x i. record { agrees = λ e. absurd (omega arith); low = λ e. absurd (omega arith); high = λ e. absurd (omega arith) };
+  far-low = λ e. absurd (omega arith);
+  far-high = λ e. absurd (omega arith);
   fits = λ e. absurd (omega arith);
   read = λ n. absurd (n refl);
   unread = λ e. m .unread refl;

@@ -1,7 +1,7 @@
 -- A filed figure and its verdict for a program in another language: numbers alone. Definitions only.
 use mathlib.Core.Bool.{cond}
 use mathlib.Core.Path.{_≡_}
-use Prim.Native.Nat.{ℕ, _≤_, _<_}
+use Prim.Native.Nat.{ℕ, _+_, _≤_, _<_}
 use lib.Dec.{eqb}
 use Rattle.numbers.specs.Fraction.{Fraction, _≤ᶠ_, _<ᶠ_, _+ᶠ_, whole}
 use Rattle.marking.specs.declared.Unit.{Unit}
@@ -49,6 +49,8 @@ pub record NumbersTell (f : Filed) (r : EvpVerdict) (x : Fraction) : Type 0 wher
 -- what holds of them for a figure with a unit, as `Marked` has it
 pub record NumbersMark (f : Filed) (low high : ℕ) (r : EvpVerdict) : Type 0 where
   pub every : (x : Fraction) → InBand low high x → NumbersTell f r x
+  pub far-low : r .verdict ≡ 2 → whole low <ᶠ most f +ᶠ whole (r .off + 1)
+  pub far-high : r .verdict ≡ 3 → least f <ᶠ whole high +ᶠ whole (r .off + 1)
   pub fits : r .verdict ≡ 1 → low ≤ high → Unsettled f low high
   pub read : ¬ (r .verdict ≡ 4) → Readable f
   pub unread : r .verdict ≡ 4 → ¬ Readable f
