@@ -2,6 +2,7 @@
 
 import argparse
 import sys
+from collections.abc import Iterable
 from pathlib import Path
 
 from tools.check import (
@@ -10,7 +11,7 @@ from tools.check import (
 from tools.command import add_command, described, report, run
 
 
-def finish(name: str, faults, said: str) -> int:
+def finish(name: str, faults: Iterable[str], said: str) -> int:
     """Prints what is wrong, or that nothing is, and gives the exit status."""
     status = report("check " + name, faults)
     if not status:
@@ -25,9 +26,8 @@ def run_samples(given: argparse.Namespace) -> int:
 
 def run_pressures(_: argparse.Namespace) -> int:
     found, counts = pressures.check()
-    return finish("pressures", found,
-                  "%d pairs of sheets: %d masses of %d rows without canister are in order, %d with bands apart" % (
-        counts.pairs, 3 * counts.rows, counts.rows, counts.apart))
+    said = "%d pairs of sheets: %d masses of %d rows without canister are in order, %d with bands apart"
+    return finish("pressures", found, said % (counts.pairs, 3 * counts.rows, counts.rows, counts.apart))
 
 
 def run_edits(given: argparse.Namespace) -> int:

@@ -8,7 +8,7 @@ one, on which every row takes the same time; it goes through the last figure.
 """
 
 import math
-from collections.abc import Iterator
+from collections.abc import Iterator, Sequence
 from html import escape
 from itertools import product
 
@@ -49,19 +49,19 @@ def read(text: str) -> tuple[str, list[tuple[int, float]]]:
 class Axis:
     """Values from one power of ten to another, as places on the picture."""
 
-    def __init__(self, values, first, last):
+    def __init__(self, values: Sequence[float], first: float, last: float):
         self.low, self.high = math.floor(math.log10(min(values))), math.ceil(math.log10(max(values)))
         self.high += self.low == self.high
         self.first, self.last = first, last
 
-    def at(self, value):
+    def at(self, value: float) -> float:
         share = (math.log10(value) - self.low) / (self.high - self.low)
         return self.first + share * (self.last - self.first)
 
-    def powers(self):
+    def powers(self) -> list[float]:
         return [10 ** i for i in range(self.low, self.high + 1)]
 
-    def minor(self):
+    def minor(self) -> list[float]:
         """What lies between the powers."""
         return [m * 10 ** i for i, m in product(range(self.low, self.high), range(2, 10))]
 

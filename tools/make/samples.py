@@ -1,8 +1,8 @@
 """The sheets of the samples, each made from its text; and the text samples/districts.txt.
 
-This is a made-up region of twelve districts, each with its fleet in 25 rows,
-300 rows in all, for a sheet of version 4. All figures are invented; the shares of carburettors and the trips are of the
-size that the guidebook has (section 3.3.3, Table 3-7).
+This is a made-up region of twelve districts, each with its fleet in 25 rows, 300 rows in all, for a sheet of version 4.
+All figures are invented; the shares of carburettors and the trips are of the size that the guidebook has (section
+3.3.3, Table 3-7).
 """
 
 from collections.abc import Iterator

@@ -43,7 +43,7 @@ def entry(c: Fraction, n: int) -> int:
         low, high = 1 / high, 1 / low
     cut = UNIT * low // 1
     if UNIT * high > cut + 1:
-        raise MakeError(f"the entry at {c} is more than one unit wide at n = {n}")
+        raise MakeError("the entry at %s is more than one unit wide at n = %d" % (c, n))
     return int(cut)
 
 
@@ -56,12 +56,12 @@ FAR_ABOVE = [int(-(-FAR_UNIT * bounds(Fraction(c), 40)[1] // 1)) for c in range(
 
 def source(entries: list[int]) -> str:
     """As rt fmt lays an array out."""
-    return "".join(f"    {e},\n" for e in entries)
+    return "".join("    %d,\n" % e for e in entries)
 
 
 def listed(entries: list[int]) -> str:
     """As a list of antt up to its end, eight to a line."""
-    rows = [entries[i : i + 8] for i in range(0, len(entries), 8)]
+    rows = [entries[i:i + 8] for i in range(0, len(entries), 8)]
     return "\n".join("    " + " ∷ ".join(map(str, row)) + " ∷" for row in rows) + " "
 
 
@@ -80,8 +80,8 @@ def files() -> Iterator[MadeFile]:
     """The files with their tables put in; each is written once, with all of its tables."""
     texts = {path: (TOP / path).read_text(encoding="utf-8") for path, *_ in PLACES}
     for path, before, entries, after in PLACES:
-        pattern = f"({before}).*?(?={after})"
+        pattern = "(%s).*?(?=%s)" % (before, after)
         texts[path], found = re.subn(pattern, lambda match: match.group(1) + entries, texts[path], flags=re.S)
         if found != 1:
-            raise MakeError(f"{path}: no place for a table")
+            raise MakeError("%s: no place for a table" % path)
     return (MadeFile(path, text.encode()) for path, text in texts.items())

@@ -30,7 +30,7 @@ from tools.reckoning.text import answer_text, cut, shown
 __all__ = [
     "CANISTER_S", "CLASS_TABLE", "E", "NONE", "RIGHT", "Reading", "Row", "Season", "Sheet", "WEIGHTS", "answer_text",
     "canister_a_b", "canister_of", "check", "counts_of", "cut", "driven", "factor", "is_two_wheeler", "load_of",
-    "masses", "power_2_5",
-    "read", "row_at", "row_count", "row_place", "seasons_start", "series", "seven_factors", "shown", "start_mark",
-    "starting_load", "table_entry", "tank_of", "temperature", "version_of", "weight_exponent", "with_counts",
+    "masses", "power_2_5", "read", "row_at", "row_count", "row_place", "seasons_start", "series", "seven_factors",
+    "shown", "start_mark", "starting_load", "table_entry", "tank_of", "temperature", "version_of", "weight_exponent",
+    "with_counts",
 ]

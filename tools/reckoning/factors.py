@@ -7,7 +7,7 @@ from typing import NamedTuple
 
 from tools.reckoning.format import Grid, Row, Season, Sheet, canister_of, is_two_wheeler, tank_of
 from tools.reckoning.mileage import load_of
-from tools.reckoning.numbers import Mode, numbers_of, power_2_5
+from tools.reckoning.numbers import Mode, Number, Numbers, numbers_of, power_2_5
 from tools.reckoning.quantities import canister_a_b, start_mark, temperature
 from tools.reckoning.tables import CANISTER_S, NONE
 
@@ -27,7 +27,7 @@ class Day:
     """A season's day of 48 marks. What depends on the season alone is
     reckoned once and kept, as every row asks for it again."""
 
-    def __init__(self, season, n, mode, reading=RIGHT):
+    def __init__(self, season: Season, n: int, mode: Mode, reading: Reading = RIGHT):
         self.season = season
         self.n = n
         self.mode = mode
@@ -38,21 +38,21 @@ class Day:
         self.rises = tuple(self.T[(i + 1) % 48] > self.T[i] for i in range(48))  # from mark i to the next
         self.vapour_vp = self._E(Fraction(205, 10000) * vp)
         self.permeation_vp = self._E(Fraction(4, 1000) * vp)
-        self._heat = {}
-        self._permeation = {}
-        self._canister = {}
+        self._heat: dict[tuple[int, Fraction | int], Number] = {}
+        self._permeation: dict[tuple[int, int], Number] = {}
+        self._canister: dict[int, tuple[Fraction, Fraction]] = {}
 
-    def _E(self, y):
+    def _E(self, y: Fraction) -> Number:
         return self.numbers.E(self.numbers.number(y))
 
-    def heat(self, i, rise=0):
+    def heat(self, i: int, rise: Fraction | int = 0) -> Number:
         """E(0.0716.(T(i) + rise)), what eq. 8 takes the difference of."""
         key = i, rise
         if key not in self._heat:
             self._heat[key] = self._E(Fraction(716, 10000) * (self.T[i] + rise))
         return self._heat[key]
 
-    def permeation(self, i, rise=0):
+    def permeation(self, i: int, rise: int = 0) -> Number:
         """Permeation per hour at T(i) + rise (eq. 14)."""
         key = i, rise
         if key not in self._permeation:
@@ -62,13 +62,13 @@ class Day:
                 self.permeation_vp, self.numbers.number(bracket))
         return self._permeation[key]
 
-    def canister(self, i):
+    def canister(self, i: int) -> tuple[Fraction, Fraction]:
         """a and b of a canister at T(i) (eqs. 10 and 11)."""
         if i not in self._canister:
             self._canister[i] = canister_a_b(self.season, self.T[i])
         return self._canister[i]
 
-    def vapour(self, row, heat):
+    def vapour(self, row: Row, heat: Number) -> Number:
         """Vapour in grams for a difference of heat (eq. 8)."""
         return self.numbers.scaled(self.numbers.times(self.vapour_vp, heat), _vapour_share(row))
 
@@ -89,7 +89,7 @@ class Escape:
     """What escapes of a row's vapour when the escape starts at mark i: all of
     it without a canister, the breakthrough with one."""
 
-    def __init__(self, day, row, i):
+    def __init__(self, day: Day, row: Row, i: int):
         self.numbers = day.numbers
         self.cut = day.reading.cut
         self.fitted = canister_of(row) != NONE
@@ -102,13 +102,14 @@ class Escape:
             self.m_sat = self.numbers.number(Fraction(row.saturation, 10))
             self.lost_before = self.lost(self.m1)
 
-    def lost(self, m):
+    def lost(self, m: Number) -> Number:
         """B(m): beyond m_sat the canister holds no more and all of it is lost."""
         if m > self.m_sat:
             return self.lost(self.m_sat) + (0 if self.cut else m - self.m_sat)
         return self.numbers.E(self.a + self.numbers.scaled(m, self.bs))
 
-    def of(self, v):
+    def of(self, v: Number) -> Number:
+        """What escapes of so much vapour."""
         if not self.fitted:
             return v
         return self.lost(self.m1 + v) - self.lost_before
@@ -124,11 +125,11 @@ def parkings(sheet: Sheet) -> list[tuple[int, int, int]]:
     ]
 
 
-def _mean(sheet: Sheet, numbers, total):
+def _mean(sheet: Sheet, numbers: Numbers, total: Number) -> Number:
     return numbers.scaled(total, Fraction(1, sum(map(sum, sheet.grid))))
 
 
-def _mean_at_start(sheet: Sheet, day: Day, value: Callable):
+def _mean_at_start(sheet: Sheet, day: Day, value: Callable[[int], Number]) -> Number:
     """Mean over the cells of what depends on the start mark alone."""
     weights = [0] * 48
     for d, t, count in parkings(sheet):
@@ -136,7 +137,7 @@ def _mean_at_start(sheet: Sheet, day: Day, value: Callable):
     return _mean(sheet, day.numbers, sum(w * value(i) for i, w in enumerate(weights) if w))
 
 
-def _mean_at_end(sheet: Sheet, day: Day, value: Callable):
+def _mean_at_end(sheet: Sheet, day: Day, value: Callable[[int], Number]) -> Number:
     """Mean over the cells of what depends on the end mark alone."""
     weights = [0] * 48
     for d, t, count in parkings(sheet):
@@ -144,8 +145,8 @@ def _mean_at_end(sheet: Sheet, day: Day, value: Callable):
     return _mean(sheet, day.numbers, sum(w * value(i) for i, w in enumerate(weights) if w))
 
 
-def _diurnal(sheet: Sheet, day: Day, row: Row):
-    by_start = {}
+def _diurnal(sheet: Sheet, day: Day, row: Row) -> Number:
+    by_start: dict[int, dict[int, int]] = {}
     for d, t, count in parkings(sheet):
         by_start.setdefault(start_mark(t, d), {})[d] = count
     total = 0
@@ -167,9 +168,9 @@ def _diurnal(sheet: Sheet, day: Day, row: Row):
     return _mean(sheet, day.numbers, total)
 
 
-def _raised(day: Day, row: Row, rise: Fraction) -> Callable:
+def _raised(day: Day, row: Row, rise: Fraction) -> Callable[[int], Number]:
     """Escape of the vapour from T(i) to T(i) + rise, as a function of i."""
-    def value(i):
+    def value(i: int) -> Number:
         v = day.vapour(row, day.heat(i, rise) - day.heat(i))
         return Escape(day, row, i).of(v)
     return value
@@ -182,7 +183,7 @@ SOAK_RISE_TWO = {2: Fraction(3, 2), 3: Fraction(7, 2), 4: Fraction(7, 2)}
 RUNNING_RISE_TWO = {5: Fraction(1), 6: Fraction(5, 2), 7: Fraction(5, 2)}
 
 
-def _factor(sheet: Sheet, day: Day, row: Row, k: int):
+def _factor(sheet: Sheet, day: Day, row: Row, k: int) -> Number:
     if k == 1:
         return _diurnal(sheet, day, row)
     if is_two_wheeler(row):

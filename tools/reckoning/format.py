@@ -6,7 +6,6 @@ from typing import NamedTuple
 
 from tools.reckoning.tables import BY_CLASS, table_entry
 
-
 # The counts of the grid: for each end hour those of its 24 durations.
 Grid = tuple[tuple[int, ...], ...]
 
@@ -57,6 +56,7 @@ def _u32(data: bytes, at: int) -> int:
 
 
 def counts_at(data: bytes, at: int, many: int) -> tuple[int, ...]:
+    """So many counts of two bytes from an offset on."""
     return tuple(_u16(data, at + 2 * i) for i in range(many))
 
 
@@ -144,11 +144,8 @@ def is_two_wheeler(row: Row) -> bool:
 
 
 def grid_of(data: bytes) -> Grid:
+    """The counts of the cells: the grid, or in version 1 the products of its two lists."""
     if has_grid(data):
         return tuple(counts_at(data, 8 + 48 * i, 24) for i in range(24))
     durations, hours = counts_at(data, 8, 24), counts_at(data, 56, 24)
     return tuple(tuple(j * q for j in durations) for q in hours)
-
-
-def counts_at(data: bytes, at: int, many: int) -> tuple[int, ...]:
-    return tuple(_u16(data, at + 2 * i) for i in range(many))

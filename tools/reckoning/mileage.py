@@ -5,12 +5,12 @@ import math
 from fractions import Fraction
 
 from tools.reckoning.format import Row, Season, canister_of
-from tools.reckoning.numbers import ExactNumbers, Mode, Numbers, ScaledNumbers
+from tools.reckoning.numbers import ExactNumbers, Mode, Number, Numbers, ScaledNumbers
 from tools.reckoning.quantities import canister_a_b
 from tools.reckoning.tables import CANISTER_S
 
 
-def driven(numbers: Numbers, a: Fraction, b: Fraction, s: Fraction, m: Fraction):
+def driven(numbers: Numbers, a: Fraction, b: Fraction, s: Fraction, m: Fraction) -> Number:
     """E((s.g + 22.92)/8.13), the kilometres of a load of m grams (eq. 12), with
     g = m - E(a + b.s.m), what the canister keeps of it (eq. 9)."""
     m = numbers.number(m)

@@ -30,10 +30,11 @@ So factors and masses are off by less than 2^104 units, that is 2^-280 or
 
 import math
 from fractions import Fraction
-from typing import Literal
+from typing import Any, Literal
 
 BITS = 384
 Mode = Literal["exact", "decimal"]
+Number = Any  # in mode exact a Fraction, in mode decimal a whole number of units
 
 
 def series(y: Fraction, n: int) -> Fraction:
@@ -64,45 +65,45 @@ def power_2_5(T: Fraction, n: int) -> Fraction:
 class ExactNumbers:
     """Numbers are Fractions."""
 
-    def __init__(self, n):
+    def __init__(self, n: int):
         self.n = n
 
-    def number(self, x):
+    def number(self, x: Fraction | int) -> Number:
         return Fraction(x)
 
-    def fraction(self, x):
+    def fraction(self, x: Number) -> Fraction:
         return Fraction(x)
 
-    def scaled(self, x, by):
+    def scaled(self, x: Number, by: Fraction) -> Number:
         return x * by
 
-    def times(self, x, y):
+    def times(self, x: Number, y: Number) -> Number:
         return x * y
 
-    def E(self, y):
+    def E(self, y: Number) -> Number:
         return series(y, self.n) if y >= 0 else 1 / series(-y, self.n)
 
 
 class ScaledNumbers:
     """Numbers are whole numbers of units of 2^-BITS, cut downwards."""
 
-    def __init__(self, n):
+    def __init__(self, n: int):
         self.n = n
 
-    def number(self, x):
+    def number(self, x: Fraction | int) -> Number:
         x = Fraction(x)
         return (x.numerator << BITS) // x.denominator
 
-    def fraction(self, x):
+    def fraction(self, x: Number) -> Fraction:
         return Fraction(x, 1 << BITS)
 
-    def scaled(self, x, by):
+    def scaled(self, x: Number, by: Fraction) -> Number:
         return x * by.numerator // by.denominator
 
-    def times(self, x, y):
+    def times(self, x: Number, y: Number) -> Number:
         return x * y >> BITS
 
-    def E(self, y):
+    def E(self, y: Number) -> Number:
         size = abs(y)
         term = total = 1 << BITS
         for i in range(1, self.n + 1):

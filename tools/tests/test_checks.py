@@ -297,7 +297,7 @@ class ChecksTest(unittest.TestCase):
         seen = set()
         for group in (
             head_refusals, row_refusals, order_refusals, exponent_refusals, grid_refusals, mileage_refusals,
-            mileage_order_refusals,             full_rows_refusals, many_rows_refusals,
+            mileage_order_refusals, full_rows_refusals, many_rows_refusals,
         ):
             for index, (data, expected, *rest) in enumerate(group(self.BASE)):
                 with self.subTest(group=group.__name__, case=index):

@@ -42,7 +42,7 @@ def held_degrees(T: Fraction) -> int:
 def scattered(name: str, count: int, first: int, beyond: int) -> list[int]:
     """Numbers from first to beyond - 1 with no order in them, the same in
     every run and on every machine."""
-    digests = (hashlib.sha256(f"{name} {i}".encode()).digest() for i in range(count))
+    digests = (hashlib.sha256(("%s %d" % (name, i)).encode()).digest() for i in range(count))
     return [first + int.from_bytes(digest, "little") % (beyond - first) for digest in digests]
 
 
@@ -98,7 +98,7 @@ def scattered_exponents() -> list[int]:
     found += scattered("fine", 60, zero, zero + COARSE_STEP)
     for end in (Fraction(23, 10), Fraction(3), Fraction(36, 10), Fraction(41, 10)):
         beyond = held_exponent(end)
-        found += scattered(f"exponent below {end}", 30, beyond - EXPONENT_UNIT // 20, beyond)
+        found += scattered("exponent below %s" % end, 30, beyond - EXPONENT_UNIT // 20, beyond)
     return found
 
 

@@ -22,7 +22,7 @@ class Chance:
 
     def below(self, n: int) -> int:
         self.drawn += 1
-        digest = hashlib.sha256(f"{self.name} {self.drawn}".encode()).digest()
+        digest = hashlib.sha256(("%s %d" % (self.name, self.drawn)).encode()).digest()
         return int.from_bytes(digest, "little") % n
 
     def between(self, first: int, last: int) -> int:
