@@ -11,9 +11,11 @@ from tools import command
 from tools.check.__main__ import parser as check_parser
 from tools.command import MadeFile, write_or_check
 from tools.make.__main__ import parser as make_parser
+from tools.progress import parser as progress_parser
 from tools.reckoning.__main__ import main as reckoning_main
 from tools.reckoning.__main__ import parser as reckoning_parser
 from tools.sheet.__main__ import parser as sheet_parser
+from tools.tests.__main__ import parser as tests_parser
 from tools.tests.support import sample
 from tools.vectors.__main__ import parser as vectors_parser
 from tools.vectors.frame import ROOM, VectorError, VectorSet
@@ -45,6 +47,21 @@ class HelpTest(unittest.TestCase):
                     self.assertIn("example:\n  %s %s" % (top.prog, name), text)
                     example = text.rpartition("example:\n")[2].strip().removeprefix(top.prog).partition(">")[0].split()
                     top.parse_args([word.replace("-3/2", " -3/2") for word in example])
+
+    def test_help_of_single_commands(self):
+        for parser in (progress_parser, tests_parser):
+            top = parser()
+            with self.subTest(command=top.prog):
+                status, text = said(top.parse_args, "--help")
+                self.assertEqual(status, 0)
+                example = text.rpartition("example:\n")[2].partition(top.prog)[2].split()
+                self.assertTrue(example)
+                top.parse_args(example)
+
+    def test_no_such_test(self):
+        top = tests_parser()
+        status, text = said(lambda words: command.run(top, words), "-k", "nonsense")
+        self.assertEqual((status, text), (2, "tests: no test's name has nonsense in it\n"))
 
     def test_misuse(self):
         for parser in PARSERS:

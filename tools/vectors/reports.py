@@ -328,7 +328,7 @@ def missing(vectors: list[Vector]) -> Iterator[str]:
     for plan in listed_plans():
         if found[plan.data()] != found[plan.gridded().data()]:
             yield "lists and the grid of their products have other masses"
-    for words, found, wanted in (
+    for words, seen, wanted in (
         ("rows", {len(sheet.rows) for sheet in accepted}, {1, 32, 33, 256, 1000}),
         ("sums of vehicles", {sum(row.vehicles for row in sheet.rows) for sheet in accepted}, {MOST_OF_ALL}),
         ("seasons", {len(sheet.seasons) for sheet in accepted}, {1, 12}),
@@ -337,7 +337,7 @@ def missing(vectors: list[Vector]) -> Iterator[str]:
         ("days", {sum(season.days for season in sheet.seasons) for sheet in accepted}, {366}),
         ("classes", {row.vehicle_class for sheet in accepted for row in sheet.rows}, set(range(1, 10))),
     ):
-        if not wanted <= found:
+        if not wanted <= seen:
             yield "not all %s" % words
 
 
