@@ -5,8 +5,10 @@ must be there, and so must what a link leads to, with its heading. `name` in
 crates/../file.rt must be a function, a constant or a definition of that file;
 several names may stand before one `in`. In a path NAME, X, * and {..} stand for
 any name. `law` in crate/proofs/File must stand in that file; so must, in the
-tables of docs/READING.md, the definitions beside crate: File. docs/changes tell
-how things were: of these the links alone are looked at.
+tables of docs/READING.md, the definitions beside crate: File, and that page must
+speak of every file of definitions. Whatever else stands as one name in `..` must be
+a name of some source file. docs/changes tell how things were: of these the links
+alone are looked at.
 """
 
 import re
@@ -25,6 +27,9 @@ LINK = re.compile(r"\[[^\]]*\]\(([^)\s]+)\)")
 LAW = re.compile(r"`([^`]+)` in ([a-z_]+/proofs/\w+)")
 SPECS = re.compile(r"([a-z_]+): ([A-Z]\w*(?:, [A-Z]\w*)*)")
 NAMED = re.compile(r"((?:`[\w·≤⊎-]+`(?:, and |, | and | or )?)+) in (crates/[\w/-]+\.(?:rt|antt))")
+NAME = re.compile(r"`([A-Za-z][\w·-]+\w)`")
+ELSEWHERE = {"malloc"}  # names of others that a page speaks of
+SOURCES = (".rt", ".antt", ".py", ".h", ".c", ".cc", ".rs", ".edit", ".txt", "")  # what has names, by its ending
 
 
 def pages() -> list[Path]:
@@ -97,6 +102,25 @@ def law_faults(text: str) -> Iterator[str]:
             yield "crates/%s.antt has no %s" % (place, name)
 
 
+def source_names() -> set[str]:
+    """Every name of a source file, and those of the files and folders themselves."""
+    found: set[str] = set()
+    for path in TOP.rglob("*"):
+        parts = path.relative_to(TOP).parts
+        if {"target", ".git", "docs", "tests"} & set(parts) or path.suffix not in SOURCES:
+            continue
+        found.add(path.stem)
+        if path.is_file() and path.name not in ("stdin", "stdout"):
+            found.update(re.findall(r"[\w·-]*\w", path.read_text(encoding="utf-8", errors="replace")))
+    return found
+
+
+def unknown_faults(text: str, known: set[str]) -> Iterator[str]:
+    """Names of a page that no source file has."""
+    for name in sorted(set(NAME.findall(text)) - known - ELSEWHERE):
+        yield "no source file has %s" % name
+
+
 def spec_faults(text: str) -> Iterator[str]:
     """Definitions in a page's tables that their files do not have: the file in the first cell, or in that of a row
     above where it is empty, and its names in the second."""
@@ -115,11 +139,23 @@ def spec_faults(text: str) -> Iterator[str]:
                     if files and not has_word(held, name) and "_%s_" % name not in held)
 
 
+def unread_faults(text: str) -> Iterator[str]:
+    """Files of definitions that a page does not speak of; Lib only lists those of its crate."""
+    told = {(crate, file) for crate, files in SPECS.findall(" ".join(text.split())) for file in files.split(", ")}
+    for path in sorted((TOP / "crates").glob("*/specs/*.antt")):
+        crate = path.parent.parent.name
+        if path.stem != "Lib" and (crate, path.stem) not in told:
+            yield "nothing is said of %s: %s" % (crate, path.stem)
+
+
 def faults() -> Iterator[str]:
+    known = source_names()
     for path in pages():
         text = words_of(path)
-        for fault in (*link_faults(path), *path_faults(text), *function_faults(path), *law_faults(text)):
+        for fault in (*link_faults(path), *path_faults(text), *function_faults(path), *law_faults(text),
+                      *unknown_faults(text, known)):
             yield "%s: %s" % (path.relative_to(TOP), fault)
-    yield from ("%s: %s" % (READING, fault) for fault in spec_faults((TOP / READING).read_text(encoding="utf-8")))
+    reading = (TOP / READING).read_text(encoding="utf-8")
+    yield from ("%s: %s" % (READING, fault) for fault in (*spec_faults(reading), *unread_faults(reading)))
     for path in sorted((TOP / "docs" / "changes").glob("*.md")):
         yield from ("%s: %s" % (path.relative_to(TOP), fault) for fault in link_faults(path))

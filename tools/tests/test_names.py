@@ -56,6 +56,12 @@ class NamesTest(unittest.TestCase):
             with self.subTest(text=text):
                 self.assertEqual(self.told(text), [fault])
 
+    def test_unknown(self):
+        known = names.source_names()
+        self.assertLessEqual({"read", "trips-minutes", "MOST", "Limits", "crates"}, known)
+        self.assertEqual(list(names.unknown_faults("`read`, `trips-minutes`, `a / b`, `ff`, `--help`", known)), [])
+        self.assertEqual(list(names.unknown_faults("`reads` and `trips`", known)), ["no source file has trips"])
+
     def test_tables(self):
         good = "| File | Definition |\n|---|---|\n| a: Limits | `most` `≤ᶠ` |\n| | `trips-minutes` |\n"
         self.assertEqual(list(names.spec_faults(good)), [])
@@ -65,6 +71,8 @@ class NamesTest(unittest.TestCase):
             ("a: Limits", "a: Gone", "there is no crates/a/specs/Gone.antt"),
         ):
             self.assertIn(fault, list(names.spec_faults(good.replace(old, new))))
+        self.assertEqual(list(names.unread_faults(good)), [])
+        self.assertEqual(list(names.unread_faults(good.replace("a: Limits", "a: Gone"))), ["nothing is said of a: Limits"])
 
 
 class ReadmeTest(unittest.TestCase):
