@@ -78,8 +78,8 @@ def run_lines(given: argparse.Namespace) -> int:
     paths = [Path(name).resolve() for name in given.files] or list(lines.files())
     for path in lines.wrap(paths) if given.wrap else []:
         print("%s: wrapped" % path)
-    return finish("lines", lines.faults(paths), "no line of %d files passes %d characters where it can be wrapped" % (
-        len(paths), lines.LIMIT))
+    said = "no line of %d files passes %d characters, or of Rattle %d, where it can be wrapped"
+    return finish("lines", lines.faults(paths), said % (len(paths), lines.LIMIT, lines.RATTLE_LIMIT))
 
 
 def parser() -> argparse.ArgumentParser:

@@ -1,10 +1,11 @@
-"""Lines of Markdown, Python and shell files: is each at most 120 characters long?
+"""Lines of Markdown, Python and shell files: is each at most 120 characters long? Of Rattle at most 150?
 
 Three kinds of line of Markdown may be longer, since nothing can wrap them: a row
 of a table, a line of code or of output (indented or fenced), and one with no
 place to break, such as a heading or a long link. Python and shell files have no
-such line. Files under target/ are not read; those of Rattle are laid out by
-`rt fmt`, which wraps nothing.
+such line. Files of Rattle are laid out by `rt fmt`, which wraps nothing; one of
+them, of computed values, is written by a program and has longer lines. Files
+under target/ are not read.
 
 --wrap writes the paragraphs and items of Markdown anew that have a longer line.
 """
@@ -17,6 +18,8 @@ from typing import NamedTuple
 from tools.command import TOP
 
 LIMIT = 120
+RATTLE, RATTLE_LIMIT = (".rt", ".antt"), 150
+MADE = TOP / "crates/exact/proofs/Values.antt"  # fractions of a hundred digits
 SKIPPED = {"target", ".git", "__pycache__"}
 
 ITEM = re.compile(r"( *)([-*+]|\d+[.)]) +")
@@ -37,7 +40,7 @@ def files() -> Iterator[Path]:
     for path in sorted(TOP.rglob("*")):
         if not path.is_file() or SKIPPED & set(path.relative_to(TOP).parts):
             continue
-        if path.suffix in (".md", ".py", ".sh"):
+        if path.suffix in (".md", ".py", ".sh", *RATTLE) and path != MADE:
             yield path
         elif not path.suffix:
             with path.open("rb") as file:
@@ -105,10 +108,11 @@ def rewrapped(text: str) -> str:
     return "\n".join(made[:-1]) + "\n"
 
 
-def long_lines(text: str, is_markdown: bool) -> Iterator[int]:
+def long_lines(text: str, suffix: str) -> Iterator[int]:
     """The lines of a text that are too long; in Markdown those that could be shorter."""
-    if not is_markdown:
-        yield from (number for number, line in enumerate(text.splitlines(), 1) if len(line) > LIMIT)
+    if suffix != ".md":
+        limit = RATTLE_LIMIT if suffix in RATTLE else LIMIT
+        yield from (number for number, line in enumerate(text.splitlines(), 1) if len(line) > limit)
         return
     for block in blocks(text):
         for number, line in enumerate(block.lines, block.first):
@@ -120,7 +124,7 @@ def faults(paths: list[Path]) -> Iterator[str]:
     """The lines of these files that are too long."""
     for path in paths:
         text = path.read_text(encoding="utf-8")
-        for number in long_lines(text, path.suffix == ".md"):
+        for number in long_lines(text, path.suffix):
             yield "%s:%d: %d characters" % (path.relative_to(TOP), number, len(text.splitlines()[number - 1]))
 
 

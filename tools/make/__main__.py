@@ -33,7 +33,7 @@ def make_all(check: bool) -> int:
 
 
 def make_times(given: argparse.Namespace) -> int:
-    return make("times", given.check, lambda: times.files(Path(given.log).read_text(encoding="utf-8")))
+    return make("times", given.check, lambda: times.files(Path(given.log)))
 
 
 def parser() -> argparse.ArgumentParser:

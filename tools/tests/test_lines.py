@@ -35,12 +35,18 @@ class LinesTest(unittest.TestCase):
 
     def test_told(self):
         """The paragraph, the two lines of the item and its second paragraph."""
-        self.assertEqual(list(lines.long_lines(TEXT, True)), [3, 10, 11, 13])
-        self.assertEqual(len(list(lines.long_lines(TEXT, False))), 10, "elsewhere every long line is told")
+        self.assertEqual(list(lines.long_lines(TEXT, ".md")), [3, 10, 11, 13])
+        self.assertEqual(len(list(lines.long_lines(TEXT, ".py"))), 10, "elsewhere every long line is told")
+
+    def test_rattle(self):
+        text = "\n".join("x" * length for length in (120, 121, 150, 151))
+        self.assertEqual(list(lines.long_lines(text, ".sh")), [2, 3, 4])
+        self.assertEqual(list(lines.long_lines(text, ".rt")), [4])
+        self.assertEqual(list(lines.long_lines(text, ".antt")), [4])
 
     def test_wrapped(self):
         made = lines.rewrapped(TEXT)
-        self.assertEqual(list(lines.long_lines(made, True)), [])
+        self.assertEqual(list(lines.long_lines(made, ".md")), [])
         self.assertEqual(made.split(), TEXT.split(), "no word is lost")
         self.assertEqual(lines.rewrapped(made), made)
         for kept in ("# " + LONG, "| %s |" % LONG, "    " + LONG, "      " + LONG):

@@ -1,6 +1,8 @@
 """The table of the gate's times."""
 
+import tempfile
 import unittest
+from pathlib import Path
 
 from tools import crates
 from tools.make import times
@@ -37,12 +39,27 @@ class TimesTest(unittest.TestCase):
         with self.assertRaises(MakeError):
             times.read("rt: must-fail cells/band: refused, as it must be (4 s)\n")
 
-    def test_page(self):
-        """docs/TIMES.md has a time of every crate, and the sums."""
-        log = "".join("rt: %s proved (%d s)\n" % (crate, 1 + (crate == "exact")) for crate in crates.names())
-        made, = times.files(log + "rt: must-fail exact/e: refused, as it must be (9 s)\n")
+    def page(self, log: str, steps: str) -> str:
+        with tempfile.TemporaryDirectory() as folder:
+            path = Path(folder, "rt-ci.log")
+            path.write_text(log, encoding="utf-8")
+            path.with_name("steps.log").write_text(steps, encoding="utf-8")
+            made, = times.files(path)
         self.assertEqual(made.path, "docs/TIMES.md")
-        text = made.data.decode()
+        return made.data.decode()
+
+    def test_page(self):
+        """docs/TIMES.md has a time of every crate and of every step, and the sums."""
+        log = "".join("rt: %s proved (%d s)\n" % (crate, 1 + (crate == "exact")) for crate in crates.names())
+        edits = (("e", 9), ("f", 4))
+        log += "".join("rt: must-fail exact/%s: refused, as it must be (%d s)\n" % edit for edit in edits)
+        text = self.page(log, "the tests of tools/: 23 s\nrt ci: 1600 s\nthe whole gate: 1743 s\n")
         self.assertEqual(text.count("| 1 |"), len(crates.names()) - 1)
-        self.assertIn("The longest check is that of `exact`, 2 s.", text)
-        self.assertIn("Added up the proofs took %d s and the edits 9 s." % (len(crates.names()) + 1), text)
+        self.assertIn("The longest check is that of `exact`, 2 s, and\nthe longest edit exact: e, 9 s.", text)
+        self.assertIn("Added up the proofs took %d s and the edits 13 s." % (len(crates.names()) + 1), text)
+        self.assertIn("The whole gate took 29 minutes.", text)
+        self.assertTrue(text.endswith("| the tests of tools/ | 23 |\n| rt ci | 1,600 |\n"), text[-200:])
+
+    def test_gate_that_did_not_end(self):
+        with self.assertRaisesRegex(MakeError, "the time of the whole gate"):
+            times.read_steps("the tests of tools/: 23 s\n")
