@@ -70,6 +70,21 @@ class VectorTest(unittest.TestCase):
         self.assertIn("thirteen seasons: number or place is not the check's", said)
         self.assertIn("number 26 reason 1: 0 sheets", said)
 
+    def test_ends_of_limits(self):
+        """Of 1 to 12 seasons a set wants 0 and 13, which are refused, and 1 and 12, which pass."""
+        one = sample("example", ".evp")
+        twelve = one[:5] + bytes([12]) + one[6:112] + one[104:112] * 11 + one[112:]
+        wanted = {
+            "one below the least": one[:5] + bytes([0]) + one[6:],
+            "one above the most": one[:5] + bytes([13]) + one[6:],
+            "the least, which passes": one, "the most, which passes": twelve,
+        }
+        for left_out in wanted:
+            vectors = [finding_vectors.Vector(Case(words, data, None), explain(data))
+                       for words, data in wanted.items() if words != left_out]
+            said = [fault for fault in finding_vectors.missing_ends(vectors) if fault.startswith("number 4 reason 1:")]
+            self.assertEqual(said, ["number 4 reason 1: no sheet has " + left_out])
+
 
 class FindingTest(unittest.TestCase):
     """What is found on a sheet."""

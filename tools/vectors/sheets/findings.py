@@ -1,14 +1,15 @@
 """What the reckoning finds wrong on the sheets, held against their bytes.
 
 Number and place are those of the check, a field's value is read from its bytes,
-and where the limit is put there the sheet no longer stops with this reason.
+and where the limit is put there the sheet no longer stops with this reason. Some
+sheet has each limit itself and passes, and some is beyond it by one.
 """
 
 from collections import Counter
 from collections.abc import Iterator
 from typing import NamedTuple
 
-from tools.reckoning.findings import Finding, explain
+from tools.reckoning.findings import Finding, explain, lines
 from tools.vectors.frame import packed
 from tools.vectors.sheets.case import Case
 
@@ -20,6 +21,9 @@ LEAST_OF_A_REASON = 5
 SUMS = {(8, 1), (9, 1), (24, 1), (10, 2), (26, 1)}  # whose value is a sum and stands nowhere
 LENGTHS = {(1, 1), (7, 1)}
 TEMPERATURES = {(11, 1), (11, 2), (11, 3)}
+# What no sheet is refused for by one: a length above all, and a letter, a load or a sum that need not be so near.
+NOT_ABOVE = {(1, 1), (2, 1), (19, 2)}
+NOT_BELOW = {(2, 1), (2, 2), (2, 3), (10, 2), (11, 2), (11, 3)}
 SIGN = 2 ** 15  # between the bits of a temperature and its place in the order of temperatures
 
 
@@ -76,6 +80,22 @@ def missing(vectors: list[Vector]) -> Iterator[str]:
     for name in ("index", "season"):
         if not any(getattr(vector.finding, name) for vector in vectors):
             yield "no finding with %s above 0" % name
+    yield from missing_ends(vectors)
+
+
+def missing_ends(vectors: list[Vector]) -> Iterator[str]:
+    """Limits that no sheet meets, or that none is beyond by one."""
+    refused = [vector.finding for vector in vectors if vector.finding.number]
+    passed = [line for vector in vectors if not vector.finding.number for line in lines(vector.case.data)]
+    shown = {
+        "one above the most": NOT_ABOVE | {rule(found) for found in refused if found.value == found.most + 1},
+        "one below the least": NOT_BELOW | {rule(found) for found in refused if found.value + 1 == found.least}
+        | {rule(found) for found in refused if found.least == 0},
+        "the most, which passes": LENGTHS | {rule(found) for found in passed if found.value == found.most},
+        "the least, which passes": LENGTHS | {rule(found) for found in passed if found.value == found.least},
+    }
+    for words, reasons in shown.items():
+        yield from ("number %d reason %d: no sheet has %s" % (*reason, words) for reason in sorted(REASONS - reasons))
 
 
 def finding_bytes(finding: Finding) -> bytes:
