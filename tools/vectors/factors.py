@@ -369,6 +369,11 @@ def missing(found: list[Group]) -> Iterator[str]:
         yield "not every class with every canister"
     if {row.canister for row in rows} != {0, 1, 2, 3, BY_CLASS}:
         yield "not every canister code"
+    for words, seen, wanted in (("minutes", {row.minutes for row in rows}, {0, 1440}),
+                                ("tanks", {row.tank for row in rows}, {0, 1500}),
+                                ("fill levels", {row.fill for row in rows}, {0, 100})):
+        if not wanted <= seen:
+            yield "not all %s" % words
     if {call.number for _, call in calls} != {0, 23, *sheets.NUMBERS}:
         yield "not every number"
     of_grids = sum(version_of(group.data) == 2 for group, call in calls if not call.number)

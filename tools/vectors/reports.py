@@ -328,14 +328,19 @@ def missing(vectors: list[Vector]) -> Iterator[str]:
     for plan in listed_plans():
         if found[plan.data()] != found[plan.gridded().data()]:
             yield "lists and the grid of their products have other masses"
+    rows, seasons = ([record for sheet in accepted for record in getattr(sheet, kind)] for kind in ("rows", "seasons"))
     for words, seen, wanted in (
         ("rows", {len(sheet.rows) for sheet in accepted}, {1, 32, 33, 256, 1000}),
         ("sums of vehicles", {sum(row.vehicles for row in sheet.rows) for sheet in accepted}, {MOST_OF_ALL}),
         ("seasons", {len(sheet.seasons) for sheet in accepted}, {1, 12}),
-        ("vehicles", {row.vehicles for sheet in accepted for row in sheet.rows}, {0, 1, 10_000_000}),
-        ("trips", {row.trips for sheet in accepted for row in sheet.rows if row.vehicles}, {0, 1200}),
+        ("vehicles", {row.vehicles for row in rows}, {0, 1, 10_000_000}),
+        ("trips", {row.trips for row in rows if row.vehicles}, {0, 1200}),
+        ("minutes", {row.minutes for row in rows if row.vehicles}, {0, 1440}),
+        ("tanks", {row.tank for row in rows if row.vehicles}, {0, 1500}),
+        ("temperatures", {degrees for season in seasons for degrees in season[1:3]}, {-300, 500}),
+        ("vapour pressures", {season.vp for season in seasons}, {300, 1100}),
         ("days", {sum(season.days for season in sheet.seasons) for sheet in accepted}, {366}),
-        ("classes", {row.vehicle_class for sheet in accepted for row in sheet.rows}, set(range(1, 10))),
+        ("classes", {row.vehicle_class for row in rows}, set(range(1, 10))),
     ):
         if not wanted <= seen:
             yield "not all %s" % words
