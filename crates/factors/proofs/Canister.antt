@@ -24,6 +24,7 @@ use Rattle.exact.specs.declared.Row.{Row}
 use Rattle.exact.specs.Canister.{a, b, size, breakthrough}
 use Rattle.exact.specs.Factors.{rowLoad}
 use Rattle.exact.proofs.Loads.{load-written, load-driven}
+use Rattle.thresholds.specs.Thresholds.{firstKilometres}
 use Rattle.starting_loads.specs.Net.{startUnits}
 use Rattle.starting_loads.proofs.Start.{startError, halves-pos, mileage-within}
 use Rattle.starting_loads.proofs.Empty.{empty-within}
@@ -167,7 +168,7 @@ module _ {season : Season} {row : Row} (s : SeasonInRange season) (r : RowInRang
     full-most h = omega (arith, saturation-most h)
 
     -- from 17 km on the steps find the load
-    driven-load : 17 ≤ row .mileage
+    driven-load : firstKilometres ≤ row .mileage
         → Within (2 ^ 40)
         (startUnits (binary (baseAt season row i)) (binary (growthAt season row i)) (halves (row .canister))
         (tenthGrams (row .saturation)) (row .mileage)) startError
@@ -180,7 +181,7 @@ module _ {season : Season} {row : Row} (s : SeasonInRange season) (r : RowInRang
         (tenthGrams-within (row .saturation)) km (r .mileage-most) .at n n40)
 
     -- up to 16 km it is 0, and so is the written one; without mileage it is the written one
-    written-load : row .mileage < 17 → Within (2 ^ 40) (tenthGrams (row .load)) 1 (rowLoad n season row T)
+    written-load : row .mileage < firstKilometres → Within (2 ^ 40) (tenthGrams (row .load)) 1 (rowLoad n season row T)
     unfolding tenthGrams
     written-load few =
         elim (decLe 1 (row .mileage)) [
@@ -196,7 +197,7 @@ module _ {season : Season} {row : Row} (s : SeasonInRange season) (r : RowInRang
         (there : 0 < halves (row .canister)) {rise w : ℕ} (R : ℕ) {ρ : Fraction}
         (small : rise ≤ R * 2 ^ 40) (known : Within (2 ^ 40) rise w ρ)
       where
-        through-by : (byMileage : Bool) → leb 17 (row .mileage) ≡ byMileage
+        through-by : (byMileage : Bool) → leb firstKilometres (row .mileage) ≡ byMileage
             → Within (2 ^ 40)
             (breakUnits (baseAt season row i) (growthAt season row i) (tenthGrams (row .saturation)) (lossError row)
             (startAt season row i) (gain season row) rise)
@@ -204,7 +205,7 @@ module _ {season : Season} {row : Row} (s : SeasonInRange season) (r : RowInRang
             (breakthrough n (season .vp /10^ 1) z (row .saturation /10^ 1) T (rowLoad n season row T)
             (exactGain season row n *ᶠ ρ))
         through-by true e =
-            let km : 17 ≤ row .mileage = leb-true 17 (row .mileage) e in
+            let km : firstKilometres ≤ row .mileage = leb-true firstKilometres (row .mileage) e in
             let below = rw (start-driven row (binary (baseAt season row i)) (binary (growthAt season row i)) km) at
             (start-below row (r .load-most) (binary (baseAt season row i)) (binary (growthAt season row i))) in
             rw (error-driven row km, start-driven row (binary (baseAt season row i)) (binary (growthAt season row i)) km)
@@ -214,7 +215,7 @@ module _ {season : Season} {row : Row} (s : SeasonInRange season) (r : RowInRang
             (driven-load km) (gain-within s r .at n n40) known
             drivenError (omega arith))
         through-by false e =
-            let few : row .mileage < 17 = leb-false 17 (row .mileage) e in
+            let few : row .mileage < firstKilometres = leb-false firstKilometres (row .mileage) e in
             let below = rw (start-written row (binary (baseAt season row i)) (binary (growthAt season row i)) few) at
             (start-below row (r .load-most) (binary (baseAt season row i)) (binary (growthAt season row i))) in
             rw (error-written row few, start-written row (binary (baseAt season row i)) (binary (growthAt season row i)) few)
@@ -226,6 +227,6 @@ module _ {season : Season} {row : Row} (s : SeasonInRange season) (r : RowInRang
         pub through-within : Within (2 ^ 40)
             (breakUnits (baseAt season row i) (growthAt season row i) (tenthGrams (row .saturation)) (lossError row)
             (startAt season row i) (gain season row) rise)
-            (throughWidth (leb 17 (row .mileage)) R w)
+            (throughWidth (leb firstKilometres (row .mileage)) R w)
             (breakthrough n (season .vp /10^ 1) z (row .saturation /10^ 1) T (rowLoad n season row T) (exactGain season row n *ᶠ ρ))
-        through-within = through-by (leb 17 (row .mileage)) refl
+        through-within = through-by (leb firstKilometres (row .mileage)) refl

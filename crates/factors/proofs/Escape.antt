@@ -25,6 +25,7 @@ use Rattle.factors.specs.Means.{meanUnits}
 use Rattle.sheet.specs.Range.{halves}
 use Rattle.factors.specs.Units.{gain, vapourUnits, throughUnits, escapeUnits}
 use Rattle.factors.proofs.Gain.{exactGain, gain-within, gain-most}
+use Rattle.thresholds.specs.Thresholds.{firstKilometres}
 use Rattle.starting_loads.proofs.Start.{halves-pos}
 use Rattle.factors.proofs.Breakthrough.{breakthrough-cong}
 use Rattle.factors.proofs.Canister.{size-is, throughWidth, b-nonNegative, through-within}
@@ -58,7 +59,7 @@ module _ {season : Season} {row : Row} (s : SeasonInRange season) (r : RowInRang
       -- with a canister of size z: the mean of what breaks through
       through-mean : {z : Fraction} → z ≈ᶠ ratio (halves (row .canister)) 2 halves-pos → 0 < halves (row .canister)
           → WithinAll (2 ^ 28) (meanUnits counts (λ (cell : ℕ). throughUnits season row (mark cell) (rise cell)))
-          (throughWidth (leb 17 (row .mileage)) R w / 2 ^ 12 + 3)
+          (throughWidth (leb firstKilometres (row .mileage)) R w / 2 ^ 12 + 3)
           (λ n. mean (λ (cell : ℕ). breakthrough n (season .vp /10^ 1) z (row .saturation /10^ 1) (T cell)
           (rowLoad n season row (T cell)) (y n cell)) counts)
       unfolding throughUnits
@@ -83,6 +84,9 @@ module _ {season : Season} {row : Row} (s : SeasonInRange season) (r : RowInRang
           (rowLoad n season row (T cell)) (T cell) c (y n cell)) counts)
       unfolding escapeUnits escape halves
       escape-within None e W o t = all-map (λ n a. widen a o) open-within
-      escape-within Small e W o t = all-map (λ n a. widen a (t (leb 17 (row .mileage)))) (through-mean (rw e (size-is Small)) (rw e (omega arith)))
-      escape-within Medium e W o t = all-map (λ n a. widen a (t (leb 17 (row .mileage)))) (through-mean (rw e (size-is Medium)) (rw e (omega arith)))
-      escape-within Large e W o t = all-map (λ n a. widen a (t (leb 17 (row .mileage)))) (through-mean (rw e (size-is Large)) (rw e (omega arith)))
+      escape-within Small e W o t =
+          all-map (λ n a. widen a (t (leb firstKilometres (row .mileage)))) (through-mean (rw e (size-is Small)) (rw e (omega arith)))
+      escape-within Medium e W o t =
+          all-map (λ n a. widen a (t (leb firstKilometres (row .mileage)))) (through-mean (rw e (size-is Medium)) (rw e (omega arith)))
+      escape-within Large e W o t =
+          all-map (λ n a. widen a (t (leb firstKilometres (row .mileage)))) (through-mean (rw e (size-is Large)) (rw e (omega arith)))

@@ -5,6 +5,7 @@ use Prim.Native.Nat.{ℕ, _+_, _*_, _-_, _/_, _^_}
 use lib.Dec.{leb}
 use Rattle.bounds.specs.Exponential.{exponential}
 use Rattle.bounds.specs.Short.{binary}
+use Rattle.thresholds.specs.Thresholds.{firstKilometres}
 use Rattle.exact.specs.declared.Canister.{Canister}
 use Rattle.exact.specs.declared.Canister.the-variants.{None, Small, Medium, Large}
 use Rattle.exact.specs.declared.Season.{Season}
@@ -40,14 +41,14 @@ gain season row = (100 - row .fill) * row .tank * exponential (205 * season .vp 
 -- that is written
 unfoldable pub rowStart : Row → ℕ → ℕ → ℕ
 rowStart row a k =
-    elim (leb 17 (row .mileage)) [
+    elim (leb firstKilometres (row .mileage)) [
       | true ↦ startUnits a k (halves (row .canister)) (tenthGrams (row .saturation)) (row .mileage)
       | false ↦ tenthGrams (row .load)
     ]
 
 -- and how far what is lost there can be above `loss`
 unfoldable pub lossError : Row → ℕ
-lossError row = elim (leb 17 (row .mileage)) [ true ↦ drivenError | false ↦ writtenError ]
+lossError row = elim (leb firstKilometres (row .mileage)) [ true ↦ drivenError | false ↦ writtenError ]
 
 module _ (season : Season) (row : Row) where
   -- vapour of a rise of E(0.0716·T)

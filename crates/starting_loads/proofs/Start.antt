@@ -16,7 +16,7 @@ use Rattle.bounds.proofs.Units.{units}
 use Rattle.bounds.proofs.Line.{rising, along}
 use Rattle.exact.specs.Canister.{a, b}
 use Rattle.exact.specs.Mileage.{g, driven, startingLoad, Reaches}
-use Rattle.thresholds.specs.Thresholds.{margin, enough, short}
+use Rattle.thresholds.specs.Thresholds.{firstKilometres, margin, enough, short}
 use Rattle.thresholds.proofs.Threshold.{exponents}
 use Rattle.thresholds.proofs.Found.{enough-reaches, enough-least, short-enough, short-fails}
 use Rattle.starting_loads.specs.Steps.{stepCount}
@@ -94,7 +94,7 @@ start-width = lit≤ tt
 -- a = A, 2·b·s = K and s = h/2 as they are held, number 25 at m_sat, and m_sat as it is held
 module _ (A K h σ M : ℕ) (vp s saturation T : Fraction) (ea : a vp T ≈ᶠ exponent A) (eb : b vp T *ᶠ s ≈ᶠ rising K) (es : s ≈ᶠ ratio h 2 halves-pos)
     (h0 : 0 < h) (hK : K ≤ 22 * 2 ^ 41) (hσ : σ ≤ 369 * 2 ^ 40) (top : along A K saturation ≤ᶠ whole 0)
-    (full : Within (2 ^ 40) σ 1 saturation) (least : 17 ≤ M)
+    (full : Within (2 ^ 40) σ 1 saturation) (least : firstKilometres ≤ M)
     (most : M ≤ 10 ^ 6)
   where
     -- what is kept, as it is computed

@@ -3,6 +3,7 @@ use thresholds::short;
 ghost use mathlib.Core.Path.{_≡_};
 ghost use Prim.Native.Nat.{_*_, _^_, _<_, _≤_};
 ghost use Rattle.bounds.specs.Exponential.{entries};
+ghost use Rattle.thresholds.specs.Thresholds.{firstKilometres};
 ghost use Rattle.starting_loads.specs.Net.{net, netOf};
 
 // 22.92 in units of 10^-16.
@@ -24,7 +25,7 @@ fn kept(y: u64, halves: u64) -> u64
 
 // The load without what is lost, for a canister with 2 s = halves.
 pub fn net(tables: &[u64; 1907], mileage: u64, halves: u64) -> u64
-    requires { ⌜ (now tables ≡ entries) × (17 ≤ mileage) × (mileage ≤ 10 ^ 6) × (0 < halves) ⌝ }
+    requires { ⌜ (now tables ≡ entries) × (firstKilometres ≤ mileage) × (mileage ≤ 10 ^ 6) × (0 < halves) ⌝ }
     ensures { λ r. ⌜ (r ≡ netOf halves mileage) × (r < 2 ^ 50) ⌝ }
 {
     kept(short(tables, mileage), halves)

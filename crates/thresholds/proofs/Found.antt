@@ -14,7 +14,7 @@ use Rattle.bounds.specs.Exponential.{exponential}
 use Rattle.numbers.proofs.Order.{≤-trans, ratio}
 use Rattle.bounds.proofs.ExponentialBound.{exponential-at-0, exponential-at-1·41}
 use Rattle.bounds.proofs.Ends.{E-to-2·8201}
-use Rattle.thresholds.specs.Thresholds.{far, nearError, within, digit, digits, firstAfter, wholeAbove, enough, margin, short}
+use Rattle.thresholds.specs.Thresholds.{far, nearError, within, digit, digits, firstAfter, firstKilometres, wholeAbove, enough, margin, short}
 use Rattle.thresholds.proofs.Far.{triple}
 use Rattle.thresholds.proofs.Threshold.{exponents, reached, beyond}
 
@@ -117,11 +117,11 @@ unfolding ratio _/10^_
 exponents-decimal y h = omega arith
 
 -- M is above 16.9
-too-small : (M : ℕ) → 17 ≤ M → ¬ (whole M ≤ᶠ 169 /10^ 1)
+too-small : (M : ℕ) → firstKilometres ≤ M → ¬ (whole M ≤ᶠ 169 /10^ 1)
 unfolding whole _/10^_
 too-small M h l = omega (arith, l .cross)
 
-module _ (M : ℕ) (least : 17 ≤ M) (most : M ≤ 10 ^ 6) where
+module _ (M : ℕ) (least : firstKilometres ≤ M) (most : M ≤ 10 ^ 6) where
   -- E(2) is less than 17
   from-2 : within M 2 0 ≡ false
   unfolding far

@@ -36,7 +36,11 @@ unfoldable pub firstAfter : ℕ → ℕ → ℕ → ℕ
 firstAfter M zero c = suc c
 firstAfter M (suc tries) c = cond (within M (suc c) 0) (suc c) (firstAfter M tries (suc c))
 
--- for M from 17 to 1,000,000: 3 to 14
+-- the first mileage with which a canister is not empty, in km: E(22.92/8.13) lies between 16 and 17
+abbrev pub firstKilometres : ℕ
+firstKilometres = 17
+
+-- for M from there to 1,000,000: 3 to 14
 unfoldable pub wholeAbove : ℕ → ℕ
 wholeAbove M = firstAfter M 11 2
 

@@ -3,7 +3,7 @@ use bounds::exp::exponential;
 ghost use mathlib.Core.Path.{_≡_};
 ghost use Prim.Native.Nat.{_+_, _*_, _^_, _<_, _≤_};
 ghost use Rattle.bounds.specs.Exponential.{entries};
-ghost use Rattle.thresholds.specs.Thresholds.{far, within, digit, digits, wholeAbove, short};
+ghost use Rattle.thresholds.specs.Thresholds.{far, within, digit, digits, firstKilometres, wholeAbove, short};
 
 // An exponent of 0, as `exponential` takes it; and of 1, in units.
 const ZERO: u64 = 1600000000000000;
@@ -96,7 +96,7 @@ fn whole_above(tables: &[u64; 1907], fars: &[u64; 15], mileage: u64) -> usize
 
 // The exponent from below: E there is below M for every n from 40 upward, and at least M a margin above it.
 pub fn short(tables: &[u64; 1907], mileage: u64) -> u64
-    requires { ⌜ (now tables ≡ entries) × (17 ≤ mileage) × (mileage ≤ 10 ^ 6) ⌝ }
+    requires { ⌜ (now tables ≡ entries) × (firstKilometres ≤ mileage) × (mileage ≤ 10 ^ 6) ⌝ }
     ensures { λ r. ⌜ (r ≡ short mileage) × (282 * 10 ^ 12 ≤ r) × (r ≤ 14 * 10 ^ 14) ⌝ }
 {
     let fars = far_table();
