@@ -7,10 +7,10 @@ ghost use lib.ListN.{length};
 pub const LONGEST: usize = 25256;
 
 // Zeros for the longest sheet. The `ensures` gives only the length, which lending the array as a slice needs.
-pub fn room() -> [u8; 25256]
+pub fn room() -> [u8; LONGEST]
     ensures { λ r. ⌜ 25256 ≡ length r ⌝ }
 {
-    [0; 25256]
+    [0; LONGEST]
 }
 
 // The first bytes of a buffer become these.

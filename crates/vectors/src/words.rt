@@ -14,7 +14,7 @@ pub const WORDS: usize = 6144;
 const SUMS: usize = 24;
 
 // Whether the words from here on are as they were
-pub fn kept(words: &[u64; 6144], from: usize) -> bool {
+pub fn kept(words: &[u64; WORDS], from: usize) -> bool {
     let mut i = from;
     while i < WORDS {
         if words[i] != OLD {
@@ -51,7 +51,7 @@ fn counts(category: u64, subtotal: usize) -> bool
 }
 
 // The sum of word j of the rows that count in a subtotal
-fn sum_of(words: &[u64; 6144], rows: &[u8], subtotal: usize, j: usize) -> u64
+fn sum_of(words: &[u64; WORDS], rows: &[u8], subtotal: usize, j: usize) -> u64
     requires { ⌜ (length (now rows) ≤ 72000) × (subtotal < 4) × (j < 6) ⌝ }
 {
     let mut sum: u64 = 0;
@@ -66,7 +66,7 @@ fn sum_of(words: &[u64; 6144], rows: &[u8], subtotal: usize, j: usize) -> u64
 }
 
 // Whether the subtotals are the sums of the rows' words
-fn subtotals_right(words: &[u64; 6144], rows: &[u8]) -> bool
+fn subtotals_right(words: &[u64; WORDS], rows: &[u8]) -> bool
     requires { ⌜ length (now rows) ≤ 72000 ⌝ }
 {
     let at = 6 * (rows.len() / ROW);
@@ -81,7 +81,7 @@ fn subtotals_right(words: &[u64; 6144], rows: &[u8]) -> bool
 }
 
 // Whether a grand total is the sum of three of the words for all rows
-fn total_right(words: &[u64; 6144], all: usize) -> bool
+fn total_right(words: &[u64; WORDS], all: usize) -> bool
     requires { ⌜ all ≤ 6019 ⌝ }
 {
     let two = std::num::wrapping_add_u64(words[all], words[all + 2]);
@@ -89,7 +89,7 @@ fn total_right(words: &[u64; 6144], all: usize) -> bool
 }
 
 // Whether the subtotals and totals are the sums of the rows' words, and the words beyond the report as they were
-pub fn sums_right(words: &[u64; 6144], rows: &[u8]) -> bool
+pub fn sums_right(words: &[u64; WORDS], rows: &[u8]) -> bool
     requires { ⌜ length (now rows) ≤ 72000 ⌝ }
 {
     let all = 6 * (rows.len() / ROW) + 18;

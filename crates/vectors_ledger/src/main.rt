@@ -18,6 +18,7 @@ use vectors::tally::Verdict;
 use vectors::tally::next;
 use vectors::tally::smaller;
 use vectors::words::OLD;
+use vectors::words::WORDS;
 ghost use Prim.Native.Nat.{_+_, _≤_};
 ghost use lib.ListN.{length};
 
@@ -98,7 +99,7 @@ fn with_words(
 ) -> Tally
     requires { ⌜ room ≤ 6144 ⌝ }
 {
-    let mut words = [OLD; 6144];
+    let mut words = [OLD; WORDS];
     report_into(sheet, room, &mut words);
     with_calls(sheet, expected, &mut words[0..room], calls, look, tally)
 }

@@ -32,7 +32,7 @@ pub fn report_into(s: &[u8], room: usize, words: &mut [u64]) -> Check
 fn is_fresh(s: &[u8], words: &[u64]) -> bool
     requires { ⌜ length (now words) ≤ 6144 ⌝ }
 {
-    let mut fresh = [OLD; 6144];
+    let mut fresh = [OLD; WORDS];
     report_into(s, words.len(), &mut fresh);
     stands(&fresh, 0, words)
 }
@@ -85,7 +85,7 @@ pub fn room_of(head: &[u8]) -> usize
 pub fn opens(s: &[u8], head: &[u8]) -> bool
     requires { ⌜ 10 ≤ length (now head) ⌝ }
 {
-    let mut words = [OLD; 6144];
+    let mut words = [OLD; WORDS];
     let found = report_into(s, room_of(head), &mut words);
     answers(found, u16_at(head, 6), u16_at(head, 8))
 }

@@ -60,7 +60,7 @@ fn head_at(s: &[u8], at: usize) -> Head
 
 // A tally with one band more
 fn with_band(
-    words: &[u64; 6144],
+    words: &[u64; WORDS],
     rows: &[u8],
     row: usize,
     mass: usize,
@@ -83,7 +83,7 @@ fn with_band(
 // The bands of one mass of a sheet's rows
 fn with_bands(
     s: &[u8],
-    words: &[u64; 6144],
+    words: &[u64; WORDS],
     rows: &[u8],
     pass: usize,
     sheet: u64,
@@ -132,7 +132,7 @@ fn with_sheet(s: &[u8], rows: &[u8], head: Head, pass: usize, sheet: u64, tally:
     requires { ⌜ (head .room ≤ 6144) × (length (now rows) ≤ 72000) ⌝ }
 {
     let room = head.room;
-    let mut words = [OLD; 6144];
+    let mut words = [OLD; WORDS];
     let right = answers(report_into(s, room, &mut words), head);
     if pass == REFUSALS {
         return with_verdict(right & kept(&words, 0), sheet, tally);

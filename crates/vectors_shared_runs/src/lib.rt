@@ -13,6 +13,7 @@ use vectors::input::u64_at;
 use vectors::print::number;
 use vectors::print::text;
 use vectors::tally::smaller;
+use vectors::words::WORDS;
 use vectors::words::stands;
 ghost use mathlib.Core.Path.{_≡_};
 ghost use Prim.Native.Nat.{_≤_, _<_};
@@ -95,7 +96,7 @@ fn of_change(sheet: &mut [u8], owners: &[u8], words: &mut [u64], c: &[u8]) -> [u
     let n = smaller(sheet.len(), LONGEST);
     let mut bytes = room();
     copy(&mut bytes, &sheet[0..n]);
-    let mut old = [0u64; 6144];
+    let mut old = [0u64; WORDS];
     store(&mut old, 0, words);
     let mut answer = bare(changed(sheet, owners, words, c));
     let same = same_bytes(sheet, &bytes[0..n]) & stands(&old, 0, words);

@@ -133,7 +133,7 @@ impl Tallies {
 
 // The sheets of one number, up to the first that the end of the input cuts or that is too long
 fn tallies_of(s: &[u8], number: u64) -> Tallies {
-    let mut sheet = [0; 25257];
+    let mut sheet = [0; ROOM];
     let mut tallies = Tallies::none();
     let mut position: u64 = 0;
     let mut at = 0;
