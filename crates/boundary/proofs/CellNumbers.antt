@@ -128,7 +128,7 @@ plus-same (fin false m e) p = rw (eqb-true-refl (m * up e * down e))
     eqb-true-refl n = eq-eqb n n refl
 
 -- a cell that is given back may be handed in, and is then the same
-pub handed-back : (c : Cell) → NoMinus c → cellHanded (cellNumbers c) ≡ Given c
+handed-back : (c : Cell) → NoMinus c → cellHanded (cellNumbers c) ≡ Given c
 unfolding cellHanded cellNumbers NoMinus exactHanded
 handed-back Empty p = refl
 handed-back (Exact m) p = rw (plus-same m p)

@@ -101,7 +101,7 @@ named : (digits places low high u : ℕ) (x : Unit) → unitHanded u ≡ Named x
 unfolding handedVerdict
 named digits places low high u x e = rw e (numbers-mark _ low high _ (verdict-means _ low high))
 
-pub unit-none : (u : ℕ) → 3 < u → unitHanded u ≡ NoUnit
+unit-none : (u : ℕ) → 3 < u → unitHanded u ≡ NoUnit
 unit-none u h = sym (unit-other u (λ e. omega arith) (λ e. omega arith) (λ e. omega arith) (λ e. omega arith))
 
 unread : (digits places low high u : ℕ) → 3 < u → (verdictNumbers (handedVerdict digits places (unitHanded u) low high)) .verdict ≡ 4

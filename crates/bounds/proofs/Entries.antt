@@ -10,11 +10,11 @@ use Rattle.bounds.proofs.Tail.{Near, near, nearTest}
 use Rattle.bounds.proofs.Table.{at, every, ascending-at}
 
 -- the entry at place h is just below w·E((h − o)/q) for every n from N(h) on
-abbrev pub entryTest : (q o w : ℕ) → (ℕ → ℕ) → ℕ → ℕ → Bool
+abbrev entryTest : (q o w : ℕ) → (ℕ → ℕ) → ℕ → ℕ → Bool
 entryTest q o w N h t = nearTest q (N h) w (h - o) (o - h) t
 
 -- a table that passes the test holds the rule at each place whose exponent is below N(h) + 1
-pub entry-near : (q o w : ℕ) (N : ℕ → ℕ) (xs : List ℕ) → T (every (entryTest q o w N) 0 xs) → (h : ℕ) → h < length xs → 0 < q
+entry-near : (q o w : ℕ) (N : ℕ → ℕ) (xs : List ℕ) → T (every (entryTest q o w N) 0 xs) → (h : ℕ) → h < length xs → 0 < q
     → h - o < q * suc (N h) → o - h < q * suc (N h) → Near q (N h) w (h - o) (o - h) (getD xs h 0)
 entry-near q o w N xs t h l z i j = near q (N h) w (h - o) (o - h) (getD xs h 0) z i j (at (entryTest q o w N) xs t h l)
 

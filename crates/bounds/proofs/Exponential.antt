@@ -24,7 +24,7 @@ unfolding term
 term-cong i h = over-cong (factorial i) (^-cong i h)
 
 -- equal arguments have equal sums
-pub S-cong : {x y : Fraction} (n : ℕ) → x ≈ᶠ y → S n x ≈ᶠ S n y
+S-cong : {x y : Fraction} (n : ℕ) → x ≈ᶠ y → S n x ≈ᶠ S n y
 unfolding S
 S-cong zero h = term-cong 0 h
 S-cong (suc n) h = +-cong (S-cong n h) (term-cong (suc n) h)
@@ -34,7 +34,7 @@ S-at : (n p q : ℕ) (h : 0 < q) {y : Fraction} → y ≈ᶠ ratio p q h → S n
 S-at n p q h e = ≈-trans (S-cong n e) (series-is p q h n)
 
 -- 0 < Sₙ(x) for 0 ≤ x
-pub S-positive : {x : Fraction} (n : ℕ) → NonNegative x → Positive (S n x)
+S-positive : {x : Fraction} (n : ℕ) → NonNegative x → Positive (S n x)
 S-positive {x} n h =
     positive-cong (≈-sym (S-at n _ _ _ (nonNegative-is x h))) (ratio-positive _ (num-pos (x .den) (x .up - x .down) n (x .pos)))
 

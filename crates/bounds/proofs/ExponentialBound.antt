@@ -22,7 +22,7 @@ use Rattle.bounds.proofs.Composition.{Small, small-sum, small-scale, sm
 -- Sizes.
 
 -- ρ < 2⁻¹²
-pub rest-size : (r : ℕ) → r < 24414062500 → rest r < 2 ^ 28
+rest-size : (r : ℕ) → r < 24414062500 → rest r < 2 ^ 28
 unfolding rest
 rest-size r h = omega arith
 
@@ -163,7 +163,7 @@ exponentialError-mono {x} {y} l h =
     omega arith
 
 -- the error at a given exponent is computed, and bounds that of every smaller one
-pub exponentialError-most : (last most : ℕ) → last < exponentLimit → exponentialError last ≡ most → (x : ℕ) → x ≤ last
+exponentialError-most : (last most : ℕ) → last < exponentLimit → exponentialError last ≡ most → (x : ℕ) → x ≤ last
     → exponentialError x ≤ most
 exponentialError-most last most h e x l = rw e at (exponentialError-mono l h)
 

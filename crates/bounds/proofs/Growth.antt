@@ -14,7 +14,7 @@ use Rattle.bounds.proofs.Table.{both, both-left, both-right}
 use Rattle.bounds.proofs.Within.{div-mono}
 
 -- no entry is below q/k times the one before it, and the first not below q/k times a
-abbrev pub climbing : (q k : ℕ) → ℕ → List ℕ → Bool
+abbrev climbing : (q k : ℕ) → ℕ → List ℕ → Bool
 climbing q k a [] = true
 climbing q k a (x ∷ xs) = both (leb (a * q / k) x) (climbing q k x xs)
 

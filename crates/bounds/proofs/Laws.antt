@@ -22,7 +22,7 @@ above-0 : {x : Fraction} → Positive x → whole 0 <ᶠ x
 unfolding whole
 above-0 h = record { cross = omega (arith, h .gt) }
 
-pub series : SeriesLaws
+series : SeriesLaws
 series = record {
   same = E-cong;
   grows = E-mono;
@@ -34,7 +34,7 @@ series = record {
   one-plus = λ x h. one-plus x (nonNegative h);
 }
 
-pub ends : EndLaws
+ends : EndLaws
 ends = record {
   to-0·44 = E-to-0·44;
   to-2·255 = E-to-2·255;
@@ -46,7 +46,7 @@ ends = record {
   at-minus-7·75 = E-at-minus-7·75;
 }
 
-pub computed : ExponentialLaws
+computed : ExponentialLaws
 computed = record {
   encloses = exponential-within;
   error-grows = exponentialError-mono;
@@ -62,7 +62,7 @@ computed = record {
   at-1·41 = exponential-at-1·41;
 }
 
-pub shorter : ShortLaws
+shorter : ShortLaws
 shorter = record {
   encloses = short-within;
   error-grows = shortError-mono;
@@ -71,7 +71,7 @@ shorter = record {
   fits = short-size;
 }
 
-pub powers : PowerLaws
+powers : PowerLaws
 powers = record {
   encloses = power-within;
   fits = power-size;
@@ -82,7 +82,7 @@ powers = record {
   root-multiple = cutRoot-multiple;
 }
 
-pub hourly : WeightLaws
+hourly : WeightLaws
 hourly = record { nearest = weight-nearest; most = w-most; rises = rises-where; near = apart-most; alike = apart-alike }
 
 pub laws : Laws

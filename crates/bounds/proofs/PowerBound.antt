@@ -209,7 +209,7 @@ cutRoot-within n N t m small e f =
     over x = omega arith
 
 -- up to 0 °C the computed number is 0
-pub power-cold : (θ : ℕ) → θ ≤ 30 * 10 ^ 10 → power θ ≡ 0
+power-cold : (θ : ℕ) → θ ≤ 30 * 10 ^ 10 → power θ ≡ 0
 unfolding power powerFrom halfPower root rootFrom
 power-cold θ h = ap powerFrom (sub-eq-zero-of-le h)
 

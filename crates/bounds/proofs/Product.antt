@@ -26,7 +26,7 @@ unfoldable pub num : ℕ → ℕ → ℕ → ℕ
 num q p n = acc q (λ i. p ^ i) n
 
 -- the n-th derivative of a product of two functions whose derivatives are f and g
-unfoldable pub bin : (ℕ → ℕ) → (ℕ → ℕ) → ℕ → ℕ
+unfoldable bin : (ℕ → ℕ) → (ℕ → ℕ) → ℕ → ℕ
 bin f g zero = f 0 * g 0
 bin f g (suc n) = bin (λ i. f (suc i)) g n + bin f (λ i. g (suc i)) n
 
@@ -335,7 +335,7 @@ unfolding ratio _over_
 ratio-over a b d k h p z e = record { cross = rw (idle z, e) (omega arith) }
 
 -- (p/q)ⁱ/i! = pⁱ/(qⁱ·i!)
-pub term-is : (p q : ℕ) (h : 0 < q) (i : ℕ) → term (ratio p q h) i ≈ᶠ ratio (p ^ i) (den q i) (den-pos q i h)
+term-is : (p q : ℕ) (h : 0 < q) (i : ℕ) → term (ratio p q h) i ≈ᶠ ratio (p ^ i) (den q i) (den-pos q i h)
 unfolding term
 term-is p q h i =
     ≈-trans (over-cong (factorial i) (ratio-pow p q h i))

@@ -24,7 +24,7 @@ pub record IsRoot (x r : ℕ) : Type 0 where
   pub high : x < (r + 1) * (r + 1)
 
 -- a number whose square is at most x is at most the root
-pub root-largest : {x r k : ℕ} → IsRoot x r → k * k ≤ x → k ≤ r
+root-largest : {x r k : ℕ} → IsRoot x r → k * k ≤ x → k ≤ r
 root-largest {x} {r} {k} h l = let g : k < r + 1 = root-less (omega (arith, h .high)) in omega arith
 
 -- one more binary digit

@@ -22,12 +22,12 @@ use Rattle.bounds.proofs.Composition.{near-cut, composed, linear-small}
 -- Sizes.
 
 -- E below 3 and a sixteenth is below 2695835132·2⁻²⁷
-pub high-size : (h : ℕ) → h < 305 → high h ≤ 2695835131
+high-size : (h : ℕ) → h < 305 → high h ≤ 2695835131
 unfolding high coarse
 high-size h l = div-mono (2 ^ 13) (omega arith) (coarse-mono {h = h} {k = 304} (omega arith) (omega arith))
 
 -- E up to a sixteenth
-pub finest-size : (j : ℕ) → j < 1024 → finest j ≤ 1142992221
+finest-size : (j : ℕ) → j < 1024 → finest j ≤ 1142992221
 unfolding finest
 finest-size j l = div-mono (2 ^ 10) (omega arith) (fine-last (j * 6103515625) (omega arith))
 
@@ -36,7 +36,7 @@ pub finest-product : (j p : ℕ) → j < 1024 → p < 2 ^ 18 → finest j * (2 ^
 finest-product j p l h = mul-le-mul {m₂ = 2 ^ 32 + 2 ^ 18} (finest-size j l) (omega arith)
 
 -- E(j/16384 + ρ)
-pub shortFine-size : (j p : ℕ) → j < 1024 → p < 2 ^ 18 → shortFine j p ≤ 2286123967
+shortFine-size : (j p : ℕ) → j < 1024 → p < 2 ^ 18 → shortFine j p ≤ 2286123967
 unfolding shortFine
 shortFine-size j p l h = omega (arith, finest-product j p l h)
 

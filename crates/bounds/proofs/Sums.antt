@@ -12,7 +12,7 @@ use Rattle.numbers.proofs.Order.{*-comm, *-assoc, *-swap, *-cancel, ratio, rati
 use Rattle.bounds.proofs.Exponential.{S-product-above, S-product-below, E-is, E-mono, E-positive, E-zero}
 
 -- Eₙ(y) = Sₙ(y) for 0 ≤ y
-pub E-plus : (n : ℕ) {y : Fraction} → NonNegative y → E n y ≡ S n y
+E-plus : (n : ℕ) {y : Fraction} → NonNegative y → E n y ≡ S n y
 unfolding E
 E-plus n {y} h = ap (λ (c : Bool). elim c [ true ↦ S n y | false ↦ inverse (S n (negᶠ y)) ]) (test-true (nonNegative→≤ h))
 
@@ -31,7 +31,7 @@ unfolding ratio _*ᶠ_ whole
 ratio-swap a b p q = omega arith
 
 -- Eₙ(y)·Eₙ(−y) = 1
-pub E-neg : (n : ℕ) (y : Fraction) → E n y *ᶠ E n (negᶠ y) ≈ᶠ whole 1
+E-neg : (n : ℕ) (y : Fraction) → E n y *ᶠ E n (negᶠ y) ≈ᶠ whole 1
 unfolding negᶠ
 E-neg n y = ≈-trans (*-cong (E-is n y) (E-is n (negᶠ y))) (ratio-swap _ _ _ _)
 

@@ -14,7 +14,7 @@ coarse-length : length coarse ≡ 322
 unfolding coarse
 coarse-length = refl
 
-pub constants-length : length constants ≡ 578
+constants-length : length constants ≡ 578
 unfolding constants coarse middle
 constants-length = refl
 
@@ -24,7 +24,7 @@ entries-length = simp length-append (omega (arith, constants-length, tab-length 
 
 -- In the constants.
 
-pub coarse-constant : (h : ℕ) → h < 322 → getD constants h 0 ≡ getD coarse h 0
+coarse-constant : (h : ℕ) → h < 322 → getD constants h 0 ≡ getD coarse h 0
 unfolding constants
 coarse-constant h l = List·getD-append coarse middle 0 h (rw coarse-length l)
 

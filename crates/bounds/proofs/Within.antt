@@ -88,7 +88,7 @@ unfolding ratio
 ratio-within a b p h k = omega arith
 
 -- a/b cut downwards
-pub ratio-cut : (s a b : ℕ) (p : 0 < b) → Within s (a * s / b) 1 (ratio a b p)
+ratio-cut : (s a b : ℕ) (p : 0 < b) → Within s (a * s / b) 1 (ratio a b p)
 ratio-cut s a b p =
     ratio-within a b p (div-mul-le-self (a * s) b) (omega (arith, lt-div-mul-add {a = a * s} p))
 

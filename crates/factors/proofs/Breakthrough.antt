@@ -31,7 +31,7 @@ add-sub-assoc x y z = +-assoc x y (negᶠ z)
 
 module _ (n : ℕ) (vp s saturation T : Fraction) where
   -- B(m) = E(a + b·s·min(m, m_sat)) + max(0, m − m_sat)
-  pub B-is : (m : Fraction) → B n vp s saturation T m ≈ᶠ curve n vp s saturation T (smaller m saturation) +ᶠ excess m saturation
+  B-is : (m : Fraction) → B n vp s saturation T m ≈ᶠ curve n vp s saturation T (smaller m saturation) +ᶠ excess m saturation
   unfolding B smaller excess
   B-is m =
       test-cases
@@ -42,7 +42,7 @@ module _ (n : ℕ) (vp s saturation T : Fraction) where
       (λ _. ≈-sym (+-zero _)) (λ _. add-sub-assoc _ m saturation)
 
   -- B grows with the load, where b·s is 0 or more
-  pub B-mono : {m m' : Fraction} → NonNegative (b vp T *ᶠ s) → m ≤ᶠ m' → B n vp s saturation T m ≤ᶠ B n vp s saturation T m'
+  B-mono : {m m' : Fraction} → NonNegative (b vp T *ᶠ s) → m ≤ᶠ m' → B n vp s saturation T m ≤ᶠ B n vp s saturation T m'
   unfolding curve
   B-mono {m} {m'} k h =
       ≤-by (B-is m) (B-is m')

@@ -46,7 +46,7 @@ size-is Medium = omega arith
 size-is Large = omega arith
 
 -- s ≤ 2
-pub halves-most : (c : Canister) → halves c ≤ 4
+halves-most : (c : Canister) → halves c ≤ 4
 unfolding halves
 halves-most None = omega arith
 halves-most Small = omega arith
@@ -59,7 +59,7 @@ unfolding a base whole _/10^_ negᶠ _-ᶠ_ _+ᶠ_ _*ᶠ_
 base-at vp θ v = omega arith
 
 -- b at a held temperature
-pub slope-at : (vp θ : ℕ) → vp ≤ vpLimit → b (vp /10^ 1) (degrees θ) ≈ᶠ ratio (112 * 10 ^ 11 + θ - 15 * 10 ^ 8 * vp) (10 ^ 14) (ten-pos 14)
+slope-at : (vp θ : ℕ) → vp ≤ vpLimit → b (vp /10^ 1) (degrees θ) ≈ᶠ ratio (112 * 10 ^ 11 + θ - 15 * 10 ^ 8 * vp) (10 ^ 14) (ten-pos 14)
 unfolding b ratio _/10^_ negᶠ _-ᶠ_ _+ᶠ_ _*ᶠ_
 slope-at vp θ v = omega arith
 
@@ -75,7 +75,7 @@ module _ (vp θ : ℕ) (v : vp ≤ vpLimit) {T : Fraction} (t : T ≈ᶠ degrees
   base-is = ≈-trans (+-cong (≈-refl _) (*-cong (≈-refl _) t)) (base-at vp θ v)
 
   -- b·s = (0.115 − 0.00015·vp + 0.0001·T)·s as it is held
-  pub growth-is : (c : Canister) {z : Fraction} → z ≈ᶠ ratio (halves c) 2 halves-pos
+  growth-is : (c : Canister) {z : Fraction} → z ≈ᶠ ratio (halves c) 2 halves-pos
       → b (vp /10^ 1) T *ᶠ z ≈ᶠ rising (growth c vp θ)
   unfolding b growth
   growth-is c e =

@@ -37,21 +37,21 @@ unfolding smaller
 smaller-greatest {x} {y} {z} h k = test-cases (λ (c : Bool). z ≤ᶠ (elim c [ true ↦ x | false ↦ y ])) x y (λ _. h) (λ _. k)
 
 -- 0 ≤ max(0, x − y)
-pub excess-nonNegative : (x y : Fraction) → whole 0 ≤ᶠ excess x y
+excess-nonNegative : (x y : Fraction) → whole 0 ≤ᶠ excess x y
 unfolding excess
 excess-nonNegative x y =
     test-cases (λ (c : Bool). whole 0 ≤ᶠ (elim c [ true ↦ whole 0 | false ↦ x -ᶠ y ])) x y (λ _. ≤-refl (whole 0))
     (λ h. nonNegative→≤ (sub-nonNegative (<→≤ (not-≤→< h))))
 
 -- x − y ≤ max(0, x − y)
-pub excess-above : (x y : Fraction) → x -ᶠ y ≤ᶠ excess x y
+excess-above : (x y : Fraction) → x -ᶠ y ≤ᶠ excess x y
 unfolding excess
 excess-above x y =
     test-cases (λ (c : Bool). x -ᶠ y ≤ᶠ (elim c [ true ↦ whole 0 | false ↦ x -ᶠ y ])) x y
     (λ h. ≤-sub y (whole 0) (≤-trans h (≈→≥ (+-zero y)))) (λ _. ≤-refl (x -ᶠ y))
 
 -- what is at least 0 and x − y is at least the excess
-pub excess-least : (x y : Fraction) {z : Fraction} → whole 0 ≤ᶠ z → x -ᶠ y ≤ᶠ z → excess x y ≤ᶠ z
+excess-least : (x y : Fraction) {z : Fraction} → whole 0 ≤ᶠ z → x -ᶠ y ≤ᶠ z → excess x y ≤ᶠ z
 unfolding excess
 excess-least x y {z} h k =
     test-cases (λ (c : Bool). (elim c [ true ↦ whole 0 | false ↦ x -ᶠ y ]) ≤ᶠ z) x y (λ _. h) (λ _. k)
@@ -81,7 +81,7 @@ smaller-map f x y grows =
 -- Enclosures.
 
 -- min(x, y)
-pub smaller-within : {s l w m v u : ℕ} {x y : Fraction} (p : 0 < s) → Within s l w x → Within s m v y → min (l + w) (m + v) ≤ min l m + u
+smaller-within : {s l w m v u : ℕ} {x y : Fraction} (p : 0 < s) → Within s l w x → Within s m v y → min (l + w) (m + v) ≤ min l m + u
     → Within s (min l m) u (smaller x y)
 smaller-within {s} {l} {w} {m} {v} {u} {x} {y} p a b h =
     within-from p

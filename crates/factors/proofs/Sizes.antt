@@ -80,12 +80,12 @@ module _ {season : Season} {row : Row} (s : SeasonInRange season) (r : RowInRang
   driven-exponent-most i km = held-most (line-cut _ _ (tenthGrams-within (row .saturation))) shortTo0 (unsaturated s r i km)
 
   -- 36 g for a rise of 1
-  pub vapourUnits-most : {rise : ℕ} (M : ℕ) → rise ≤ M → vapourUnits season row rise ≤ 36 * M
+  vapourUnits-most : {rise : ℕ} (M : ℕ) → rise ≤ M → vapourUnits season row rise ≤ 36 * M
   unfolding vapourUnits
   vapourUnits-most {rise} M h = div-le-of-le-mul (2 ^ 40) (omega (arith, mul-le-mul (gain-most s r) h))
 
   -- what breaks through is at most the vapour and 21 g
-  pub throughUnits-most : (i rise : ℕ) → throughUnits season row i rise ≤ 21 * 2 ^ 40 + vapourUnits season row rise
+  throughUnits-most : (i rise : ℕ) → throughUnits season row i rise ≤ 21 * 2 ^ 40 + vapourUnits season row rise
   unfolding throughUnits vapourUnits
   throughUnits-most i rise = break-most _ _ _ _ _ _ _ (start-below row (r .load-most) _ _) (full-exponent-most i)
 
@@ -99,7 +99,7 @@ module _ {season : Season} {row : Row} (s : SeasonInRange season) (r : RowInRang
   raise-rise-most k i h = raise-most (tenths k) (markWarmth season i) (omega arith) (warmth-most i s)
 
   -- permeation over a cell's parking: half a gram for each of 24 half-hours
-  pub parking-permeation-most : (cell : ℕ) → parkingRates season cell / 2 ≤ 12 * 2 ^ 40
+  parking-permeation-most : (cell : ℕ) → parkingRates season cell / 2 ≤ 12 * 2 ^ 40
   unfolding parkingRates
   parking-permeation-most cell =
       omega (

@@ -42,7 +42,7 @@ pub call-tests : (s : List ℕ) (call : Call) → Tests (wrong (hasManyRows s) (
 unfolding wrong
 call-tests s call = ||-tests (row-tests s (rowOf call)) (past-tests s call)
 
-pub change-judged : (s : List ℕ) (room : ℕ) (call : Call) → Judges (changeCheck s room call) (changeDemands s room call)
+change-judged : (s : List ℕ) (room : ℕ) (call : Call) → Judges (changeCheck s room call) (changeDemands s room call)
 unfolding changeCheck
 change-judged s room call = judges-then (report-judged s room) (judges-refuse (call-tests s call))
 

@@ -193,7 +193,7 @@ module _ (s w : List ℕ) (x : Ledger) (inv : Inv s w x) where
       go false h = done call h
 
 -- any list of calls
-pub runs : (s w : List ℕ) (calls : List Call) (x : Ledger) → Inv s w x
+runs : (s w : List ℕ) (calls : List Call) (x : Ledger) → Inv s w x
     → Inv s w (run calls x) × (countsOf (run calls x .sheet) ≡ machine (hasManyRows s) calls (countsOf (x .sheet)))
 unfolding run machine
 runs s w [] x inv = (inv, refl)

@@ -104,7 +104,7 @@ swap-last (Between l h) (Between l' h') (Between l'' h'') =
     rw (low, high)
 
 -- of three cells, the two that are added to the first may be exchanged
-pub sum-exchange : (a b c : Cell) → addTo (cellSum a b) c ≡ addTo (cellSum a c) b
+sum-exchange : (a b c : Cell) → addTo (cellSum a b) c ≡ addTo (cellSum a c) b
 sum-exchange a b c = three a b c ∙ swap-last (massesOf a) (massesOf b) (massesOf c) ∙ sym (three a c b)
 
 -- (a + b) + c is (b + c) + a; with `sum-commutes`, three cells added in any order

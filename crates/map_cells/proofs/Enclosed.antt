@@ -31,7 +31,7 @@ value-of (fin true m e) n h =
     record { cross = rw (z, v) (omega arith) }
 value-of (fin false m e) n h = record { cross = omega (arith, h .0) }
 
-pub double-is : (n : ℕ) → n ≤ massLimit → valueOf (double n) ≈ᶠ whole n
+double-is : (n : ℕ) → n ≤ massLimit → valueOf (double n) ≈ᶠ whole n
 double-is n h = value-of (double n) n (double-whole n h)
 
 -- what lies between a low and a high lies in their cell
@@ -51,12 +51,12 @@ in-cell low high x o h a b = empty (eqb high 0) (eqb-true high 0)
     empty false e = band (eqb low high) (eqb-true low high)
 
 -- between two whole numbers
-pub record BetweenWhole (low high : ℕ) (x : Fraction) : Type 0 where
+record BetweenWhole (low high : ℕ) (x : Fraction) : Type 0 where
   pub above : whole low ≤ᶠ x
   pub below : x ≤ᶠ whole high
 
 -- what lies in a cell handed in lies between its low and its high
-pub between-whole : (c : Cell) (low high : ℕ) (x : Fraction) → massesOf c ≡ Between low high → InCell c x → BetweenWhole low high x
+between-whole : (c : Cell) (low high : ℕ) (x : Fraction) → massesOf c ≡ Between low high → InCell c x → BetweenWhole low high x
 unfolding massesOf exactMasses bandMasses InCell
 between-whole Empty low high x e h =
     let a : 0 ≡ low = cc in

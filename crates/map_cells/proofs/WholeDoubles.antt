@@ -57,7 +57,7 @@ IsWhole (fin s m e) n = (m * up e ≡ n * down e) × (n ≤ massLimit) × T (not
 quotient-is : (v n d : ℕ) → 0 < d → v ≡ n * d → v / d ≡ n
 quotient-is v n d h e = ap (λ (x : ℕ). x / d) e ∙ mul-div-cancel n h
 
-pub mass-of : (x : Float) (n : ℕ) → IsWhole x n → wholeOf x ≡ Mass n
+mass-of : (x : Float) (n : ℕ) → IsWhole x n → wholeOf x ≡ Mass n
 unfolding wholeOf
 mass-of (fin s m e) n h =
     let q : m * up e / down e ≡ n = quotient-is (m * up e) n (down e) (down-pos e) (h .0) in
@@ -70,7 +70,7 @@ mass-of (fin s m e) n h =
     tests true false c x y z = absurd y
     tests false b c x y z = absurd x
 
-pub none-of : (x : Float) → ((n : ℕ) → IsWhole x n → ⊥) → wholeOf x ≡ Other
+none-of : (x : Float) → ((n : ℕ) → IsWhole x n → ⊥) → wholeOf x ≡ Other
 unfolding wholeOf
 none-of nan h = refl
 none-of (inf s) h = refl
@@ -92,7 +92,7 @@ either true n t e = eqb→eq n 0 t
 either false n t e = absurd (false≢true e)
 
 -- it is above −1
-pub above-minus-one : (x : Float) (n : ℕ) → IsWhole x n → lt (fin true 1 (pos 0)) x ≡ true
+above-minus-one : (x : Float) (n : ℕ) → IsWhole x n → lt (fin true 1 (pos 0)) x ≡ true
 unfolding lt
 above-minus-one (fin true m e) n h =
     let z : n ≡ 0 = either true n (h .2) refl in
@@ -101,7 +101,7 @@ above-minus-one (fin true m e) n h =
 above-minus-one (fin false m e) n h = lt-ltb 0 (1 * 1 * down e + m * up e * 1) (omega (arith, down-pos e))
 
 -- and below 2⁶⁴
-pub below-top : (x : Float) (n : ℕ) → IsWhole x n → lt x (fin false 1 (pos 64)) ≡ true
+below-top : (x : Float) (n : ℕ) → IsWhole x n → lt x (fin false 1 (pos 64)) ≡ true
 unfolding lt
 below-top (fin true m e) n h = lt-ltb 0 (m * up e * 1 + 1 * 2 ^ 64 * down e) (omega (arith, down-pos e))
 below-top (fin false m e) n h =
@@ -111,7 +111,7 @@ below-top (fin false m e) n h =
     lt-ltb (m * up e * 1) (1 * 2 ^ 64 * d) v
 
 -- cut to a whole number, it is n
-pub cut-is : (x : Float) (n : ℕ) → IsWhole x n → toUnsigned 64 x ≡ n
+cut-is : (x : Float) (n : ℕ) → IsWhole x n → toUnsigned 64 x ≡ n
 unfolding toUnsigned
 cut-is (fin true m e) n h = sym (either true n (h .2) refl)
 cut-is (fin false m e) n h =
@@ -153,7 +153,7 @@ same-value (fin false a g) n s m e h =
     both false a b c d h k = cc
 
 -- the double of n equals a double that is n
-pub whole-eq : (x : Float) (n : ℕ) → IsWhole x n → eq (double n) x ≡ true
+whole-eq : (x : Float) (n : ℕ) → IsWhole x n → eq (double n) x ≡ true
 whole-eq (fin s m e) n h =
     same-value (double n) n s m e (double-value n (h .1)) ∙
     go (eqb (m * up e) (n * down e)) (not s || eqb n 0)
@@ -175,7 +175,7 @@ unfolding eq
 no-eq-inf (fin u m e) s n v t = false≢true t
 
 -- and no other
-pub eq-whole : (x : Float) (n : ℕ) → n ≤ massLimit → eq (double n) x ≡ true → IsWhole x n
+eq-whole : (x : Float) (n : ℕ) → n ≤ massLimit → eq (double n) x ≡ true → IsWhole x n
 eq-whole nan n h t = absurd (no-eq-nan (double n) t)
 eq-whole (inf s) n h t = absurd (no-eq-inf (double n) s n (double-value n h) t)
 eq-whole (fin s m e) n h t =

@@ -20,16 +20,16 @@ module _ (p n d B c : ℕ) (pos : 0 < d) where
   carry : p * n / d * B * d + (p * n % d * B + c * n) ≡ (p * B + c) * n
   carry = omega (arith, ap (λ (t : ℕ). t * B) (div-add-mod' (p * n) d))
 
-  pub carry-whole : p * n / d * B + (p * n % d * B + c * n) / d ≡ (p * B + c) * n / d
+  carry-whole : p * n / d * B + (p * n % d * B + c * n) / d ≡ (p * B + c) * n / d
   carry-whole = sym (mul-add-div-right pos (p * n / d * B) (p * n % d * B + c * n)) ∙ ap (λ (t : ℕ). t / d) carry
 
-  pub carry-rest : (p * n % d * B + c * n) % d ≡ (p * B + c) * n % d
+  carry-rest : (p * n % d * B + c * n) % d ≡ (p * B + c) * n % d
   carry-rest =
       let r = p * n % d * B + c * n in
       omega (arith, div-add-mod' r d, div-add-mod' ((p * B + c) * n) d, carry, ap (λ (t : ℕ). t * d) carry-whole)
 
 -- a quotient cut up is the quotient cut down, and one more where a remainder is left
-pub cut-up-some : (x d : ℕ) → 0 < d → 0 < x % d → x / d + 1 ≡ (x + (d - 1)) / d
+cut-up-some : (x d : ℕ) → 0 < d → 0 < x % d → x / d + 1 ≡ (x + (d - 1)) / d
 cut-up-some x d pos h =
     let l = mod-lt x pos in
     let e : x + (d - 1) ≡ (x / d + 1) * d + (x % d - 1) = omega (arith, div-add-mod' x d) in
@@ -39,7 +39,7 @@ cut-up-some x d pos h =
     small : (y : ℕ) → y < d → y / d ≡ 0
     small y h = let q : y / d < 1 = div-lt-iff-lt-mul pos .1 (omega arith) in omega arith
 
-pub cut-up-none : (x d : ℕ) → 0 < d → x % d ≤ 0 → x / d ≡ (x + (d - 1)) / d
+cut-up-none : (x d : ℕ) → 0 < d → x % d ≤ 0 → x / d ≡ (x + (d - 1)) / d
 cut-up-none x d pos h =
     let e : x + (d - 1) ≡ x / d * d + (d - 1) = omega (arith, div-add-mod' x d) in
     sym (ap (λ (t : ℕ). t / d) e ∙ mul-add-div-right pos (x / d) (d - 1) ∙ ap (λ (t : ℕ). x / d + t) (small (d - 1) (omega arith)) ∙ omega arith)

@@ -18,7 +18,7 @@ use Rattle.marks.proofs.Most.{all-most}
 use Rattle.marks.specs.Marks.{heat, heatError, raisedError, raise}
 
 -- x − y where y ≤ x, both enclosed with the width e: what x surely is above y
-pub difference-within : {s l m e : ℕ} {x y : Fraction} → y ≤ᶠ x → Within s l e x → Within s m e y → Within s (l - (m + e)) (2 * e) (x -ᶠ y)
+difference-within : {s l m e : ℕ} {x y : Fraction} → y ≤ᶠ x → Within s l e x → Within s m e y → Within s (l - (m + e)) (2 * e) (x -ᶠ y)
 difference-within h a b = weaken (sub-within h a b) (omega arith) (omega arith)
 
 -- 0.0716·T is the exponent that is computed with
@@ -54,7 +54,7 @@ module _ (θ : ℕ) where
       bounded-within heatError (omega arith) (exponentialError-3·6 (716 * θ + 13852 * 10 ^ 11) (omega arith))
 
   -- up to 56 °C
-  pub raised-within : θ ≤ 86 * 10 ^ 10 → WithinAll (2 ^ 40) (heat θ) raisedError (λ n. E n (716 /10^ 4 *ᶠ degrees θ))
+  raised-within : θ ≤ 86 * 10 ^ 10 → WithinAll (2 ^ 40) (heat θ) raisedError (λ n. E n (716 /10^ 4 *ᶠ degrees θ))
   raised-within h =
       bounded-within raisedError (omega arith) (exponentialError-4·1 (716 * θ + 13852 * 10 ^ 11) (omega arith))
 

@@ -90,7 +90,7 @@ module _ (vp : ℕ) (h : vp ≤ vpLimit) where
   pressure-≤ = omega arith
 
   -- E(0.44) ≤ 1.56
-  pub pressure-most : pressureFactor vp ≤ 156 * 2 ^ 40 / 100
+  pressure-most : pressureFactor vp ≤ 156 * 2 ^ 40 / 100
   pressure-most = omega (arith, all-most 156 2 pressure-within (E-to-0·44 40 (omega arith) pressure-≤))
 
 module _ (θ : ℕ) (h : θ ≤ 95 * 10 ^ 10) where
@@ -112,7 +112,7 @@ module _ (θ : ℕ) (h : θ ≤ 95 * 10 ^ 10) where
       all-map (λ n a. +-within a (decimal-within {w = 1} 206 4 (omega arith) (omega arith))) power-part
 
   -- is below 0.43
-  pub bracket-most : bracketUnits θ ≤ 43 * 2 ^ 40 / 100
+  bracket-most : bracketUnits θ ≤ 43 * 2 ^ 40 / 100
   unfolding bracketUnits
   bracket-most = omega (arith, power-size θ h)
 

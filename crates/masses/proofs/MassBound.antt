@@ -146,7 +146,7 @@ module _ {row : Row} (shares : Shares row) (counts : List ℕ) (mechanism : Mech
       (+-mono (times-mono _ (day-above shares e mechanism n h)) (year-above seasons es))
 
   -- and at most its high one
-  pub year-below : (seasons : List Season) → Every (λ (season : Season). Enclosed counts season row) seasons
+  year-below : (seasons : List Season) → Every (λ (season : Season). Enclosed counts season row) seasons
       → mass n counts seasons row mechanism ≤ᶠ (yearFigure highMicrograms counts seasons row mechanism * row .vehicles) /10^ 12
   unfolding yearFigure mass
   year-below [] e = rw zero-mul (≈→≤ (decimal-zero 12))

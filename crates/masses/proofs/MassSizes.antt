@@ -61,7 +61,7 @@ vehicleMost = yearMost / 10 ^ 9
 
 module _ {row : Row} (shares : Shares row) (trips-most : row .trips ≤ tripsLimit) (micrograms : ℕ → ℕ) (counts : List ℕ) where
   -- a blend of parts of at most B
-  pub blended-most : (season : Season) (B : ℕ) {h w i : ℕ} → h ≤ B → w ≤ B → i ≤ B → blended row h w i ≤ 10000 * B
+  blended-most : (season : Season) (B : ℕ) {h w i : ℕ} → h ≤ B → w ≤ B → i ≤ B → blended row h w i ≤ 10000 * B
   unfolding blended
   blended-most season B a b c = blend-most (row .carburettor) (row .hot) B (shares .carburettor-most) (shares .hot-most) a b c
 
@@ -79,7 +79,7 @@ module _ {row : Row} (shares : Shares row) (trips-most : row .trips ≤ tripsLim
   day-most season h running = trips-times season (h F7) (h F6) (h F5)
 
   -- a year's figure grows with its days
-  pub year-most : (seasons : List Season) → Every (λ (season : Season). (k : Factor) → µg micrograms counts season row k ≤ factorMost k) seasons
+  year-most : (seasons : List Season) → Every (λ (season : Season). (k : Factor) → µg micrograms counts season row k ≤ factorMost k) seasons
       → (mechanism : Mechanism) → yearFigure micrograms counts seasons row mechanism ≤ dayMost * allDays seasons
   unfolding yearFigure allDays
   year-most [] h mechanism = omega arith
@@ -99,14 +99,14 @@ cut-most y v h = omega (arith, mul-le-mul-right v h)
 
 module _ {counts : List ℕ} {seasons : List Season} {row : Row} (r : RowSized counts seasons row) where
   -- a year's high figure
-  pub high-year-most : (mechanism : Mechanism) → yearFigure highMicrograms counts seasons row mechanism ≤ yearMost
+  high-year-most : (mechanism : Mechanism) → yearFigure highMicrograms counts seasons row mechanism ≤ yearMost
   unfolding µg
   high-year-most mechanism =
       let y = year-most (r .shares) (r .trips-most) highMicrograms counts seasons (every-map (λ season e. e .most) seasons (r .sized)) mechanism in
       omega (arith, r .days-most)
 
   -- its low figure
-  pub low-year-most : (mechanism : Mechanism) → yearFigure lowMicrograms counts seasons row mechanism ≤ yearMost
+  low-year-most : (mechanism : Mechanism) → yearFigure lowMicrograms counts seasons row mechanism ≤ yearMost
   unfolding µg
   low-year-most mechanism =
       let below : (season : Season) → Sized counts row season → (k : Factor) → lowMicrograms (factorUnits season row counts k) ≤ factorMost k
@@ -115,12 +115,12 @@ module _ {counts : List ℕ} {seasons : List Season} {row : Row} (r : RowSized c
       omega (arith, r .days-most)
 
   -- the row's high figure in milligrams
-  pub high-most : (mechanism : Mechanism) → highFigure counts seasons row mechanism ≤ vehicleMost * row .vehicles
+  high-most : (mechanism : Mechanism) → highFigure counts seasons row mechanism ≤ vehicleMost * row .vehicles
   unfolding highFigure
   high-most mechanism = cut-most _ (row .vehicles) (high-year-most mechanism)
 
   -- its low figure
-  pub low-most : (mechanism : Mechanism) → lowFigure counts seasons row mechanism ≤ vehicleMost * row .vehicles
+  low-most : (mechanism : Mechanism) → lowFigure counts seasons row mechanism ≤ vehicleMost * row .vehicles
   unfolding lowFigure
   low-most mechanism =
       omega (arith, cut-most (yearFigure lowMicrograms counts seasons row mechanism) (row .vehicles) (low-year-most mechanism))

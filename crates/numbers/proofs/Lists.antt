@@ -106,7 +106,7 @@ tab-constant n v h =
     sym (tab-at (replicate n v) (length-replicate n v)) ∙ tab-ext n (λ k l. getD-replicate n k v 0 l ∙ sym (h k l))
 
 -- what holds of 0 and of each value holds at every index
-pub tab-all : (P : ℕ → Type 0) → P 0 → (f : ℕ → ℕ) (n : ℕ) → ((k : ℕ) → k < n → P (f k)) → (k : ℕ) → P (getD (tab f n) k 0)
+tab-all : (P : ℕ → Type 0) → P 0 → (f : ℕ → ℕ) (n : ℕ) → ((k : ℕ) → k < n → P (f k)) → (k : ℕ) → P (getD (tab f n) k 0)
 unfolding tab
 tab-all P z f zero h k = z
 tab-all P z f (suc n) h k =

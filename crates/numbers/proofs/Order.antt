@@ -90,7 +90,7 @@ either x y f g =
 -- The comparison as a test.
 
 -- the test passes only where x ≤ y
-pub passes : {x y : Fraction} → T (x ≤? y) → x ≤ᶠ y
+passes : {x y : Fraction} → T (x ≤? y) → x ≤ᶠ y
 unfolding _≤?_
 passes t = record { cross = leb→le _ _ t }
 
@@ -158,7 +158,7 @@ neg-positive {x} h = record {
 }
 
 -- what is at least a positive value is positive
-pub positive-up : {x y : Fraction} → x ≤ᶠ y → Positive x → Positive y
+positive-up : {x y : Fraction} → x ≤ᶠ y → Positive x → Positive y
 positive-up {x} {y} h p = record {
   gt =
       elim (decLe (y .up) (y .down)) [
@@ -235,7 +235,7 @@ unfolding _+ᶠ_
 -- Negation and difference.
 
 -- x ≤ y gives −y ≤ −x
-pub neg-antitone : {x y : Fraction} → x ≤ᶠ y → negᶠ y ≤ᶠ negᶠ x
+neg-antitone : {x y : Fraction} → x ≤ᶠ y → negᶠ y ≤ᶠ negᶠ x
 unfolding negᶠ
 neg-antitone h = omega arith
 
@@ -294,7 +294,7 @@ pub ≤-minus : (x y : Fraction) {z : Fraction} → x +ᶠ y ≤ᶠ z → x ≤�
 ≤-minus x y h = ≤-trans (≈→≥ (add-sub x y)) (sub-mono h (≤-refl y))
 
 -- x + y ≤ x + z gives y ≤ z
-pub +-cancel : (x y z : Fraction) → x +ᶠ y ≤ᶠ x +ᶠ z → y ≤ᶠ z
++-cancel : (x y z : Fraction) → x +ᶠ y ≤ᶠ x +ᶠ z → y ≤ᶠ z
 +-cancel x y z h =
     ≤-trans (≤-minus y x (≤-by (+-comm y x) (≈-refl _) h)) (≤-sub x z (≤-refl (x +ᶠ z)))
 
@@ -430,7 +430,7 @@ times-cong {x} {y} k h = ≈-by (times-is k x) (times-is k y) (*-cong (≈-refl 
 -- The inverse.
 
 -- 0 < x ≤ y gives 1/y ≤ 1/x
-pub inverse-antitone : {x y : Fraction} → Positive x → x ≤ᶠ y → inverse y ≤ᶠ inverse x
+inverse-antitone : {x y : Fraction} → Positive x → x ≤ᶠ y → inverse y ≤ᶠ inverse x
 unfolding inverse
 inverse-antitone {x} {y} p h =
     let q : Positive y = positive-up h p in
@@ -448,7 +448,7 @@ unfolding inverse
 inverse-positive x = omega arith
 
 -- x·(1/x) = 1
-pub inverse-mul : (x : Fraction) → Positive x → x *ᶠ inverse x ≈ᶠ whole 1
+inverse-mul : (x : Fraction) → Positive x → x *ᶠ inverse x ≈ᶠ whole 1
 unfolding inverse _*ᶠ_ whole
 inverse-mul x p =
     let u : 0 < x .up - x .down = omega arith in
@@ -533,7 +533,7 @@ unfolding _/10^_ ratio
 decimal-is k places = omega arith
 
 -- a value is (i − j)/q for all i, j, q with x.up·q + j·x.den = i·x.den + x.down·q; with j ≤ i it is a ratio
-pub as-ratio : (q i j : ℕ) (h : 0 < q) (x : Fraction) → j ≤ i → x .up * q + j * x .den ≡ i * x .den + x .down * q → x ≈ᶠ ratio (i - j) q h
+as-ratio : (q i j : ℕ) (h : 0 < q) (x : Fraction) → j ≤ i → x .up * q + j * x .den ≡ i * x .den + x .down * q → x ≈ᶠ ratio (i - j) q h
 unfolding ratio
 as-ratio q i j h x le e = record { cross = simp sub-mul (omega (arith, e, mul-le-mul-right (x .den) le)) }
 

@@ -232,12 +232,12 @@ module _ (starts values counts : List ℕ) (len : ℕ) (m : length starts ≡ 57
   pub start-place : (k : ℕ) → k < 577 → at all k ≡ at starts k
   start-place k h = List·getD-append starts (values ++ (counts ++ (len ∷ []))) 0 k (rw m h)
 
-  pub rise-place : (k : ℕ) → k < 577 → at all (577 + k) ≡ at values k
+  rise-place : (k : ℕ) → k < 577 → at all (577 + k) ≡ at values k
   rise-place k h =
       ap (at all) {x = 577 + k} {y = length starts + k} (omega arith) ∙ getD-append-add starts (values ++ (counts ++ (len ∷ []))) k 0 ∙
       List·getD-append values (counts ++ (len ∷ [])) 0 k (rw v h)
 
-  pub count-place : (k : ℕ) → k < 577 → at all (1154 + k) ≡ at counts k
+  count-place : (k : ℕ) → k < 577 → at all (1154 + k) ≡ at counts k
   count-place k h =
       ap (at all) {x = 1154 + k} {y = length starts + (length values + k)} (omega arith) ∙
       getD-append-add starts (values ++ (counts ++ (len ∷ []))) (length values + k) 0 ∙ getD-append-add values (counts ++ (len ∷ [])) k 0 ∙

@@ -23,12 +23,12 @@ module _ (cells starts ends : List ℕ) (sum : ℕ) (c : length cells ≡ 576) (
   pub cell-at : (k : ℕ) → k < 576 → at all k ≡ at cells k
   cell-at k h = List·getD-append cells (starts ++ (ends ++ (sum ∷ []))) 0 k (rw c h)
 
-  pub start-at : (k : ℕ) → k < 25 → at all (576 + k) ≡ at starts k
+  start-at : (k : ℕ) → k < 25 → at all (576 + k) ≡ at starts k
   start-at k h =
       ap (at all) {x = 576 + k} {y = length cells + k} (omega arith) ∙ getD-append-add cells (starts ++ (ends ++ (sum ∷ []))) k 0 ∙
       List·getD-append starts (ends ++ (sum ∷ [])) 0 k (rw s h)
 
-  pub end-at : (k : ℕ) → k < 25 → at all (601 + k) ≡ at ends k
+  end-at : (k : ℕ) → k < 25 → at all (601 + k) ≡ at ends k
   end-at k h =
       ap (at all) {x = 601 + k} {y = length cells + (length starts + k)} (omega arith) ∙
       getD-append-add cells (starts ++ (ends ++ (sum ∷ []))) (length starts + k) 0 ∙ getD-append-add starts (ends ++ (sum ∷ [])) k 0 ∙

@@ -10,6 +10,7 @@ use program::ROOM;
 use text::lines::put_refusal;
 ghost use mathlib.Core.Path.{_≡_};
 ghost use Rattle.sheet.specs.declared.Check.the-variants.{Pass};
+ghost use Rattle.sheet.specs.Limits.{longest};
 ghost use Rattle.pooling.specs.Pool.{pool, poolCheck};
 
 // The bytes of the longest line of a refusal.
@@ -17,7 +18,7 @@ const LINE: usize = 53;
 
 // Writes what `requires` says and nothing else: the pooled sheet of two that pool.
 fn write(a: &[u8], b: &[u8], bytes: &[u8]) -> bool
-    requires { ⌜ (poolCheck (now a) (now b) 25256 ≡ Pass) × (now bytes ≡ pool (now a) (now b)) ⌝ }
+    requires { ⌜ (poolCheck (now a) (now b) longest ≡ Pass) × (now bytes ≡ pool (now a) (now b)) ⌝ }
 {
     io::write_all(STDOUT_FILENO, bytes)
 }

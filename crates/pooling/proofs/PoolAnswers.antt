@@ -25,7 +25,7 @@ use Rattle.pooling.proofs.PoolBytes.{Region, Pair, pool-long}
 use Rattle.pooling.proofs.PoolChecks.{pooled-check}
 
 -- Demands in plain arithmetic: one sheet,
-pub region-judged : (s : List ℕ) → Judges (regionCheck s) (regionDemands s)
+region-judged : (s : List ℕ) → Judges (regionCheck s) (regionDemands s)
 unfolding regionCheck
 region-judged s = judges-then (mark-judged s) (not-tests (eqb-shows _ _) ⊳ sheet-judged s)
 
@@ -43,7 +43,7 @@ unfolding differ
 differ-tests a b = ||-tests (not-tests (eqb-shows _ _)) (some-tests a b (sharedBytes (seasonsOf a)))
 
 -- and the two together.
-pub pair-judged : (a b : List ℕ) (room : ℕ) → Judges (pairCheck a b room) (pairDemands a b room)
+pair-judged : (a b : List ℕ) (room : ℕ) → Judges (pairCheck a b room) (pairDemands a b room)
 unfolding pairCheck
 pair-judged a b room = differ-tests a b ⊳ judges-then (sheet-judged (pool a b)) (judges-refuse (ltb-tests room (length (pool a b))))
 
@@ -100,7 +100,7 @@ region s h =
     record { version = region-judged s .passes h .1 .0; passed = sheet }
 
 -- of two that agree,
-pub pair : (a b : List ℕ) → regionCheck a ≡ Pass → regionCheck b ≡ Pass → differ a b ≡ false → Pair a b
+pair : (a b : List ℕ) → regionCheck a ≡ Pass → regionCheck b ≡ Pass → differ a b ≡ false → Pair a b
 pair a b p q d = record { first = region a p; second = region b q; agree = differ-tests a b .holds d }
 
 -- and of all: both sheets, that they agree, their pool and the room.

@@ -9,7 +9,7 @@ use native.Mathlib.Omega.{arith}
 use lib.ListN.{length, getD, set, drop, length-append, length-drop, List·getD-append}
 use lib.Seq.{sets, length-sets, getD-append-add, getD-drop, getD-set-same, getD-set-other, lt-length-set}
 use Rattle.sheet.specs.declared.Check.the-variants.{Pass}
-use Rattle.sheet.specs.Limits.{manyRowsLimit}
+use Rattle.sheet.specs.Limits.{manyRowsLimit, longest}
 use Rattle.sheet.specs.Integers.{u8At}
 use Rattle.sheet.specs.Versions.{versionOf, hasGrid, hasManyRows, seasonsStart}
 use Rattle.sheet.specs.Bytes.{seasonsOf, rowsOf, rowPlace, rowAt}
@@ -31,7 +31,7 @@ module _ {s : List ℕ} (r : Region s) where
   pub grid : hasGrid s ≡ true
   grid = rw (r .version)
 
-  pub many : hasManyRows s ≡ true
+  many : hasManyRows s ≡ true
   many = rw (r .version)
 
   pub start : seasonsStart s ≡ 1160
@@ -43,7 +43,7 @@ module _ {s : List ℕ} (r : Region s) where
   pub rows-most : rowsOf s ≤ manyRowsLimit
   rows-most = omega (arith, accepted s (r .passed) .rows-most, most-many s many)
 
-  pub length-most : length s ≤ 25256
+  pub length-most : length s ≤ longest
   length-most = omega (arith, length-is, rows-most, accepted s (r .passed) .seasons-most)
 
 -- two such sheets with equal seasons and parking bytes
@@ -99,7 +99,7 @@ module _ (a b : List ℕ) where
       getD-append-add counted (drop (rowPlace b 0) b) k 0 ∙ getD-drop (rowPlace b 0) b k 0
 
   -- how many there are
-  pub length-pool : rowPlace b 0 ≤ length b → length (pool a b) + rowPlace b 0 ≡ length a + length b
+  length-pool : rowPlace b 0 ≤ length b → length (pool a b) + rowPlace b 0 ≡ length a + length b
   unfolding pool
   length-pool l = omega (arith, length-append counted (drop (rowPlace b 0) b), length-sets a 6 count, length-drop (rowPlace b 0) b)
 
@@ -124,7 +124,7 @@ module _ {a b : List ℕ} (h : Pair a b) where
   pub letters-pool : (k : ℕ) → k < 3 → u8At (pool a b) k ≡ u8At a k
   letters-pool k l = head k (omega arith)
 
-  pub grid-pool : hasGrid (pool a b) ≡ true
+  grid-pool : hasGrid (pool a b) ≡ true
   grid-pool = rw version-pool
 
   pub many-pool : hasManyRows (pool a b) ≡ true

@@ -56,7 +56,7 @@ pub year-bits : {s : List ℕ} → Bytes s → Accepted s → (i m : ℕ) → i 
 year-bits {s} bytes a i m there = omega (arith, row-year-most bytes a i m (seasonsOf s) there (omega arith), year-fits)
 
 -- six words, which are those of the report
-pub words-length : (s : List ℕ) (i : ℕ) → length (wordsOf s i) ≡ 6
+words-length : (s : List ℕ) (i : ℕ) → length (wordsOf s i) ≡ 6
 unfolding wordsOf rowFigures
 words-length s i = refl
 

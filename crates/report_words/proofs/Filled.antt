@@ -42,7 +42,7 @@ module _ (f : ℕ → ℕ) (old : List ℕ) where
   filled-all k n l g = ap (λ (i : ℕ). filled f i old) (le-antisymm l g)
 
   -- the words that were replaced
-  pub filled-first : (n k : ℕ) → k < n → getD (filled f n old) k 0 ≡ f k
+  filled-first : (n k : ℕ) → k < n → getD (filled f n old) k 0 ≡ f k
   filled-first n k h = List·getD-append (tab f n) (drop n old) 0 k (rw (tab-length f n) h) ∙ getD-tab f n k h
 
   -- and those that were not

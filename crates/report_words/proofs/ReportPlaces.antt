@@ -17,13 +17,13 @@ use Rattle.report_words.specs.Report.{subtotal, subtotals, grandTotal, r
 use Rattle.report_words.specs.Years.{category}
 
 -- six words for each row
-pub rowWords-length : (s : List ℕ) (n : ℕ) → length (rowWords s n) ≡ 6 * n
+rowWords-length : (s : List ℕ) (n : ℕ) → length (rowWords s n) ≡ 6 * n
 unfolding rowWords wordsOf rowFigures
 rowWords-length s zero = refl
 rowWords-length s (suc n) = length-append (rowWords s n) _ ∙ omega (arith, rowWords-length s n)
 
 -- and for each category
-pub subtotals-length : (s : List ℕ) (category : ℕ → Bool) → length (subtotals s category) ≡ 6
+subtotals-length : (s : List ℕ) (category : ℕ → Bool) → length (subtotals s category) ≡ 6
 unfolding subtotals
 subtotals-length s category = tab-length (subtotal s category (rowsOf s)) 6
 

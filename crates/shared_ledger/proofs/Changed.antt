@@ -114,7 +114,7 @@ module _ (x : Ledger) (owners : List ℕ) (who : ℕ) (call : Call)
   opens : reportCheck (x .sheet) (length (x .words)) ≡ Pass
   opens = shared-report (x .sheet) owners (length (x .words)) (met .shared)
 
-  pub row-theirs : rowOf call < rowsOf (x .sheet)
+  row-theirs : rowOf call < rowsOf (x .sheet)
   row-theirs = owned-there s owners who i (met .some) (eq-eqb (ownerOf s owners i) who (met .owner))
 
   -- the ledger's own call passes

@@ -33,7 +33,7 @@ use Rattle.shared_ledger.specs.Calls.{sharedRowCheck, sharedTotalsCheck,
 use Rattle.shared_ledger.specs.Calls.{sharedChangeDemands, sharedRowDemands, sharedTotalsDemands}
 
 -- a row and its owner
-pub share-tests : (s owners : List ℕ) (i : ℕ) → Tests (shareWrong s owners i) (Share s owners i)
+share-tests : (s owners : List ℕ) (i : ℕ) → Tests (shareWrong s owners i) (Share s owners i)
 unfolding shareWrong outside
 share-tests s owners i =
     let who = at owners i in
@@ -86,12 +86,12 @@ change-judged s owners room who call =
     (judges-then (judges-refuse (change-tests s owners who (rowOf call)))
     (judges-then (judges-refuse (call-tests s call)) (judges-refuse (past-tests (vehiclesHeld s owners who (rowsOf s)) call))))
 
-pub row-judged : (s owners : List ℕ) (room who i : ℕ) → Judges (sharedRowCheck s owners room who i) (sharedRowDemands s owners room who i)
+row-judged : (s owners : List ℕ) (room who i : ℕ) → Judges (sharedRowCheck s owners room who i) (sharedRowDemands s owners room who i)
 unfolding sharedRowCheck
 row-judged s owners room who i =
     judges-then (shared-judged s owners room) (judges-then (judges-refuse (read-tests s owners who i)) (judges-refuse (row-tests s i)))
 
-pub totals-judged : (s owners : List ℕ) (room who : ℕ) → Judges (sharedTotalsCheck s owners room who) (sharedTotalsDemands s owners room who)
+totals-judged : (s owners : List ℕ) (room who : ℕ) → Judges (sharedTotalsCheck s owners room who) (sharedTotalsDemands s owners room who)
 unfolding sharedTotalsCheck
 totals-judged s owners room who = judges-then (shared-judged s owners room) (judges-refuse (totals-tests who))
 

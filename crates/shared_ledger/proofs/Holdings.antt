@@ -37,11 +37,11 @@ owned-there s owners who i some h =
     ]
 
 -- one row more
-pub held-none : (s owners : List ℕ) (who : ℕ) → vehiclesHeld s owners who 0 ≡ 0
+held-none : (s owners : List ℕ) (who : ℕ) → vehiclesHeld s owners who 0 ≡ 0
 unfolding vehiclesHeld sum
 held-none s owners who = refl
 
-pub held-more : (s owners : List ℕ) (who n : ℕ)
+held-more : (s owners : List ℕ) (who n : ℕ)
     → vehiclesHeld s owners who (suc n) ≡ vehiclesHeld s owners who n + counted (eqb (at owners n) who) ((rowAt s n) .vehicles)
 unfolding vehiclesHeld sum
 held-more s owners who n = refl

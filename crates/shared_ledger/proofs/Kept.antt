@@ -48,7 +48,7 @@ fresh-shared s owners w bytes h =
     record { inv = inv; shared = rw (room s w (opened s w) inv) h }
 
 -- a change that passes
-pub change-kept : (s owners w : List ℕ) (x : Ledger) → SharedInv s owners w x → (who : ℕ) (call : Call)
+change-kept : (s owners w : List ℕ) (x : Ledger) → SharedInv s owners w x → (who : ℕ) (call : Call)
     → sharedChangeCheck (x .sheet) owners (length (x .words)) who call ≡ Pass
     → SharedInv s owners w (after x call)
 change-kept s owners w x good who call passes =
@@ -104,7 +104,7 @@ module _ (s owners w : List ℕ) (x : Ledger) (good : SharedInv s owners w x) wh
   six-long i = refl
 
   -- a row's words in the buffer are its own,
-  pub row-words : (i : ℕ) → i < rowsOf (x .sheet) → wordsFrom (x .words) (6 * i) 6 ≡ wordsOf (x .sheet) i
+  row-words : (i : ℕ) → i < rowsOf (x .sheet) → wordsFrom (x .words) (6 * i) 6 ≡ wordsOf (x .sheet) i
   unfolding wordsFrom
   row-words i l =
       ext-getD 0 _ (wordsOf (x .sheet) i) (tab-length _ 6 ∙ sym (six-long i))
@@ -126,7 +126,7 @@ module _ (s owners w : List ℕ) (x : Ledger) (good : SharedInv s owners w x) wh
   may-read who i = rw (owner-is i) refl
 
   -- a read by one who has the right
-  pub row-passes : (who i : ℕ) → i < rowsOf (x .sheet) → mayRead (x .sheet) owners who i ≡ true
+  row-passes : (who i : ℕ) → i < rowsOf (x .sheet) → mayRead (x .sheet) owners who i ≡ true
       → sharedRowCheck (x .sheet) owners (length (x .words)) who i ≡ Pass
   unfolding sharedRowCheck refuse _then_
   row-passes who i l h = pass-on _ ∙ rw (h, lt-leb (rowsOf (x .sheet)) i l) refl

@@ -76,7 +76,7 @@ pub record Accepted (s : List ℕ) : Type 0 where
   pub row : (i : ℕ) → i < rowsOf s → AcceptedRow s i
 
 -- two bytes are 16 bits
-pub u16-bits : {s : List ℕ} → Bytes s → (k : ℕ) → u16At s k < 65536
+u16-bits : {s : List ℕ} → Bytes s → (k : ℕ) → u16At s k < 65536
 u16-bits b k = omega (arith, b .byte k, b .byte (k + 1))
 
 season-accepted : (s : List ℕ) (i : ℕ) → Met (seasonDemands s i) → AcceptedSeason s i

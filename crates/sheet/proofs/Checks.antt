@@ -34,7 +34,7 @@ refuse-pass true number place h = cc
 refuse-pass false number place h = refl
 
 -- a number that applies is returned with its place, and its condition is true
-pub refuse-refused : (b : Bool) (number place : ℕ) {n p : ℕ} → refuse b number place ≡ Refused n p → (n ≡ number) × (p ≡ place) × (b ≡ true)
+refuse-refused : (b : Bool) (number place : ℕ) {n p : ℕ} → refuse b number place ≡ Refused n p → (n ≡ number) × (p ≡ place) × (b ≡ true)
 unfolding refuse
 refuse-refused true number place h = (cc, cc, refl)
 refuse-refused false number place h = (cc, cc, cc)
@@ -46,7 +46,7 @@ then-pass Pass d h = (refl, h)
 then-pass (Refused number place) d h = (cc, cc)
 
 -- the first refuses, or it passes and the second refuses
-pub then-refused : (c d : Check) {n p : ℕ} → c then d ≡ Refused n p → (c ≡ Refused n p) ⊎ ((c ≡ Pass) × (d ≡ Refused n p))
+then-refused : (c d : Check) {n p : ℕ} → c then d ≡ Refused n p → (c ≡ Refused n p) ⊎ ((c ≡ Pass) × (d ≡ Refused n p))
 unfolding _then_
 then-refused Pass d h = inr (refl, h)
 then-refused (Refused number place) d h = inl h
@@ -60,7 +60,7 @@ each-pass f (suc n) h i l =
     below-suc {P = λ (k : ℕ). f k ≡ Pass} (each-pass f n before) last i l
 
 -- some record refuses, and all before it pass
-pub each-refused : (f : ℕ → Check) (n : ℕ) {m p : ℕ} → each f n ≡ Refused m p → (i : ℕ) × (i < n) × (each f i ≡ Pass) × (f i ≡ Refused m p)
+each-refused : (f : ℕ → Check) (n : ℕ) {m p : ℕ} → each f n ≡ Refused m p → (i : ℕ) × (i < n) × (each f i ≡ Pass) × (f i ≡ Refused m p)
 unfolding each
 each-refused f zero h = absurd (let z : _≡_ {A = ℕ} 0 1 = cc in omega arith)
 each-refused f (suc n) h =

@@ -1,7 +1,7 @@
 -- "Where a sheet stops", numbers 1 to 21 and 24 to 26 as demands in plain arithmetic, each with its place: a sheet is accepted
 -- where all are met, and else the first that is not met gives the number and the place.
 -- Assumes nothing.
-use mathlib.Core.Bool.{Bool, true, false}
+use mathlib.Core.Bool.{Bool, false}
 use mathlib.Core.List.{List}
 use mathlib.Core.Logic.{_⊎_}
 use mathlib.Core.Path.{_≡_, refl, sym, ap, _∙_}
@@ -25,7 +25,7 @@ use Rattle.sheet.specs.Check.{numberOf, placeOf}
 use Rattle.sheet.specs.Demands.{Met, FirstUnmet, Says, markDemands, numbersDemands, headDemands, lengthDemand, parkingDemands, seasonDemands}
 use Rattle.sheet.specs.Demands.{exponentAt, MileageRight, rowDemands, demands}
 use Rattle.sheet.specs.Conditions.{ConditionsTheorem}
-use Rattle.sheet.proofs.Checks.{Tests, Judges, numbers, among, number-among, Once, Unmet, unmet, Broken, broken}
+use Rattle.sheet.proofs.Checks.{Tests, Judges, number-among, Once, Unmet, unmet, Broken, broken}
 use Rattle.sheet.proofs.Checks.{met-passes, says, true-is-not-false, below-suc, judges-refuse, judges-then}
 use Rattle.sheet.proofs.Checks.{judges-each, _⊳_, ltb-tests, ||-tests, &&-tests, tests-as, not-tests, eqb-shows}
 use Rattle.sheet.proofs.Checks.{≤-shows, &&-shows, leb-shows, not-leb-shows, guarded}
@@ -205,10 +205,6 @@ met-accepted s met = met-passes (sheetCheck s) (sheet-judged s) met
 -- line of that number in the tables above, with its place, and those before it
 pub refused : (s : List ℕ) (n p : ℕ) → sheetCheck s ≡ Refused n p → Unmet n p (demands s)
 refused s n p h = unmet n p (demands s) (once s) (sheet-judged s .refuses n p h)
-
--- and has a line there
-pub refused-number : (s : List ℕ) {n p : ℕ} → sheetCheck s ≡ Refused n p → among n (numbers (demands s)) ≡ true
-refused-number s h = number-among _ _ (demands s) (once s) (sheet-judged s .refuses _ _ h)
 
 -- no demand has number 0, which stands for an accepted sheet
 pub no-zero : (s : List ℕ) (p : ℕ) → FirstUnmet 0 p (demands s) → ⊥

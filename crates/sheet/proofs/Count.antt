@@ -164,7 +164,7 @@ module _ (s : List ℕ) (i v : ℕ) (bits : v < 2 ^ 32) (there : rowPlace s i + 
   vehicles-early zero h = refl
   vehicles-early (suc n) h = cc (vehicles-early n (omega arith), row-kept n (λ e. omega arith))
 
-  pub vehicles-changed : (n : ℕ) → i < n → vehiclesBefore (withCount s i v) n + (rowAt s i) .vehicles ≡ vehiclesBefore s n + v
+  vehicles-changed : (n : ℕ) → i < n → vehiclesBefore (withCount s i v) n + (rowAt s i) .vehicles ≡ vehiclesBefore s n + v
   unfolding vehiclesBefore
   vehicles-changed zero h = absurd (omega arith)
   vehicles-changed (suc n) h =

@@ -1,6 +1,6 @@
 -- The limits of a sheet, each named once for the definitions; fields/src/limits.rt names them for the code.
 -- Definitions only.
-use Prim.Native.Nat.{ℕ}
+use Prim.Native.Nat.{ℕ, _+_, _*_}
 
 -- the versions that are read, from 1 on
 abbrev pub versionLimit : ℕ
@@ -70,3 +70,7 @@ minutesLimit = 1440
 -- "a mileage above 1,000,000", in km
 abbrev pub mileageLimit : ℕ
 mileageLimit = 1000000
+
+-- the bytes of the longest sheet: a head and a grid, all seasons and all rows
+abbrev pub longest : ℕ
+longest = 1160 + 8 * seasonsLimit + 24 * manyRowsLimit

@@ -57,7 +57,7 @@ cells-in-range {s} a = go (hasGrid s) refl
         rw (cells-lists s h) (products-in-range (durationCounts s) (hourCounts s) (durations-length s) (hours-length s) p P q Q)
 
 -- at least one parking is counted
-pub cells-least : {s : List ℕ} → Accepted s → 0 < total (cellsOf s)
+cells-least : {s : List ℕ} → Accepted s → 0 < total (cellsOf s)
 cells-least a = cells-in-range a .total-least
 
 -- the shares of row i
@@ -99,7 +99,7 @@ days-from s i zero k e = let here : i ≡ k = omega arith in rw here (omega arit
 days-from s i (suc n) k e = omega (arith, days-from s (suc i) n k (omega arith))
 
 -- "the days of all seasons"
-pub all-days : (s : List ℕ) → allDays (seasonList s) ≡ daysBefore s (seasonsOf s)
+all-days : (s : List ℕ) → allDays (seasonList s) ≡ daysBefore s (seasonsOf s)
 unfolding seasonList daysBefore
 all-days s = omega (arith, days-from s 0 (seasonsOf s) (seasonsOf s) (omega arith))
 

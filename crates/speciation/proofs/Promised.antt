@@ -21,7 +21,7 @@ pub cumulated-more : (i : ℕ) → cumulated (i + 1) ≡ cumulated i + shareAt i
 unfolding sum
 cumulated-more i = rw add-one refl
 
-pub cumulated-most : (i : ℕ) → i ≤ 29 → cumulated i ≤ allShares
+cumulated-most : (i : ℕ) → i ≤ 29 → cumulated i ≤ allShares
 cumulated-most i h = rw all-shares at (sum-grows shareAt i 29 h)
 
 -- a larger part is no smaller
@@ -39,7 +39,7 @@ module _ (T : ℕ) where
   step i = rw (cumulated-more i) (mul-add T (cumulated i) (shareAt i))
 
   -- "The species add up to T exactly"
-  pub adds-up : sum (speciesMass T) 29 ≡ T
+  adds-up : sum (speciesMass T) 29 ≡ T
   unfolding speciesMass
   adds-up =
       let t = telescope (λ (i : ℕ). partOf T (cumulated i)) 29 (λ i l. part-mono T _ _ (omega (arith, cumulated-more i))) in
@@ -47,16 +47,16 @@ module _ (T : ℕ) where
       omega (arith, t, all, part-none T)
 
   -- "none is further than one milligram from its exact share"
-  pub not-above : (i : ℕ) → allShares * speciesMass T i ≤ T * shareAt i + allShares
+  not-above : (i : ℕ) → allShares * speciesMass T i ≤ T * shareAt i + allShares
   unfolding speciesMass
   not-above i = omega (arith, step i)
 
-  pub not-below : (i : ℕ) → T * shareAt i ≤ allShares * speciesMass T i + allShares
+  not-below : (i : ℕ) → T * shareAt i ≤ allShares * speciesMass T i + allShares
   unfolding speciesMass
   not-below i = omega (arith, step i)
 
   -- "a species with share 0 gets nothing"
-  pub nothing : (i : ℕ) → shareAt i ≡ 0 → speciesMass T i ≡ 0
+  nothing : (i : ℕ) → shareAt i ≡ 0 → speciesMass T i ≡ 0
   unfolding speciesMass
   nothing i e = let same : cumulated (i + 1) ≡ cumulated i = omega (arith, cumulated-more i) in rw same (omega arith)
 

@@ -170,7 +170,7 @@ digits-only (byte ∷ text) d =
     alone (next ∷ text) d h one = absurd (omega (arith, d .no-zero-first (omega arith)))
 
 -- k + 1 digits are enough below 10 ^ (k + 1), so 20 for a word
-pub digits-most : (k n : ℕ) → n < 10 ^ suc k → length (digits n) ≤ suc k
+digits-most : (k n : ℕ) → n < 10 ^ suc k → length (digits n) ≤ suc k
 digits-most zero n h = rw (digits-small n (omega arith)) (omega arith)
 digits-most (suc k) n h =
     let tenth = digits-most k (n / 10) in

@@ -10,7 +10,7 @@ use Rattle.text.specs.Lines.{field, fields, rowLine, rowLines}
 use Rattle.text.specs.Put.{Room}
 use Rattle.text.proofs.Putting.{room-first, take-more}
 
-pub fields-append : (first next : List ℕ) → fields (first ++ next) ≡ fields first ++ fields next
+fields-append : (first next : List ℕ) → fields (first ++ next) ≡ fields first ++ fields next
 unfolding fields
 fields-append [] next = refl
 fields-append (word ∷ first) next = rw (fields-append first next) (sym (append-assoc (field word) (fields first) (fields next)))

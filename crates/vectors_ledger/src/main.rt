@@ -21,6 +21,7 @@ use vectors::words::OLD;
 use vectors::words::WORDS;
 ghost use Prim.Native.Nat.{_+_, _≤_};
 ghost use lib.ListN.{length};
+ghost use Rattle.sheet.specs.Limits.{longest};
 
 mod runs;
 
@@ -106,7 +107,7 @@ fn with_words(
 
 // With a copy of the sheet that is to have the counts that are expected
 fn with_copy(sheet: &mut [u8], room: usize, calls: &[u8], look: Look, tally: Tally) -> Tally
-    requires { ⌜ (length (now sheet) ≤ 25256) × (room ≤ 6144) ⌝ }
+    requires { ⌜ (length (now sheet) ≤ longest) × (room ≤ 6144) ⌝ }
 {
     let n = sheet.len();
     let mut expected = vectors::bytes::room();
@@ -116,7 +117,7 @@ fn with_copy(sheet: &mut [u8], room: usize, calls: &[u8], look: Look, tally: Tal
 
 // A ledger: whether it opens as expected, or its calls
 fn with_ledger(s: &[u8], calls: &[u8], head: &[u8], look: Look, tally: Tally) -> Tally
-    requires { ⌜ (length (now s) ≤ 25256) × (10 ≤ length (now head)) ⌝ }
+    requires { ⌜ (length (now s) ≤ longest) × (10 ≤ length (now head)) ⌝ }
 {
     if look.pass == OPENINGS {
         return with_verdict(opens(s, head), b" opening ", 0, look, tally);
