@@ -28,7 +28,7 @@ LAW = re.compile(r"`([^`]+)` in ([a-z_]+/proofs/\w+)")
 SPECS = re.compile(r"([a-z_]+): ([A-Z]\w*(?:, [A-Z]\w*)*)")
 NAMED = re.compile(r"((?:`[\w·≤⊎-]+`(?:, and |, | and | or )?)+) in (crates/[\w/-]+\.(?:rt|antt))")
 NAME = re.compile(r"`([A-Za-z][\w·-]+\w)`")
-ELSEWHERE = {"malloc"}  # names of others that a page speaks of
+ELSEWHERE = {"ldconfig", "malloc"}  # names of others that a page speaks of
 SOURCES = (".rt", ".antt", ".py", ".h", ".c", ".cc", ".rs", ".edit", ".txt", "")  # what has names, by its ending
 
 

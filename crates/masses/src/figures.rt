@@ -84,8 +84,8 @@ pub fn row_figures(
     row: Row,
     kept: u64,
 ) -> [u64; 6]
-    requires { ⌜ Lent (now tables) (now grid) (now day) at × RowInRange (at .season) row × UseInRange row × ListFor (now grid) (now list) (at .season) row
-        × KeptOf row kept ⌝ }
+    requires { ⌜ Lent (now tables) (now grid) (now day) at × RowInRange (at .season) row × UseInRange row
+        × ListFor (now grid) (now list) (at .season) row × KeptOf row kept ⌝ }
     ensures { λ r. ⌜ r ≡ dayFigures (cellsIn (now (grid .entry))) (at .season) row ⌝ }
 {
     six_figures(row_units(tables, grid, list, day, at, row, kept), row)

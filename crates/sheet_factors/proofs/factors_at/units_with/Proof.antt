@@ -35,7 +35,8 @@ abbrev start : tie.After-prepare → tie.Start
 start c = row c .before .before
 
 -- it is made ready for the rows of the sheet
-ready : (c : tie.After-prepare) → let x = start c .args in SeasonLent (x .s .now) (x .tables .now) (x .grid .now) (c .prepare .result .day) (c .prepare .result .at)
+ready : (c : tie.After-prepare)
+    → let x = start c .args in SeasonLent (x .s .now) (x .tables .now) (x .grid .now) (c .prepare .result .day) (c .prepare .result .at)
 ready c =
     let p = start c .pre in
     let same = rw (season c .season-at .ensures .0) at (c .prepare .ensures .0) in
