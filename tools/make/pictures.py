@@ -1,10 +1,11 @@
-"""docs/pictures/layers.svg, the crates in their layers, from crates.txt; and docs/rows.svg, from docs/rows.txt.
+"""docs/pictures/layers.svg, the crates in their layers, from crates.txt; docs/rows.svg and docs/seasons.svg, from figures.
 
-docs/rows.svg shows how long the report call takes for how many rows. Its text
-has a line for each measurement, the rows and the microseconds, such as
-`1000 48210.5`, with rows going up; # starts a comment. A line `title` and words
-may stand before them. Both axes are logarithmic. The dashed line is the even
-one, on which every row takes the same time; it goes through the last figure.
+docs/rows.svg shows how long the report call takes for how many rows, docs/seasons.svg
+for how many seasons. docs/rows.txt has a line for each measurement, the rows and the
+microseconds, such as `1000 48210.5`, with rows going up; # starts a comment. A line
+`title` and words may stand before them. Both axes are logarithmic. The dashed line is
+the even one, on which every row takes the same time; it goes through the last figure.
+docs/seasons.txt is read alike.
 """
 
 import math
@@ -16,7 +17,7 @@ from tools.command import TOP, MadeFile
 from tools.make import layers
 from tools.make.error import MakeError
 
-FIGURES, PICTURE = "docs/rows.txt", "docs/rows.svg"
+MEASURED = ("row", "season")  # docs/rows.txt and docs/rows.svg, docs/seasons.txt and docs/seasons.svg
 WIDTH, HEIGHT = 640, 440
 LEFT, RIGHT, TOP_EDGE, BOTTOM = 80, 610, 50, 380
 TITLE = "The report call by the rows of its sheet"
@@ -83,7 +84,7 @@ GREY, LIGHT, BLACK = 'stroke="#bbbbbb"', 'stroke="#e8e8e8"', 'stroke="#000000"'
 MIDDLE, END = 'text-anchor="middle"', 'text-anchor="end"'
 
 
-def axes(across: Axis, up: Axis) -> Iterator[str]:
+def axes(across: Axis, up: Axis, what: str) -> Iterator[str]:
     """The net of both axes with the numbers beside it, and their names."""
     for look, values in ((LIGHT, Axis.minor), (GREY, Axis.powers)):
         yield from (line(across.at(v), TOP_EDGE, across.at(v), BOTTOM, look) for v in values(across))
@@ -92,21 +93,21 @@ def axes(across: Axis, up: Axis) -> Iterator[str]:
     yield line(LEFT, TOP_EDGE, LEFT, BOTTOM, BLACK)
     yield from (words(across.at(v), BOTTOM + 18, short(v), MIDDLE) for v in across.powers())
     yield from (words(LEFT - 8, up.at(v) + 4, short(v), END) for v in up.powers())
-    yield words((LEFT + RIGHT) / 2, BOTTOM + 42, "rows", MIDDLE)
+    yield words((LEFT + RIGHT) / 2, BOTTOM + 42, what + "s", MIDDLE)
     yield words(LEFT, TOP_EDGE - 10, "microseconds", MIDDLE)
 
 
-def even(across: Axis, up: Axis, rows: int, time: float) -> Iterator[str]:
-    """The line on which each row takes time/rows, as far as the net goes."""
-    each = time / rows
+def even(across: Axis, up: Axis, what: str, last_figure: tuple[int, float]) -> Iterator[str]:
+    """The line on which each row, or season, takes the same time as in the last figure, as far as the net goes."""
+    each = last_figure[1] / last_figure[0]
     first = max(10 ** across.low, 10 ** up.low / each)
     last = min(10 ** across.high, 10 ** up.high / each)
     ends = [place for n in (first, last) for place in (across.at(n), up.at(n * each))]
     yield line(*ends, 'stroke="#1a5fb4" stroke-dasharray="6 4"')
-    yield words(RIGHT - 8, BOTTOM - 10, "dashed: %.3g microseconds for each row" % each, END + ' fill="#1a5fb4"')
+    yield words(RIGHT - 8, BOTTOM - 10, "dashed: %.3g microseconds for each %s" % (each, what), END + ' fill="#1a5fb4"')
 
 
-def drawn(text: str) -> str:
+def drawn(text: str, what: str = "row") -> str:
     """The picture of the figures in this text."""
     title, found = read(text)
     rows, times = zip(*found)
@@ -117,7 +118,7 @@ def drawn(text: str) -> str:
         'font-family="sans-serif" font-size="12">' % (WIDTH, HEIGHT, WIDTH, HEIGHT),
         '<rect width="%d" height="%d" fill="#ffffff"/>' % (WIDTH, HEIGHT),
         words(WIDTH / 2, 22, title, MIDDLE + ' font-size="15"'),
-        *axes(across, up), *even(across, up, *found[-1]),
+        *axes(across, up, what), *even(across, up, what, found[-1]),
         '<polyline points="%s" fill="none" stroke="#c01c28"/>' % " ".join("%.1f,%.1f" % point for point in points),
         *('<circle cx="%.1f" cy="%.1f" r="3.5" fill="#c01c28"/>' % point for point in points),
         "</svg>",
@@ -127,7 +128,10 @@ def drawn(text: str) -> str:
 
 def files() -> Iterator[MadeFile]:
     yield from layers.files()
-    try:
-        yield MadeFile(PICTURE, drawn((TOP / FIGURES).read_text(encoding="utf-8")).encode())
-    except MakeError as error:
-        raise MakeError("%s: %s" % (FIGURES, error)) from None
+    for what in MEASURED:
+        figures = "docs/%ss.txt" % what
+        try:
+            picture = drawn((TOP / figures).read_text(encoding="utf-8"), what)
+        except MakeError as error:
+            raise MakeError("%s: %s" % (figures, error)) from None
+        yield MadeFile("docs/%ss.svg" % what, picture.encode())

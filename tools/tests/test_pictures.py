@@ -43,6 +43,9 @@ class PicturesTest(unittest.TestCase):
                       "dashed: 42.9 microseconds for each row"):
             self.assertIn(words, said)
         self.assertEqual(said.count("1,000"), 2, "on both axes")
+        by_season = pictures.drawn(TEXT, "season")
+        self.assertIn(">seasons<", by_season)
+        self.assertIn("42.9 microseconds for each season", by_season)
 
     def test_faulty_texts(self):
         for faulty, message in (
