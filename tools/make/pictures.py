@@ -1,4 +1,4 @@
-"""docs/pictures/layers.svg, the crates in their layers, from crates.txt; docs/rows.svg and docs/seasons.svg, from figures.
+"""docs/pictures/layers.svg, the crates in their layers, from crates.txt; docs/rows.svg and docs/seasons.svg, figures.
 
 docs/rows.svg shows how long the report call takes for how many rows, docs/seasons.svg
 for how many seasons. docs/rows.txt has a line for each measurement, the rows and the
