@@ -3,6 +3,8 @@ use exact::Canister;
 use exact::Equipment;
 use exact::Row;
 use exact::Season;
+use fields::classes::BY_CLASS;
+use fields::classes::LAST_CODE;
 use fields::classes::halves;
 use fields::classes::no_canister;
 use fields::equipment_at;
@@ -41,11 +43,6 @@ ghost use Rattle.sheet.specs.Sheet.{isAbsent, codeWrong, percentWrong, loadWron
 ghost use Rattle.sheet.specs.Sheet.{saturationAbove, someSeason, mileageWrong, vehiclesBefore, rowCheck};
 ghost use Rattle.sheet.specs.Range.{SeasonInRange};
 ghost use Rattle.checks.specs.Passed.{SeasonsPassed};
-
-// The largest code that names a canister, and the code that leaves it to the class.
-const LAST_CODE: u64 = 3;
-
-const BY_CLASS: u64 = 255;
 
 // The class and technology are not in the table.
 fn is_absent(e: Equipment) -> bool

@@ -8,6 +8,11 @@ ghost use Rattle.sheet.specs.Bytes.{fittedCanister, fittedTank, canisterOf, tan
 ghost use Rattle.sheet.specs.Range.{halves};
 ghost use Rattle.sheet.specs.Sheet.{noCanister};
 
+// The largest code that names a canister, and the code that leaves it to the class.
+pub const LAST_CODE: u64 = 3;
+
+pub const BY_CLASS: u64 = 255;
+
 // Classes 1, 2 and 4, by technology.
 fn small_first(litres: u64, technology: u64) -> Equipment
     requires { ⌜ litres ≤ 75 ⌝ }

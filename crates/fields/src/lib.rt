@@ -54,7 +54,7 @@ pub const SEASON_BYTES: usize = 8;
 pub const ROW_BYTES: usize = 24;
 
 // How many numbers 16 bits have. In two's complement one below 0 is written with this added.
-const BITS_16: u64 = 65536;
+pub const BITS_16: u64 = 65536;
 
 // A byte as a wider number.
 fn wide(b: u8) -> u64
@@ -78,7 +78,7 @@ pub fn u16_at(s: &[u8], i: usize) -> u64
     u8_at(s, i) + 256 * u8_at(s, i + 1)
 }
 
-pub fn u32_at(s: &[u8], i: usize) -> u64
+fn u32_at(s: &[u8], i: usize) -> u64
     requires { ⌜ i + 4 ≤ length (now s) ⌝ }
     ensures { λ r. ⌜ (r ≡ u32At (now (s .entry)) i) × (r < 2 ^ 32) ⌝ }
 {

@@ -13,7 +13,7 @@ pub const MASS_LIMIT: u64 = 9007199254740992;
 // The bits of a minus zero, and of 1.
 const MINUS_ZERO: u64 = 9223372036854775808;
 
-const ONE: u64 = 4607182418800017408;
+const ONE_BITS: u64 = 4607182418800017408;
 
 // A mass as a double. Through i64, which the machine turns into a double in one step: 0 is then a plus zero however it is set to round.
 fn double_of(n: u64) -> f64
@@ -31,7 +31,7 @@ fn zero_bits(x: f64) -> bool
     ensures { λ r. ⌜ r ≡ zeroBits x ⌝ }
 {
     let bits = f64::to_bits(x);
-    ONE <= (bits % MINUS_ZERO + (MINUS_ZERO - 1)) % MINUS_ZERO
+    ONE_BITS <= (bits % MINUS_ZERO + (MINUS_ZERO - 1)) % MINUS_ZERO
 }
 
 // The whole number that a double handed in is. A NaN fails the first test, an infinity one of the first two, a fraction or a number

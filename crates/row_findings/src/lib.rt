@@ -1,5 +1,7 @@
 // Each row: numbers 13 to 21, 25 and 26.
 use exact::Row;
+use fields::classes::BY_CLASS;
+use fields::classes::LAST_CODE;
 use fields::classes::no_canister;
 use fields::has_many_rows;
 use fields::has_mileage;
@@ -36,12 +38,8 @@ ghost use Rattle.findings.specs.Lines.{eachFinding};
 ghost use Rattle.findings.specs.Table.{lastTechnology, classFinding, percentFinding, fleetFinding, useFinding, loadFinding};
 ghost use Rattle.findings.specs.Table.{saturationFinding, drivenFinding, mileageFinding, rowFinding};
 
-// The classes, and the last of the codes that name a canister; this code leaves it to the class.
+// The classes of the table.
 const CLASSES: u64 = 9;
-
-const LAST_CODE: u64 = 3;
-
-const BY_CLASS: u64 = 255;
 
 // The last technology of a class.
 fn last_technology(class: u64) -> u64

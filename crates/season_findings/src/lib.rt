@@ -1,5 +1,6 @@
 // Each season: numbers 10 to 12.
 use exact::Season;
+use fields::BITS_16;
 use fields::limits::COLD_LIMIT;
 use fields::limits::DAYS_LIMIT;
 use fields::limits::VP_LEAST;
@@ -24,10 +25,8 @@ ghost use Rattle.sheet.specs.Sheet.{daysBefore};
 ghost use Rattle.findings.specs.Lines.{eachFinding};
 ghost use Rattle.findings.specs.Table.{shifted, daysFinding, weatherFinding, seasonFinding};
 
-// What a temperature is shifted by, so that none is below 0, and how many numbers 16 bits have.
+// What a temperature is shifted by, so that none is below 0.
 const SHIFT: u64 = 32768;
-
-const BITS_16: u64 = 65536;
 
 // A temperature in tenths of °C, shifted.
 fn shifted(tenths: u64) -> u64

@@ -1,13 +1,12 @@
 // The exponent at which E reaches a mileage, in units of 10^-14: it is found downwards from a whole exponent c, by the binary digits of d = c - y.
+use bounds::exp::ZERO;
 use bounds::exp::exponential;
 ghost use mathlib.Core.Path.{_≡_};
 ghost use Prim.Native.Nat.{_+_, _*_, _^_, _<_, _≤_};
 ghost use Rattle.bounds.specs.Exponential.{entries};
 ghost use Rattle.thresholds.specs.Thresholds.{far, within, digit, digits, firstKilometres, wholeAbove, short};
 
-// An exponent of 0, as `exponential` takes it; and of 1, in units.
-const ZERO: u64 = 1600000000000000;
-
+// An exponent of 1, in units.
 const TEN_14: u64 = 100000000000000;
 
 // How far 2^40 E(d) can be above what is computed of it, for d up to 2^47.
