@@ -54,9 +54,10 @@ class Desk:
         self.clients: list[Client] = []
         self.out = ledger.with_suffix(".out")
         with open(self.out, "wb") as out:
+            command = [sys.executable, TOP / "evp", "desk", "--ledger", ledger.name, "--port", self.port]
             self.process = subprocess.Popen(
-                [*map(str, before), sys.executable, str(TOP / "evp"), "desk", ledger.name, "--port", str(self.port),
-                 *map(str, words)], stdin=subprocess.DEVNULL, stdout=out, stderr=subprocess.STDOUT, cwd=ledger.parent)
+                [str(word) for word in (*before, *command, *words)], stdin=subprocess.DEVNULL, stdout=out,
+                stderr=subprocess.STDOUT, cwd=ledger.parent)
         self._await()
         self.links = [link for _, link in LINK.findall(self.said)]
 

@@ -455,6 +455,7 @@ class NamesTest(LedgerTestCase):
                 ("row,participant\n1,a\n", "row 2 has no participant"),
                 ("row,participant\n1,a\n1,b\n", "line 3: row 1 is there twice"),
                 ("row,participant\n25,a\n", "line 2: row: '25' is none; the sheet has 24 rows"),
+                ("row,participant\n" + "9" * 5_000 + ",a\n", "line 2: row: '99999"),
                 ("row,participant\n1,=1+2\n", "does not start with ="),
                 ("row,participant\n1," + "x" * 41 + "\n", "1 to 40 signs"),
                 ("row,participant\n" + "".join("%d,p%d\n" % (row, row) for row in range(1, 25)), "'p9' would be the"),
@@ -633,18 +634,26 @@ class CommandTest(LedgerTestCase):
     def test_options(self):
         for words, said in (
                 (("--new", SHEET), "--new wants a ledger"), (("--export", "x"), "--export wants a ledger"),
-                (("course.db", "--owners", "x"), "--owners goes with --new")):
+                (("course.db", "--owners", "x"), "--owners goes with --new"),
+                (("a.db", "--ledger", "b.db"), "two ledgers are named, b.db and a.db")):
             found = run("desk", *words)
             self.assert_plain(found, 2)
             self.assertIn(said, found.err)
 
+    def test_spellings(self):
+        """A ledger is named with --ledger or alone."""
+        made_ledger(self.file)
+        for words in (("--ledger", self.file), (self.file,)):
+            self.assert_plain(run("desk", *words, "--export", self.folder / "now.evp", "--force"), 0)
+            self.assertEqual((self.folder / "now.evp").read_bytes(), REGION)
+
     @unittest.skipUnless(HAS_MODULES, NO_MODULES)
     def test_addresses(self):
-        for host in ("0.0.0.0", "::"):
-            self.assertIn("--host wants one address of this machine", self.refused_start(
-                "course.db", "--new", SHEET, "--host", host))
+        for address in ("0.0.0.0", "::", ""):
+            self.assertIn("--lan wants one address of this machine", self.refused_start(
+                "course.db", "--new", SHEET, "--lan", address))
         self.assertIn("nothing can be served at 203.0.113.7", self.refused_start(
-            "course.db", "--new", SHEET, "--host", "203.0.113.7"))
+            "course.db", "--new", SHEET, "--lan", "203.0.113.7"))
         with socket.socket() as taken:
             taken.bind((HOST, 0))
             taken.listen()
@@ -654,12 +663,12 @@ class CommandTest(LedgerTestCase):
 
     @unittest.skipUnless(HAS_MODULES and sys.platform == "linux", NO_MODULES)
     def test_loopback_unless_asked(self):
-        """Without --host the desk listens at 127.0.0.1 alone; with one the terminal says what that means."""
+        """Without --lan the desk listens at 127.0.0.1 alone; with it the terminal says what that means."""
         desk = self.serve("--new", SHEET)
         self.assertEqual(listened(desk.port), {"0100007F"})  # the bytes of 127.0.0.1, the lowest first
         self.assertNotIn("plain HTTP", desk.said)
         desk.kill()
-        again = self.serve("--host", "127.0.0.2")
+        again = self.serve("--lan", "127.0.0.2")
         self.assertEqual(listened(again.port), {"0200007F"})
         self.assertIn("by plain HTTP: whoever can listen to that network", again.said)
         self.assertIn("The links that were given out hold: http://127.0.0.2:%d/ledger/KEY." % again.port, again.said)
@@ -688,10 +697,11 @@ class CoursePageTest(LedgerTestCase):
         self.assertEqual(len(blocks), 4)
         links = []
         for words, printed in blocks:
-            first, *rest = shlex.split(words)
+            option, file, *rest = shlex.split(words)
+            self.assertEqual((option, file), ("--ledger", self.file.name))
             if "--export" in rest:
-                found = subprocess.run([sys.executable, TOP / "evp", "desk", first, *rest], cwd=self.folder, text=True,
-                                       capture_output=True)
+                found = subprocess.run([sys.executable, TOP / "evp", "desk", option, file, *rest], cwd=self.folder,
+                                       text=True, capture_output=True)
                 self.assertEqual(found.stdout, printed)
                 continue
             desk = self.serve(*rest)

@@ -9,7 +9,7 @@ from typing import NamedTuple
 
 from evp import layout
 from evp.commands import SheetRefused, get_library
-from evp.desk.ledger import MARKER, PARTICIPANTS, CourseLedger, new_person, open_first
+from evp.desk.ledger import MARKER, MOST_DIGITS, PARTICIPANTS, CourseLedger, new_person, open_first
 from evp.desk.store import Opening, Store, create
 from evp.explain import call_text, explain
 from evp.files import InputError, read_sheet, read_text, write_file
@@ -24,10 +24,11 @@ SECRET_BYTES = 16  # 128 bits
 MOST_NAME = 40  # signs
 MOST_ROWS = 100  # of a participant, as the library has it
 EVERYWHERE = ("0.0.0.0", "::", "")
-LOOPBACK = ("127.0.0.1", "::1", "localhost")
+HERE = "127.0.0.1"  # this machine alone
+LOOPBACK = (HERE, "::1", "localhost")
 PLAIN = """\
 This desk can be reached from the network at {address}, by plain HTTP: whoever can listen to that network, as everyone
-in an open Wi-Fi, can read links and figures and use them. Serve so in a network of your own, or leave --host out and
+in an open Wi-Fi, can read links and figures and use them. Serve so in a network of your own, or leave --lan out and
 let participants come through ssh -L {port}:127.0.0.1:{port}.
 """
 
@@ -54,7 +55,7 @@ def read_owners(file: str, rows: int) -> Dealt:
     for line in table.lines:
         where = "%s: line %d: " % (name_shown(file), line.number)
         row, name = line.cells.get("row", ""), line.cells.get("participant", "")
-        if not (row.isascii() and row.isdigit() and 1 <= int(row) <= rows):
+        if not (row.isascii() and row.isdigit() and len(row) <= MOST_DIGITS and 1 <= int(row) <= rows):
             raise InputError("%srow: %s is none; the sheet has %s" % (where, quoted(row), counted(rows, "row")))
         if owners[int(row) - 1]:
             raise InputError("%srow %s is there twice" % (where, row))
@@ -137,9 +138,9 @@ def require_modules():
 
 
 def address_of(given: Namespace) -> str:
-    if given.host in EVERYWHERE:
-        raise InputError("--host wants one address of this machine, as 192.168.1.5; hostname -I lists them")
-    return given.host
+    if given.lan in EVERYWHERE:
+        raise InputError("--lan wants one address of this machine, as 192.168.1.5; hostname -I lists them")
+    return given.lan or HERE
 
 
 def base_of(address: str, port: int) -> str:
@@ -161,7 +162,8 @@ def say_links(ledger: CourseLedger, made: dict[int, str], base: str):
 
 def say_ledger(ledger: CourseLedger, shown: str):
     calls = sum(map(ledger.made, (MARKER, *PARTICIPANTS)))
-    print("%s: %s of %s, %s" % (shown, counted(layout.row_count(ledger.opening.sheet), "row"), ledger.opening.source, (
+    rows, source = layout.row_count(ledger.opening.sheet), name_shown(ledger.opening.source)
+    print("%s: %s of %s, %s" % (shown, counted(rows, "row"), source, (
         "%s played again, and all is as it was" % counted(calls, "call") if calls else "no calls yet")))
 
 
@@ -171,25 +173,36 @@ def say_ledger(ledger: CourseLedger, shown: str):
 def add_parser(add, subparsers):
     desk = add(subparsers, "desk", run,
                "serves the desk's pages to browsers of this machine, and the ledger of a course where one is named",
-               "evp desk\nevp desk course.db --new north.evp --owners owners.csv\nevp desk course.db\n"
-               "evp desk course.db --export north-now.evp", "force")
-    desk.add_argument("ledger", nargs="?", metavar="LEDGER", help="the file of a course's ledger")
-    desk.add_argument("--new", metavar="SHEET", help="make LEDGER from this sheet, and say its nine links once")
+               "evp desk\nevp desk --ledger course.db --new north.evp --owners owners.csv\n"
+               "evp desk --ledger course.db --lan 192.168.1.5\n"
+               "evp desk --ledger course.db --export north-now.evp", "force")
+    desk.add_argument("file", nargs="?", metavar="LEDGER", help="the same as --ledger LEDGER")
+    desk.add_argument("--ledger", metavar="FILE", help="the file of a course's ledger")
+    desk.add_argument("--new", metavar="SHEET", help="make the ledger from this sheet, and say its nine links once")
     desk.add_argument("--owners", metavar="FILE",
                       help="csv: row,participant; without it the rows are dealt out in turn")
     desk.add_argument("--renew", metavar="WHO", help="a new link for one of the nine; the old one is none any more")
     desk.add_argument("--export", metavar="SHEET", help="write the sheet as it stands, and serve nothing")
     desk.add_argument("--port", type=int, default=8765, metavar="N", help="8765 where none is given")
-    desk.add_argument("--host", default="127.0.0.1", metavar="ADDRESS",
-                      help="an address of this machine, for a network; without it this machine alone is served")
+    desk.add_argument("--lan", "--host", metavar="ADDRESS",
+                      help="serve a network at this address of the machine, by plain HTTP that can be listened to; "
+                      "without it this machine alone is served")
     desk.add_argument("--patience", type=int, default=30, metavar="SECONDS",
                       help="how long a request may take to come in; 30 where none is given")
+
+
+def ledger_of(given: Namespace) -> str | None:
+    """The ledger that is named, with --ledger or alone."""
+    if given.file is not None and given.ledger is not None:
+        raise InputError("two ledgers are named, %s and %s; a desk has one" % (
+            name_shown(given.ledger), name_shown(given.file)))
+    return given.ledger if given.file is None else given.file
 
 
 def check_given(given: Namespace):
     for option, value in (("--new", given.new), ("--renew", given.renew), ("--export", given.export)):
         if value is not None and given.ledger is None:
-            raise InputError("%s wants a ledger: evp desk LEDGER %s .." % (option, option))
+            raise InputError("%s wants a ledger: evp desk --ledger FILE %s .." % (option, option))
     if given.patience < 1:
         raise InputError("--patience wants at least 1 second")
     if given.owners is not None and given.new is None:
@@ -210,6 +223,7 @@ def open_ledger(library: Library, given: Namespace) -> tuple[CourseLedger, dict[
 
 
 def run(given: Namespace) -> int:
+    given.ledger = ledger_of(given)
     check_given(given)
     library = get_library()
     if given.export is not None:
@@ -236,7 +250,7 @@ def serve(library: Library, given: Namespace) -> int:
     from evp.desk.security import hosts_of
     from evp.desk.server import listening, server_of
     if given.ledger is None and not has_pages():
-        raise InputError("there is nothing to serve: evp desk LEDGER names a ledger, --new SHEET makes one")
+        raise InputError("there is nothing to serve: --ledger FILE names a ledger, --new SHEET makes one")
     address = address_of(given)
     listener = listening(address, given.port)
     port, ledger = listener.getsockname()[1], None

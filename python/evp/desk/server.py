@@ -62,7 +62,7 @@ def listening(address: str, port: int) -> socket.socket:
         made.bind((address, port))
     except socket.gaierror:
         made.close()
-        raise InputError("%s is no address; --host names one of this machine's, as 192.168.1.5" % address) from None
+        raise InputError("%s is no address; --lan names one of this machine's, as 192.168.1.5" % address) from None
     except (OSError, OverflowError) as error:
         made.close()
         if getattr(error, "errno", None) == errno.EADDRINUSE:
