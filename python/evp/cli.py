@@ -204,7 +204,7 @@ def main(words: list[str] | None = None) -> int:
 def _run(top: Parser, words: list[str]) -> int:
     """The exit status of a command."""
     try:
-        given = top.parse_args(words)
+        given = top.parse_args(page_command.with_kind(words))
         status = given.run(given)
         sys.stdout.flush()
         return status

@@ -8,6 +8,7 @@ import re
 import unittest
 import zipfile
 from unittest import mock
+from urllib.parse import unquote
 
 from support import LIBRARY, SAMPLES, TEXT, DeskTestCase, run, sample, samples
 
@@ -599,15 +600,39 @@ class TestCommand(DeskTestCase):
         self.assert_plain(run("page", "sheet", SAMPLES / "region.evp", "-o", self.folder / "sheet.html"), 2)
         self.assert_plain(run("page", "sheet", COURSE / "heath.evp", "-o", self.folder / "refused.html"), 1)
 
+    def test_a_sheet_alone(self):
+        """`evp page SHEET` is the page of a sheet; what is no kind of page and no sheet is said."""
+        self.assert_plain(run("page", "sheet", COURSE / "north.evp", "-o", self.folder / "a.html"), 0)
+        self.assert_plain(run("page", COURSE / "north.evp", "-o", self.folder / "b.html"), 0)
+        self.assertEqual((self.folder / "a.html").read_bytes(), (self.folder / "b.html").read_bytes())
+        found = run("page", "--filed", COURSE / "filed.csv", COURSE / "ridge.evp", "-o", self.folder / "c.html")
+        self.assert_plain(found, 1)
+        self.assertIn(" bytes: 1 sheet, 15 figures: 10 agrees, 3 fits, 2 low", found.out)
+        self.assertIn("The filed figures", (self.folder / "c.html").read_text(encoding="utf-8"))
+        self.assertIn("invalid choice: 'clas'", run("page", "clas", COURSE, "-o", self.folder / "x").err)
+        self.assertIn("there is no such file", run("page", "none.evp", "-o", self.folder / "x").err)
+
+    def test_figures_that_are_not_there(self):
+        """A table of filed masses without a line for the sheet: said in the terminal and on the page."""
+        found = run("page", SAMPLES / "region.evp", "--filed", COURSE / "filed.csv", "-o", self.folder / "a.html")
+        self.assert_plain(found, 1)
+        self.assertIn("filed.csv has no figure for it", found.out)
+        self.assertIn("The table of filed masses has none for region.evp",
+                      Page((self.folder / "a.html").read_text(encoding="utf-8")).text)
+        fine = self.put("filed.csv", "sheet,row,mechanism,mass,unit\nregion.evp,total,,589.57,t\n")
+        self.assert_plain(run("page", SAMPLES / "region.evp", "--filed", fine, "-o", self.folder / "b.html"), 0)
+
     def test_class_with_its_sheets(self):
         target = self.folder / "class.html"
-        each = self.folder / "each"
+        each = self.folder / "each #1"
         found = run("page", "class", COURSE, "--filed", COURSE / "filed.csv", "--each", each, "-o", target)
         self.assert_plain(found, 1)
+        self.assertRegex(found.out, "bytes: 30 sheets, [0-9]+ figures: [0-9]+ agrees")
         links = re.findall('class="button" href="([^"]*)"', target.read_text(encoding="utf-8"))
         self.assertEqual(len(links), 30)
         for link in links:
-            self.assertTrue((self.folder / link).exists())
+            self.assertNotIn("#", link)
+            self.assertTrue((self.folder / unquote(link)).exists())
 
     def test_what_is_not_there(self):
         self.assert_plain(run("page", "day", COURSE / "north.evp", "--row", "8", "-o", self.folder / "x"), 2)

@@ -4,25 +4,39 @@ import os
 from argparse import Namespace
 from collections.abc import Callable
 from pathlib import Path
+from typing import NamedTuple
+from urllib.parse import quote
 
 from evp import commands, marking
 from evp.cells import read_travel
+from evp.explain import explain
 from evp.files import InputError, make_folder, read_sheet, write_file
 from evp.hints import with_hints
 from evp.library import Library, Refusal
 from evp.pages.needs import require
 from evp.wording import name_shown
 
-EXAMPLE = ("evp page class sheets --filed filed.csv --each pages -o class.html\n"
-           "evp page sheet north.evp --filed filed.csv -o north.html\n"
+KINDS = ("class", "sheet", "day", "parking", "fuels", "species", "cells", "pool")
+EXAMPLE = ("evp page north.evp --filed filed.csv -o north.html\n"
+           "evp page class sheets --filed filed.csv --each pages -o class.html\n"
            "evp page parking north.evp --row 2 -o parking.html\n"
            "evp page fuels summer.evp derogation.evp -o fuels.html")
+
+
+def with_kind(words: list[str]) -> list[str]:
+    """The words of a call; of `evp page SHEET`, which names no kind of page, those of `evp page sheet SHEET`."""
+    if words[:1] != ["page"] or len(words) < 2 or words[1] in (*KINDS, "-h", "--help"):
+        return words
+    first = words[1]
+    names_sheet = first.startswith("-") or first.lower().endswith(".evp") or os.path.isfile(first)
+    return ["page", "sheet", *words[1:]] if names_sheet else words  # else a kind that is not there, and that is said
 
 
 def add_parser(add_command: Callable, add):
     """`evp page` among the commands; `add_command` is that of cli."""
     page = add_command(add, "page", None, "makes a page of a class or of a sheet, as one file for a browser", EXAMPLE)
-    what = page.add_subparsers(required=True, metavar="WHAT", parser_class=type(page))
+    what = page.add_subparsers(required=True, metavar="WHAT", parser_class=type(page),
+                               help="a kind of page; SHEET alone is the same as sheet SHEET")
 
     def add_page(name: str, run: Callable, about: str, example: str, *operands: str):
         made = add_command(what, name, _needing_jinja(run), about, example, "force")
@@ -58,17 +72,24 @@ def add_parser(add_command: Callable, add):
              "evp page pool north.evp south.evp -o pool.html", "FIRST", "SECOND")
 
 
-def _needing_jinja(run: Callable[[Namespace], tuple[str, bool]]) -> Callable[[Namespace], int]:
+class Made(NamedTuple):
+    """A page, and what it tells in short where something is wrong."""
+    html: str
+    wrong: str = ""
+
+
+def _needing_jinja(run: Callable[[Namespace], Made]) -> Callable[[Namespace], int]:
     """Writes the page that `run` makes; exit status 1 where it tells of something that is wrong."""
     def command(given: Namespace) -> int:
         require("jinja2")
         if given.output != "-" and os.path.exists(given.output) and not given.force:  # before the work
             raise InputError("%s: there is such a file already; --force writes over it" % name_shown(given.output))
-        html, fine = run(given)
-        write_file(given.output, html.encode(), given.force)
+        made = run(given)
+        write_file(given.output, made.html.encode(), given.force)
         if given.output != "-":
-            print("%s: %d bytes" % (name_shown(given.output), len(html.encode())))
-        return commands.FINE if fine else commands.REFUSED
+            told = ": " + made.wrong if made.wrong else ""
+            print("%s: %d bytes%s" % (name_shown(given.output), len(made.html.encode()), told))
+        return commands.REFUSED if made.wrong else commands.FINE
     return command
 
 
@@ -82,7 +103,7 @@ def _chosen(number: int, many: int, what: str) -> int:
 # ------------------------------------------------------------------ the pages
 
 
-def page_class(given: Namespace) -> tuple[str, bool]:
+def page_class(given: Namespace) -> Made:
     from evp.pages import classes
     library, filed = commands.get_library(), marking.read_filed(given.filed)
     if not os.path.isdir(given.folder):
@@ -93,7 +114,12 @@ def page_class(given: Namespace) -> tuple[str, bool]:
         marks, _ = with_hints(library, sheets, filed.filings, marks, commands.Progress())
     pages = _each(library, given, sheets, filed.filings) if given.each else {}
     html = classes.page_class(sheets, filed.filings, marks, pages=pages, hints=given.hints)
-    return html, all(mark.verdict in marking.FINE for mark in marks)
+    return Made(html, _wrong(marks, len(sheets)))
+
+
+def _wrong(marks: list[marking.Mark], sheets: int) -> str:
+    """How many figures have which verdict, where not all are fine."""
+    return "" if all(mark.verdict in marking.FINE for mark in marks) else next(marking.summary(marks, sheets))
 
 
 def _each(library: Library, given: Namespace, sheets: dict[str, marking.Marked],
@@ -106,56 +132,60 @@ def _each(library: Library, given: Namespace, sheets: dict[str, marking.Marked],
         target = folder / ("sheet-%d.html" % i)
         html = page(library, name, sheet.data, [filing for filing in filings if filing.sheet == name])
         write_file(target, html.encode(), given.force)
-        links[name] = Path(os.path.relpath(target.resolve(), start)).as_posix()
+        links[name] = quote(Path(os.path.relpath(target.resolve(), start)).as_posix())
     return links
 
 
-def page_sheet(given: Namespace) -> tuple[str, bool]:
+def page_sheet(given: Namespace) -> Made:
     from evp.pages.sheets import page_sheet as page
     library, data, name = commands.get_library(), read_sheet(given.sheet), os.path.basename(given.sheet)
-    filings = marking.read_filed(given.filed).filings if given.filed else []
-    html = page(library, name, data, [filing for filing in filings if filing.sheet == name])
-    return html, library.check(data) is None
+    refusal = explain(library, data).line if library.check(data) else ""
+    if not given.filed:
+        return Made(page(library, name, data), refusal)
+    filings = [filing for filing in marking.read_filed(given.filed).filings if filing.sheet == name]
+    marks = marking.marks_of(library, {name: marking.marked(library, data)}, filings)
+    wrong = _wrong(marks, 1) if filings else "%s has no figure for it" % name_shown(given.filed)
+    return Made(page(library, name, data, filings), refusal or wrong)
 
 
-def page_day(given: Namespace) -> tuple[str, bool]:
+def page_day(given: Namespace) -> Made:
     from evp.pages.days import page_day as page
     library = commands.get_library()
     data, report = commands.read_report(library, given.sheet)
     rows = [_chosen(row, len(report.rows), "--row") for row in given.row or ()]
-    return page(library, os.path.basename(given.sheet), data, rows), True
+    return Made(page(library, os.path.basename(given.sheet), data, rows))
 
 
-def page_parking(given: Namespace) -> tuple[str, bool]:
+def page_parking(given: Namespace) -> Made:
     from evp.pages.parkings import page_parking as page
     library = commands.get_library()
     data, report = commands.read_report(library, given.sheet)
     season = None if given.season is None else _chosen(given.season, data[5], "--season")
     row = _chosen(given.row, len(report.rows), "--row")
-    return page(library, os.path.basename(given.sheet), data, season, row), True
+    return Made(page(library, os.path.basename(given.sheet), data, season, row))
 
 
-def page_fuels(given: Namespace) -> tuple[str, bool]:
+def page_fuels(given: Namespace) -> Made:
     from evp.pages.fuels import page_fuels as page
     library = commands.get_library()
     sheets = tuple(commands.read_report(library, name)[0] for name in (given.a, given.b))
-    return page(library, (os.path.basename(given.a), os.path.basename(given.b)), sheets), True
+    return Made(page(library, (os.path.basename(given.a), os.path.basename(given.b)), sheets))
 
 
-def page_species(given: Namespace) -> tuple[str, bool]:
+def page_species(given: Namespace) -> Made:
     from evp.pages.splits import page_species as page
     library = commands.get_library()
-    return page(library, os.path.basename(given.sheet), commands.read_report(library, given.sheet)[0]), True
+    return Made(page(library, os.path.basename(given.sheet), commands.read_report(library, given.sheet)[0]))
 
 
-def page_cells(given: Namespace) -> tuple[str, bool]:
+def page_cells(given: Namespace) -> Made:
     from evp.pages.splits import page_cells as page
     library = commands.get_library()
     data, report = commands.read_report(library, given.sheet)
-    return page(library, os.path.basename(given.sheet), data, read_travel(given.travel, len(report.rows))), True
+    return Made(page(library, os.path.basename(given.sheet), data, read_travel(given.travel, len(report.rows))))
 
 
-def page_pool(given: Namespace) -> tuple[str, bool]:
+def page_pool(given: Namespace) -> Made:
     from evp.pages.splits import page_pool as page
     library, names = commands.get_library(), (given.first, given.second)
     sheets = tuple(map(read_sheet, names))
@@ -163,4 +193,4 @@ def page_pool(given: Namespace) -> tuple[str, bool]:
         pooled = library.pool(*sheets)
     except Refusal as refusal:
         raise commands.SheetRefused(commands.pool_refusal(library, refusal, names, sheets)) from None
-    return page(library, tuple(map(os.path.basename, names)), sheets, pooled), True
+    return Made(page(library, tuple(map(os.path.basename, names)), sheets, pooled))

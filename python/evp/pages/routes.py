@@ -209,9 +209,9 @@ def show_sheet(given: Given) -> str:
     name, data = _sheet(given)
     tables = [file for file in given.get("files", ()) if file[0].lower().endswith(".csv")]
     text = text_of(tables[0][1], tables[0][0]) if tables else request.form.get("filed", "")
-    filings = marking.filed_of(text, "the filed masses").filings if text else []
-    packed = _pack(name, data, text)
-    return page_sheet(get_library(), name, data, [f for f in filings if f.sheet == name], True, packed)
+    label = tables[0][0] if tables else "the filed masses"
+    filings = [f for f in marking.filed_of(text, label).filings if f.sheet == name] if text else None
+    return page_sheet(get_library(), name, data, filings, True, _pack(name, data, text))
 
 
 @blueprint.post("/sheet/save")

@@ -1,6 +1,5 @@
 """The page of a sheet: where the mass of an accepted one comes from, and why a refused one is refused."""
 
-from collections.abc import Iterable
 from typing import NamedTuple
 
 from evp import layout
@@ -64,17 +63,16 @@ def _fleet(library: Library, data: bytes) -> list[Part]:
     return sorted(found, key=lambda part: part.total, reverse=True)
 
 
-def _judged(library: Library, data: bytes, report: Report, filings: Iterable[Filing]) -> list[Judged]:
+def _judged(library: Library, data: bytes, report: Report, filings: list[Filing]) -> list[Judged]:
     """The figures that were filed for this sheet."""
-    filings = list(filings)
     marked = {filing.sheet: Marked(data, "", bands(report)) for filing in filings}
     return [Judged(filing.figure, filing.filed, mark)
             for filing, mark in zip(filings, marks_of(library, marked, filings))]
 
 
-def page_sheet(library: Library, name: str, data: bytes, filings: Iterable[Filing] = (), served: bool = False,
+def page_sheet(library: Library, name: str, data: bytes, filings: list[Filing] | None = None, served: bool = False,
                packed: dict | None = None) -> str:
-    """The page of a sheet, accepted or refused; `filings` are those for this sheet."""
+    """The page of a sheet, accepted or refused; `filings` are those for this sheet, where a table of them is given."""
     explanation = explain(library, data)
     if explanation.number:
         return page_refused(library, name, data, explanation, served, packed)
@@ -89,7 +87,7 @@ def page_sheet(library: Library, name: str, data: bytes, filings: Iterable[Filin
         parking=parking_words(data),
         total=report.total, unit=unit, canisters=canisters, classes=classes, seasons=seasons, fleet=fleet,
         row_count=layout.row_count(data), vehicles=vehicles, groups=[(GROUP_NAMES[n], m) for n, m in groups(report)],
-        judged=_judged(library, data, report, filings), packed=packed,
+        judged=None if filings is None else _judged(library, data, report, filings), packed=packed,
         most_class=_most(classes), most_season=_most(seasons), most_row=_most(fleet))
 
 
