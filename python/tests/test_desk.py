@@ -1,6 +1,7 @@
 """The course's ledger over HTTP, each desk a process of its own: what its people are told, what is turned away, and
 what comes of a file that is not as it was or has no room."""
 
+import base64
 import contextlib
 import html
 import os
@@ -17,6 +18,7 @@ import unittest
 from collections import Counter
 from pathlib import Path
 from unittest import mock
+from urllib.parse import quote
 
 from desk_support import HAS_MODULES, HOST, MARKER, NO_MODULES, Desk, report_words
 from support import LIBRARY, SAMPLES, TOP, DeskTestCase, run, sample
@@ -158,6 +160,20 @@ class PeopleTest(LedgerTestCase):
             self.assertEqual(answers, [303] * 4)
         self.assertEqual(len(marker.table("calls.csv")), 10)
 
+    def test_two_tabs_at_once(self):
+        """Two tabs of one page make different calls: one is made, and the other is told that its page is old."""
+        marker, one, *_ = (desk := self.serve("--new", SHEET)).people()
+        for own in range(1, 11):
+            answers = []
+            threads = [threading.Thread(target=lambda count: answers.append(
+                desk.client(one.link).call("arrive", 1, count, own=own).status), args=[count]) for count in (5, 6)]
+            for thread in threads:
+                thread.start()
+            for thread in threads:
+                thread.join()
+            self.assertEqual(sorted(answers), [303, 409])
+        self.assertEqual(len(marker.table("calls.csv")), 10)
+
     def test_limit_of_calls(self):
         made_ledger(self.file)
         found = store.Store(self.file)
@@ -257,8 +273,8 @@ class TwoHistoriesTest(LedgerTestCase):
             yield got(link)
         for rest in ("", "/rows.csv", "/sheet.evp", "/report.csv", "/calls.csv", "/nothing", "/", "?every=10", "x"):
             yield got(link + rest)
-        yield got(link, "HEAD")
-        yield got(link, "DELETE")
+        for method in ("HEAD", "DELETE", "OPTIONS", "TRACE"):
+            yield got(link, method)
         yield posted(link, "x" * 5_000)
 
 
@@ -271,22 +287,27 @@ class TurnedAwayTest(LedgerTestCase):
         self.desk = self.serve("--new", SHEET, "--patience", 3)
         self.marker, *self.people = self.desk.people()
 
-    def assert_served(self, within: float = 15):
-        """A participant makes a call and reads the answer."""
+    def assert_served(self, meanwhile: str = "", within: float = 15):
+        """A participant makes a call and reads the answer; how long that took is printed, for docs/COURSE.md."""
         client = self.desk.client(self.people[0].link, timeout=within)
         began = time.monotonic()
         self.assertEqual(client.call("arrive", 1, 1).status, 303)
         self.assertEqual(client.said(), "Done: 1 vehicle arrived at row 1.")
-        self.assertLess(time.monotonic() - began, within)
+        took = time.monotonic() - began
+        self.assertLess(took, within)
+        if meanwhile:
+            print("%s: a call and a page meanwhile in %.2f s" % (meanwhile, took), file=sys.stderr)
         client.close()
 
     def test_wrong_secret(self):
-        right = self.people[0].link
+        right, told = self.people[0].link, set()
         for link in (right[:-1], right + "A", right.swapcase(), "/ledger/" + "A" * 22, "/ledger/", "/ledger/%00",
                      "/ledger/é", "/ledger/" + "A" * 5_000):
             answer = raw(self.desk.port, got(link))
             self.assertEqual(answer.split()[1], b"404" if link.isascii() else b"400", link)
             self.assertNotIn(right.encode(), answer)
+            told |= {without_date(answer)} if link.isascii() else set()
+        self.assertEqual(len(told), 1)  # the same page for all
         self.assert_served()
 
     def test_no_secret_is_kept_or_said(self):
@@ -294,11 +315,13 @@ class TurnedAwayTest(LedgerTestCase):
         with self.assertRaises(OSError):
             self.desk.client(self.people[0].link, timeout=0.0001).get()
         self.people[0].get("/no-such-page")
+        self.people[0].call("arrive", 1, 1)
         kept = self.file.read_bytes()
         for link in self.desk.links:
             self.assertNotIn(link.rpartition("/")[2].encode(), kept)
             self.assertEqual(self.desk.said.count(link), 1)
-        self.assertEqual(self.file.stat().st_mode & 0o777, 0o600)
+        for file in (self.file, self.file.with_name(self.file.name + "-journal")):
+            self.assertEqual(file.stat().st_mode & 0o777, 0o600)
 
     def test_another_row(self):
         before = self.marker.get("/sheet.evp").body
@@ -315,12 +338,17 @@ class TurnedAwayTest(LedgerTestCase):
         self.assertEqual(answer.split()[1], b"413")
         self.assertIn(b"This is longer than anything that is wanted here.", answer)
         self.assertLess(time.monotonic() - began, 5)
-        with contextlib.suppress(OSError), socket.create_connection((HOST, self.desk.port), 5) as sending:
-            sending.sendall(head + b"x" * 10_000_000)
-        chunked = head.replace(b"Content-Length: 10000000", b"Transfer-Encoding: chunked")
-        with contextlib.suppress(OSError), socket.create_connection((HOST, self.desk.port), 5) as sending:
-            sending.sendall(chunked + b"989680\r\n" + b"x" * 10_000_000 + b"\r\n0\r\n\r\n")
-            self.assertEqual(sending.recv(100).split()[1], b"413")
+        answer = raw(self.desk.port, head.replace(b"\r\n\r\n", b"\r\nExpect: 100-continue\r\n\r\n"))
+        self.assertEqual(answer.split()[1], b"413")  # nobody is asked to go on
+        chunked = head.replace(b"Content-Length: 10000000", b"Transfer-Encoding: chunked") + b"989680\r\n"
+        for start in (head, chunked):
+            with socket.create_connection((HOST, self.desk.port), 5) as sending:
+                with contextlib.suppress(OSError):  # the desk may be gone in the midst
+                    sending.sendall(start + b"x" * 1_000_000)
+                self.assert_served("a body of 10 MB")
+                with contextlib.suppress(OSError):
+                    sending.sendall(b"x" * 9_000_000)
+                self.assertEqual(sending.recv(100).split()[1], b"413")
         self.assertEqual(self.people[0].post(call="arrive", row=1, vehicles="1" + " " * 5_000).status, 413)
         self.assert_served()
 
@@ -330,7 +358,7 @@ class TurnedAwayTest(LedgerTestCase):
         self.assertGreater(most_connections(), 1_000)  # of this process too
         with contextlib.ExitStack() as stack:
             idle = [stack.enter_context(socket.create_connection((HOST, self.desk.port), 10)) for _ in range(1_000)]
-            self.assert_served()
+            self.assert_served("1,000 connections")
             for connection in idle[::100]:
                 connection.settimeout(15)
                 self.assertEqual(connection.recv(1), b"")
@@ -360,7 +388,7 @@ class TurnedAwayTest(LedgerTestCase):
         self.addCleanup(stop.set)
         for thread in threads:
             thread.start()
-        self.assert_served()
+        self.assert_served("50 slow senders")
         end = time.monotonic() + 20
         while len(closed) < len(threads) and time.monotonic() < end:
             time.sleep(0.1)
@@ -373,17 +401,50 @@ class TurnedAwayTest(LedgerTestCase):
         """Twenty classes to be marked at once: eight are, two at a time, and the others are told to try again."""
         form = "example=course&hints=on"
         answers = []
-        threads = [threading.Thread(target=lambda: answers.append(raw(self.desk.port, posted("/class", form), 60)))
-                   for _ in range(20)]
+        threads = [threading.Thread(target=lambda path: answers.append(raw(self.desk.port, posted(path, form), 60)),
+                                    args=[("/class", "/open")[i % 2]]) for i in range(20)]
         for thread in threads:
             thread.start()
-        self.assert_served()
+        self.assert_served("20 classes")
         for thread in threads:
             thread.join()
         statuses = Counter(answer.split()[1] for answer in answers)
         self.assertEqual(set(statuses), {b"200", b"503"})
         self.assertGreaterEqual(statuses[b"200"], 8)
         self.assert_served()
+
+    def test_many_pages(self):
+        """Thirty pages of a sheet at once: twelve are made or wait, four at a time, and the others are told to try
+        again."""
+        form = "sheet64=%s&name=a.evp" % quote(base64.b64encode(sample("districts")).decode())
+        answers = []
+        threads = [threading.Thread(target=lambda: answers.append(raw(self.desk.port, posted("/day", form), 60)))
+                   for _ in range(30)]
+        for thread in threads:
+            thread.start()
+        self.assert_served("30 pages")
+        for thread in threads:
+            thread.join()
+        statuses = Counter(answer.split()[1] for answer in answers)
+        self.assertLessEqual(set(statuses), {b"200", b"503"})
+        self.assertGreaterEqual(statuses[b"200"], 12)
+
+    def test_foreign_page(self):
+        """What the page of another site sends is turned away, though it had a link; what a desk's own page sends is
+        taken, and a link to the desk may stand anywhere."""
+        call = posted(self.people[0].link, "call=arrive&row=1&vehicles=5")
+        for header in (b"Origin: http://evil.example", b"Origin: http://127.0.0.1:1", b"Origin: https://HOST",
+                       b"Sec-Fetch-Site: cross-site", b"Sec-Fetch-Site: same-site\r\nOrigin: null"):
+            for request in (call, posted("/class", "example=course&hints=on"), posted("/form/save", "form=x")):
+                answer = raw(self.desk.port, request.replace(b"\r\n\r\n", b"\r\n%s\r\n\r\n" % header, 1))
+                self.assertEqual(answer.split()[1], b"403", header)
+        self.assertEqual(self.marker.table("calls.csv"), [])
+        own = b"Origin: http://127.0.0.1:%d" % self.desk.port
+        for header in (b"Origin: null", own, b"Sec-Fetch-Site: same-origin"):
+            answer = raw(self.desk.port, call.replace(b"\r\n\r\n", b"\r\n%s\r\n\r\n" % header, 1))
+            self.assertEqual(answer.split()[1], b"303", header)
+        link = got(self.people[0].link).replace(b"\r\n\r\n", b"\r\nSec-Fetch-Site: cross-site\r\n\r\n")
+        self.assertEqual(raw(self.desk.port, link).split()[1], b"200")
 
     def test_foreign_host(self):
         for host in (b"evil.example", b"evil.example:%d" % self.desk.port, b"127.0.0.1", b"127.0.0.1:1", b"",
@@ -406,7 +467,7 @@ class TurnedAwayTest(LedgerTestCase):
                      "//secret.txt", link + "/../../../../etc/passwd", link + "/..%2fsheet.evp", "/static/../evp",
                      "/ledger/..\\..\\secret.txt"):
             answer = raw(self.desk.port, got(path))
-            self.assertIn(answer.split()[1], (b"404", b"400", b"308"), path)
+            self.assertEqual(answer.split()[1], b"404", path)
             self.assertNotIn(b"not for you", answer)
             self.assertNotIn(b"root:x:", answer)
         self.assert_served()
@@ -449,6 +510,24 @@ class NamesTest(LedgerTestCase):
         self.assertIn(html.escape(self.NAME), pages[MARKER])
         self.assertIn("{{ 7 * 7 }}", pages[MARKER])
         self.assertEqual(sum(html.escape(self.NAME) in page for page in pages[1:]), 1)
+
+    def test_markup_in_a_class(self):
+        """In the names of dropped sheets and in those of filed.csv, over HTTP."""
+        desk = self.serve("--new", SHEET)
+        names = [self.NAME + ".evp", "\"><img src=x onerror=alert(1)>.evp", "{{ 7 * 7 }}.evp"]
+        lines = ["\"%s\",total,,1.0,t" % name.replace('"', '""') for name in (*names, "<b>nobody</b>")]
+        files = [*((name, REGION) for name in names),
+                 ("<i>filed</i>.csv", ("sheet,row,mechanism,mass,unit\n" + "\n".join(lines) + "\n").encode())]
+        for path in ("/class", "/open"):
+            answer = desk.client().ask("POST", path, *uploaded(files))
+            self.assertEqual(answer.status, 200)
+            for sign in ("<script>alert", "<img", "<b>nobody", "<i>"):
+                self.assertNotIn(sign, answer.text)
+            for name in (self.NAME, "<b>nobody</b>"):
+                self.assertIn(html.escape(name), answer.text)
+            self.assertIn("{{ 7 * 7 }}", answer.text)
+        marker, one, *_ = desk.people()
+        self.assertEqual(one.call("arrive", 1, 1).status, 303)
 
     def test_owners(self):
         for text, said in (
@@ -517,7 +596,8 @@ class FileTest(LedgerTestCase):
                 store.Store(self.put("other.db", content))
         with self.assertRaisesRegex(InputError, "there is no such ledger; --new SHEET makes one"):
             store.Store(self.folder / "absent.db")
-        for statement in ("DELETE FROM opening", "DELETE FROM people WHERE who = 3", "DROP TABLE people"):
+        for statement in ("DELETE FROM opening", "DELETE FROM people WHERE who = 3", "DROP TABLE people",
+                          "UPDATE people SET name = char(27) || '[2J' WHERE who = 3"):
             made_ledger(self.file)
             self.change(statement)
             with self.assertRaisesRegex(InputError, "damaged|no such table"):
@@ -733,6 +813,13 @@ def got(path: str, method: str = "GET") -> bytes:
 def posted(path: str, body: str) -> bytes:
     return (b"POST %s HTTP/1.1\r\nHost: HOST\r\nConnection: close\r\nContent-Length: %d\r\n"
             b"Content-Type: application/x-www-form-urlencoded\r\n\r\n%s" % (path.encode(), len(body), body.encode()))
+
+
+def uploaded(files: list[tuple[str, bytes]]) -> tuple[bytes, dict[str, str]]:
+    """Files as a browser sends them: the body and its headers."""
+    parts = (b'--BOUND\r\nContent-Disposition: form-data; name="files"; filename="%s"\r\n\r\n%s\r\n' % (
+        name.replace('"', "%22").encode(), data) for name, data in files)
+    return b"".join(parts) + b"--BOUND--\r\n", {"Content-Type": "multipart/form-data; boundary=BOUND"}
 
 
 def listened(port: int) -> set[str]:

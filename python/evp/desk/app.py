@@ -16,12 +16,13 @@ def create_app(hosts: frozenset[str], ledger: CourseLedger | None = None) -> Fla
     """The application for requests to `hosts`."""
     app = Flask("evp.desk", static_folder=None)
     app.config["MAX_CONTENT_LENGTH"] = security.MOST_BODY
+    app.url_map.merge_slashes = False  # an address is what it is: none leads to another
+    app.logger.disabled = True  # its lines have addresses in them, and an address may be a key
     security.protect(app, hosts)
     app.register_error_handler(Exception, _failure)
     if has_pages():
         from evp.pages.routes import blueprint
         app.register_blueprint(blueprint)
-        security.Turns().keep(app, "/class")
     if ledger is not None:
         app.register_blueprint(views.blueprint(ledger))
     return app

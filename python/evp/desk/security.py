@@ -1,12 +1,13 @@
 """What is turned away before a page is asked, and what every answer carries."""
 
-import threading
+from collections.abc import Collection
 
-from flask import Flask, Response, g, request
+from flask import Flask, Response, request
 
 from evp.desk.render import message
 from evp.pages.render import policy
 
+METHODS = ("GET", "HEAD", "POST")
 MOST_BODY = 4_100_000  # bytes of any request: the sheets of a class fit in
 
 HEADERS = {
@@ -21,13 +22,14 @@ HEADERS = {
 
 WORDS = {  # of what is turned away: a heading and a sentence
     400: ("Not understood", "The desk did not understand this request."),
+    403: ("From elsewhere", "The page of another site sent this. What is sent to this desk comes from its own pages."),
     404: ("No such page", "There is nothing at this address. A link to a ledger must be whole: its end is a key."),
     405: ("Not done", "This page is read and not written to."),
     411: ("Not understood", "A request must tell how long it is."),
     413: ("Too long", "This is longer than anything that is wanted here."),
     421: ("Another name", "This desk does not go by that name. Use the address that its terminal shows."),
     500: ("A fault of the desk", "This page could not be made. What was answered before is kept."),
-    503: ("Busy", "Others have classes marked at this moment. Try again in a minute."),
+    503: ("Busy", "Others keep this desk busy at the moment. Try again in a minute."),
 }
 
 
@@ -44,45 +46,27 @@ def hosts_of(address: str, port: int) -> frozenset[str]:
     return frozenset("%s:%d" % (name, port) for name in names) | (names if port == 80 else frozenset())
 
 
+def from_elsewhere(hosts: Collection[str]) -> bool:
+    """Whether a browser says that another site's page sends this. A link to the desk may stand anywhere; what is sent
+    to it may not. A desk's own page, which tells no referrer, has the Origin null."""
+    origin = request.headers.get("Origin", "null")
+    return request.method == "POST" and (
+        request.headers.get("Sec-Fetch-Site", "none") not in ("same-origin", "none")
+        or origin != "null" and origin.lower().removeprefix("http://") not in hosts)
+
+
 def protect(app: Flask, hosts: frozenset[str]):
-    """Checks each request for its host, and gives each answer its headers."""
+    """Checks each request for its host and for where it comes from, and gives each answer its headers."""
     @app.before_request
-    def check_host():
+    def check_request():
         if request.environ.get("HTTP_HOST", "").lower() not in hosts:
             return turned_away(421)
-        return None
+        if request.method not in METHODS:  # OPTIONS too, whose header would have its words in any order
+            return turned_away(405)
+        return turned_away(403) if from_elsewhere(hosts) else None
 
     @app.after_request
     def add_headers(answer: Response) -> Response:
         for name, value in HEADERS.items():
             answer.headers.setdefault(name, value)
         return answer
-
-
-class Turns:
-    """Classes are marked two at a time, and few may wait: so a class of thirty does not keep a ledger waiting."""
-
-    AT_ONCE, TOGETHER = 2, 8  # in work, and with those that wait
-
-    def __init__(self):
-        self._work, self._places = threading.Semaphore(self.AT_ONCE), threading.Semaphore(self.TOGETHER)
-
-    def keep(self, app: Flask, path: str):
-        """Lets the requests that send files to a path take turns."""
-        @app.before_request
-        def take_turn():
-            if request.method != "POST" or request.path != path:
-                return None
-            if not self._places.acquire(blocking=False):
-                return turned_away(503)
-            self._work.acquire()
-            g.turns = self._give
-            return None
-
-        @app.teardown_request
-        def give_turn(_):
-            g.pop("turns", lambda: None)()
-
-    def _give(self):
-        self._work.release()
-        self._places.release()

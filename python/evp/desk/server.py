@@ -32,6 +32,13 @@ class Channel(HTTPChannel):
 
     error_task_class = TurnedAway
 
+    def send_continue(self):
+        """Nobody is asked to go on with what is too long already."""
+        if self.request.error is None:
+            super().send_continue()
+        else:
+            self.request.expect_continue = False
+
     def handle_read(self):
         began = self.last_activity if self.request is not None else None
         super().handle_read()
@@ -75,8 +82,8 @@ def listening(address: str, port: int) -> socket.socket:
 def server_of(app: Flask, listener: socket.socket, patience: int):
     """A server that is ready to run. `patience` is how many seconds a request may take to come, and a connection may
     stay without one."""
-    logging.getLogger("waitress.queue").setLevel(logging.ERROR)  # a queue is no matter for the terminal
-    logging.getLogger("waitress").setLevel(logging.ERROR)
+    for name in ("waitress", "waitress.queue"):  # a queue is no matter for the terminal, and an address may be a key
+        logging.getLogger(name).setLevel(logging.CRITICAL)
     server = create_server(
         app, sockets=[listener], threads=THREADS, ident=None, max_request_body_size=MOST_BODY,
         connection_limit=most_connections(), backlog=1024, channel_timeout=patience,

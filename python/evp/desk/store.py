@@ -118,6 +118,8 @@ class Store:
         found = [Person(*row) for row in self._db.execute("SELECT who, name, secret FROM people ORDER BY who")]
         if [person.who for person in found] != list(range(9)):
             raise sqlite3.DatabaseError("the file is damaged: it has not nine people")
+        if not all(person.name.isprintable() for person in found):  # for a terminal
+            raise sqlite3.DatabaseError("the file is damaged: a name has signs that none has")
         return found
 
     @property

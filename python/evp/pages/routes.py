@@ -27,6 +27,7 @@ from evp.pages.parkings import page_parking
 from evp.pages.render import policy
 from evp.pages.sheets import page_sheet
 from evp.pages.splits import page_cells, page_pool, page_species
+from evp.pages.turns import CLASSES, PAGES, Turns
 from evp.tables import table_text
 from evp.wording import counted, name_shown
 
@@ -114,7 +115,7 @@ def _number(name: str, many: int) -> int | None:
     return int(word) - 1 if re.fullmatch("[1-9][0-9]{0,3}", word) and int(word) <= many else None
 
 
-def page(what: str) -> Callable:
+def page(what: str, turns: Turns = PAGES) -> Callable:
     """A page that asks for files where it is fetched and shows them where they are sent."""
     def route(show: Callable[[Given], str]) -> Callable[[Given], str]:
         @wraps(show)
@@ -122,7 +123,9 @@ def page(what: str) -> Callable:
             if request.method == "GET":
                 return page_ask(what)
             try:
-                return show(_given())
+                given = _given()
+                with turns:
+                    return show(given)
             except InputError as error:
                 return page_ask(what, str(error)), 400
         blueprint.add_url_rule("/" + what, view_func=answer, methods=["GET", "POST"])
@@ -156,12 +159,14 @@ def open_files():
         given = _given()
         files = [file for found in given.values() for file in found]
         sheets = [name for name, _ in files if not name.lower().endswith(".csv")]
-        return show_class(given) if len(sheets) > 1 else show_sheet(given)
+        show, turns = (show_class, CLASSES) if len(sheets) > 1 else (show_sheet, PAGES)
+        with turns:
+            return show(given)
     except InputError as error:
         return page_home(str(error)), 400
 
 
-@page("class")
+@page("class", CLASSES)
 def show_class(given: Given) -> str:
     files = [file for found in given.values() for file in found]
     filed = [file for file in files if file[0].lower().endswith(".csv")]
