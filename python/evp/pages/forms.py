@@ -17,11 +17,11 @@ from evp.files import InputError, text_of
 from evp.layout import CANISTERS, CLASSES, MILEAGE, ROW_FIELDS, SEASON_FIELDS, Field
 from evp.library import MECHANISMS, Library
 from evp.masses import shown
-from evp.pages.refusals import minus_in
+from evp.pages.refusals import limits_of, minus_in
 from evp.pages.render import render
 from evp.pages.words import hours
 from evp.sheet import Builder, TextError, doubts, folder_of, folders, take_text
-from evp.sheet.folders import WORDS, numbers, plain
+from evp.sheet.folders import numbers, plain
 from evp.sheet.reader import record_words
 from evp.sheet.words import encode
 from evp.tables import read_table
@@ -31,6 +31,7 @@ MOST_RECORDS = 1_200  # some more than a sheet may have, so that the library say
 MOST_WORD = 200  # signs
 PLACE = "fleet line %d"  # of a row, as messages about several rows take it
 FIELDS = {"season": SEASON_FIELDS, "row": (*ROW_FIELDS, MILEAGE)}
+CHOSEN = ("class", "technology", "canister")  # from a list
 NEEDED = {"season": [field.name for field in SEASON_FIELDS], "row": ["class", "technology"]}
 GUIDEBOOK = {  # Tables 3-12 and 3-13 in tenths of a percent; below 0.5 h is 0.5 h, above 12 h 12 h, hour 0 end hour 24
     "durations": "420 140 20 49 59 20 29 15 15 10 10 5 10 5 5 5 5 5 5 5 5 5 5 130".split(),
@@ -189,8 +190,17 @@ def _in_form(text: str) -> str:
 # ------------------------------------------------------------------ what the library says of it
 
 
+def is_empty(form: Form) -> bool:
+    """Whether nobody has filled in anything yet; what is chosen from a list is chosen always."""
+    typed = [word for row in form.rows for name, word in row.items() if name not in CHOSEN]
+    counts = (*form.durations, *form.hours, *(word for line in form.grid for word in line))
+    return len(form.seasons) < 2 and len(form.rows) < 2 and not any((*form.seasons, *typed, *counts))
+
+
 def check_form(library: Library, form: Form) -> dict:
     """What a page shows: the state, a line, what is wrong at which field, what may not be meant, and the masses."""
+    if is_empty(form):
+        return {"state": "empty", "line": "Nothing is filled in yet.", "faults": [], "doubts": []}
     made = made_of(form)
     if made.data is None:
         many = counted(len(made.faults), "field")
@@ -326,6 +336,23 @@ def tables_of(data: bytes) -> bytes:
 
 LABELS = {"saturation": "m_sat", "carburettor": "carb.", "hot": "ends hot", "vp": "vapour pressure",
           "fill": "fill level"}
+SHORT = {  # of classes, so that a line fits a window of 1024 pixels
+    1: "car < 1.4 l", 2: "car 1.4–2.0 l", 3: "car > 2.0 l", 7: "4-stroke < 250", 8: "4-stroke ≤ 750",
+    9: "4-stroke > 750",
+}
+ABOUT = {  # as docs/SHEET.md has it
+    "days": "length of the season; all seasons together at most 366", "lowest": "lowest temperature of the day",
+    "highest": "highest temperature of the day", "vp": "vapour pressure of the fuel",
+    "class": "kind of vehicle: cars by engine in l, light-duty, mopeds, two-strokes, four-strokes by engine in cm³",
+    "technology": "conventional or Euro 1 to 5; classes 5 to 8 up to Euro 3, class 9 up to Euro 2",
+    "canister": "none, small, medium or large; by class is that of class and technology",
+    "carburettor": "share of vehicles with carburettor or fuel return",
+    "hot": "share of trips that end with a hot engine", "fill": "fill level of the tank",
+    "tank": "size of the tank; left empty it is that of the class", "vehicles": "number of vehicles",
+    "trips": "trips of a vehicle a day", "minutes": "length of a trip",
+    "load": "load of the canister when the parking starts", "saturation": "load that saturates the canister",
+    "mileage": "km that the vehicle has driven; in place of a load, and with a grid alone",
+}
 UNITS = {
     "days": "1 to 366", "lowest": "°C", "highest": "°C", "vp": "kPa", "class": "", "technology": "", "canister": "",
     "carburettor": "% of vehicles", "hot": "% of trips", "fill": "% of tank", "tank": "l", "vehicles": "number",
@@ -339,7 +366,7 @@ def label_of(field: Field) -> str:
 
 def _columns(kind: str) -> list[dict]:
     return [{"name": field.name, "label": label_of(field), "unit": UNITS[field.name],
-             "about": WORDS.get(field.name, field.unit)} for field in FIELDS[kind]]
+             "about": ABOUT[field.name], "limits": limits_of(field)} for field in FIELDS[kind]]
 
 
 def empty_form() -> dict:
@@ -356,7 +383,7 @@ def page_form(form: dict | None = None, name: str = "sheet", message: str = "") 
     """The page of the form, filled where a form is given."""
     return render(
         "form.html", True, columns={kind: _columns(kind) for kind in FIELDS}, name=name, message=message,
-        classes=[(number, words[0], len(words[2]) - 1) for number, words in CLASSES.items()],
-        technologies=["conventional", *("Euro %d" % i for i in range(1, 6))],
+        classes=[(number, SHORT.get(number, words[0])) for number, words in CLASSES.items()],
+        technologies=["conv.", *("Euro %d" % i for i in range(1, 6))],
         canisters=[name for name in ("class", "none", "small", "medium", "large")],
         told={"form": form or empty_form(), "guidebook": GUIDEBOOK, "example": example_form()})

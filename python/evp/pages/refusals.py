@@ -62,7 +62,8 @@ def _says(field: Field, value: int, row: dict[str, int]) -> str:
     return ""
 
 
-def _limits(field: Field) -> str:
+def limits_of(field: Field) -> str:
+    """What a field may be, in words."""
     if field.name in LIMITS:
         return LIMITS[field.name]
     return minus("%s to %s" % (field.shown(field.least), amount(field, field.most)))
@@ -84,7 +85,7 @@ def _record(data: bytes, found: Explanation) -> list[Shown]:
         shown.append(Shown(
             LABELS.get(field.name, field.name), place, field.size,
             ["%02x" % byte for byte in data[place:place + field.size]], minus(text), _says(field, value, row),
-            _limits(field), fault, limiting, passed))
+            limits_of(field), fault, limiting, passed))
         passed = passed and not fault
         place += field.size
     return shown

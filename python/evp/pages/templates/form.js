@@ -1,6 +1,7 @@
 (function () {
   var data = JSON.parse(document.getElementById("data").textContent);
   var form = document.getElementById("form"), told = document.getElementById("told"), serial = 0, timer = 0;
+  var narrow = matchMedia("(max-width: 700px)"), last = null;  // narrow, a field has a line of its own
   function get(id) { return document.getElementById(id); }
   function all(selector, within) { return Array.from((within || document).querySelectorAll(selector)); }
   function range(many) { return Array.from({ length: many }, function (_, i) { return i + 1; }); }
@@ -98,6 +99,17 @@
     all("tr.fault-row, .fault-text").forEach(function (told) { told.remove(); });
     all(".has-fault").forEach(function (line) { line.classList.remove("has-fault"); });
   }
+  function faultCell(line) {  // below the line, or what was told of it before
+    var place = line.nextElementSibling;
+    if (!place || !place.matches("tr.fault-row")) {
+      place = document.createElement("tr");
+      place.className = "fault-row";
+      place.insertCell().colSpan = line.cells.length;
+      line.classList.add("has-fault");
+      line.after(place);
+    }
+    return place.cells[0];
+  }
   function showFault(fault, i) {
     var field = get(fault.id), words = document.createElement("span");
     if (!field) return;
@@ -108,23 +120,16 @@
     if (control) field.setAttribute("aria-invalid", "true");
     field.setAttribute("aria-describedby", words.id);
     if (line) {
-      var place = document.createElement("tr"), cell = document.createElement("td");
-      place.className = "fault-row";
-      cell.colSpan = line.cells.length;
-      cell.append(words);
-      place.append(cell);
-      line.classList.add("has-fault");
-      var last = line;  // what was told of this line before stands above
-      while (last.nextElementSibling && last.nextElementSibling.matches("tr.fault-row")) last = last.nextElementSibling;
-      last.after(place);
+      (narrow.matches ? field.closest("td") : faultCell(line)).append(words);
     } else if (control) {
       field.closest(".counts, .scroll").after(words);
     } else field.append(words);
   }
   function show(answer) {
+    last = answer;
     clearFaults();
     answer.faults.slice(0, 20).forEach(showFault);
-    get("state").className = "state " + (answer.state === "accepted" ? "yes" : "no");
+    get("state").className = "state " + ({ accepted: "yes", empty: "" }[answer.state] ?? "no");
     told.replaceChildren(answer.line);
     if (answer.faults.length) {
       var link = document.createElement("a"), first = answer.faults[0];
@@ -138,7 +143,7 @@
     told.dataset.state = answer.state;
     told.dataset.serial = answer.serial || serial;
     get("save").textContent = answer.state === "refused" ? "Save it, though refused" : "Save the sheet";
-    get("save").disabled = get("save-csv").disabled = answer.state === "unread";
+    get("save").disabled = get("save-csv").disabled = answer.state === "unread" || answer.state === "empty";
     get("doubts").replaceChildren.apply(get("doubts"), answer.doubts.map(function (doubt) {
       var item = document.createElement("li");
       item.textContent = doubt;
@@ -180,6 +185,7 @@
   }
 
   // what people do
+  narrow.addEventListener("change", function () { if (last) show(last); });
   form.addEventListener("input", function (event) {
     if (event.target.type !== "file" && event.target.id !== "name") changed();
   });
