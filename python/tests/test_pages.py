@@ -579,8 +579,8 @@ class TestRoutes(unittest.TestCase):
     def test_season_and_row_of_the_parkings(self):
         sheet64 = base64.b64encode(sample("region")).decode()
         html = self.post("/parking", name="r.evp", sheet64=sheet64, season="2", row="3").get_data(as_text=True)
-        self.assertIn("season 2 (92 days", Page(html).text)
-        self.assertIn("row 3: cars below 1.4 l, Euro 2", Page(html).text)
+        self.assertIn("season 2, row 3: cars below 1.4 l, Euro 2", Page(html).text)
+        self.assertIn("Season 2 has 92 days", Page(html).text)
         self.assertEqual(self.post("/parking", name="r.evp", sheet64=sheet64, season="99", row="x").status_code, 200)
 
 

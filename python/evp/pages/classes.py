@@ -80,7 +80,8 @@ class Judged(NamedTuple):
         if self.verdict == "fits":
             step = 2 * 10 ** (3 * self.filed.unit) < 2 * (self.band.high - self.band.low) * 10 ** self.filed.places
             return "filed finer than the band is wide" if step else "the band reaches over a rounding edge"
-        return self.mark.note if self.verdict in ("absent", "unreadable") else ""
+        note = self.mark.note if self.verdict in ("absent", "unreadable") else ""
+        return note.replace("10^18", "10¹⁸").replace("10^-6", "10⁻⁶")
 
     @property
     def small(self) -> Markup:
@@ -126,7 +127,7 @@ class Sheet(NamedTuple):
     def words(self) -> str:
         """What is wrong, and by how much."""
         parts = [self._wrong_words(), self._settled_words()]
-        parts += ["%s: %s" % (judged.name, judged.mark.note) for judged in self.judged
+        parts += ["%s %s: %s" % (judged.name, judged.verdict, judged.why) for judged in self.judged
                   if judged.verdict in ("absent", "unreadable")][:2]
         wrong = list(filter(None, parts)) or [self._fine_words()]
         return "; ".join([*wrong, *filter(None, [self._missing_words()])])
@@ -190,6 +191,16 @@ def _sheets(sheets: dict[str, Marked], filings: Iterable[Filing], marks: Iterabl
     return sorted(found, key=lambda sheet: (ORDER.index(sheet.state), -sheet.count(*WRONG), sheet.name))
 
 
+def _heading(sheets: list[Sheet]) -> str:
+    """The answer: how many sheets to look at."""
+    there = [sheet for sheet in sheets if sheet.there]
+    look = sum(sheet.state in LOOK for sheet in there)
+    if not there:
+        return "No sheet"
+    told = counted(len(there), "sheet")
+    return "%d of %s to look at" % (look, told) if look else "%s, %sfine" % (told, "all " if len(there) > 1 else "")
+
+
 def _lead(sheets: list[Sheet]) -> str:
     """How many sheets to look at, and why, in a sentence."""
     states = Counter(sheet.state for sheet in sheets if sheet.there)
@@ -201,11 +212,13 @@ def _lead(sheets: list[Sheet]) -> str:
     }
     look = listed("%d %s" % (states[state], words[state][states[state] > 1]) for state in LOOK if states[state])
     fine = sum(states[state] for state in ORDER if state not in LOOK)
-    end = "; in %d of them the band cannot settle a figure" % states["fits"] if states["fits"] else ""
+    unsettled = "the band cannot settle a figure of it" if fine == 1 else (
+        "in %d of them the band cannot settle a figure" % states["fits"])
+    end = "; " + unsettled if states["fits"] else ""
     beyond = " Figures were filed for %s without a sheet." % counted(nowhere, "name") if nowhere else ""
-    rest = "none is" if not fine else "%d %s" % (fine, "is" if fine == 1 else "are")
-    told = "%s. %s" % (look, rest) if look else rest
-    return "%s%s fine%s.%s" % (told[0].upper(), told[1:], end, beyond)
+    rest = "None is" if not fine else "%d %s" % (fine, "is" if fine == 1 else "are")
+    told = "%s%s fine%s." % (look + ". " if look else "", rest, end) if states else ""
+    return (told + beyond).strip()
 
 
 EXAMPLE = Filed(283, 2, Unit.T)
@@ -231,8 +244,8 @@ def page_class(sheets: dict[str, Marked], filings: list[Filing], marks: list[Mar
     found = _sheets(sheets, filings, marks, across)
     heads = [(GROUP_NAMES[group], [figure for figure in across if figure.row == group]) for group in GROUPS]
     return render(
-        "class.html", served, sheets=found, there=[sheet for sheet in found if sheet.there],
-        look=[sheet for sheet in found if sheet.state in LOOK], lead=_lead(found),
+        "class.html", served, sheets=found, heading=_heading(found), lead=_lead(found),
+        look=[sheet for sheet in found if sheet.state in LOOK],
         counts=counts, legend=_legend(counts), across=across, heads=[head for head in heads if head[1]],
         with_total=Figure(TOTAL, "") in filed, with_rows=any(figure.row.isdigit() for figure in filed),
         pages=pages or {}, packed=packed or {}, hints=hints,

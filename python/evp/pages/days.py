@@ -7,7 +7,7 @@ from evp.layout import canister_of
 from evp.library import Band, Library
 from evp.pages.parts import DAY, temperatures, with_cell
 from evp.pages.render import render
-from evp.pages.words import canister_words, row_name, season_words, tenths
+from evp.pages.words import canister_short, canister_words, grams, row_name, season_words, tenths
 from evp.wording import name_shown
 
 DIURNAL = 1  # the factor of a parking
@@ -63,8 +63,8 @@ def _charts(days: list[list[float]]) -> list[Chart]:
     lowest = int(min(map(min, days)) // 5 * 5)
     highest = int(-(-max(map(max, days)) // 5) * 5)
     if highest - lowest < 10:
-        highest = lowest + 10
-    return [Chart("wide", 960, 400, 38, 74, 2, lowest, highest), Chart("narrow", 360, 340, 34, 66, 6, lowest, highest)]
+        lowest, highest = lowest - 5, lowest + 10
+    return [Chart("wide", 960, 400, 38, 80, 2, lowest, highest), Chart("narrow", 360, 340, 34, 76, 6, lowest, highest)]
 
 
 class Step(NamedTuple):
@@ -116,6 +116,7 @@ def page_day(library: Library, name: str, data: bytes, rows: list[int] | None = 
     season = max(range(len(seasons)), key=lambda i: seasons[i]["highest"])
     end_hour, duration = AT_FIRST
     records = [layout.row(data, i) for i in rows]
+    told_rows = ["row %d (%s)" % (i + 1, canister_short(row)) for i, row in zip(rows, records)]
     drawn = [{"x": [chart.x(i) for i in range(DAY + 1)], "y": [[chart.y(t) for t in day] for day in days],
               "base": chart.base} for chart in charts]
     return render(
@@ -124,12 +125,7 @@ def page_day(library: Library, name: str, data: bytes, rows: list[int] | None = 
         seasons=[{"name": "season %d" % (i + 1), "words": season_words(s), "lowest": tenths(s["lowest"]),
                   "highest": tenths(s["highest"]), "vp": tenths(s["vp"]), "days": s["days"]}
                  for i, s in enumerate(seasons)],
-        rows=[{"number": i + 1, "who": row_name(row), "canister": canister_words(row)}
-              for i, row in zip(rows, records)],
-        told={"days": [[round(t, 3) for t in day] for day in days], "charts": drawn,
-              "grams": [[[[_grams(band) for band in hour] for hour in season] for season in row] for row in factors]})
-
-
-def _grams(band: Band) -> float:
-    """A factor in grams to the nearest thousandth, for the script to show."""
-    return round(band.high / 1_000_000, 3)
+        rows=[{"number": i + 1, "who": row_name(row), "canister": canister_words(row), "short": short}
+              for i, row, short in zip(rows, records, told_rows)],
+        told={"rows": told_rows, "days": [[round(t, 3) for t in day] for day in days], "charts": drawn,
+              "grams": [[[[grams(band) for band in hour] for hour in season] for season in row] for row in factors]})

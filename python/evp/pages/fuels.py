@@ -8,9 +8,9 @@ from evp.figures import GROUP_NAMES
 from evp.layout import canister_of
 from evp.library import GROUPS, MECHANISMS, Library
 from evp.pages.render import render
-from evp.pages.words import canister_words, minus, row_name, tenths
+from evp.pages.words import NARROW, canister_words, listed, minus, row_name, tenths
 from evp.show import Difference, differences
-from evp.wording import name_shown
+from evp.wording import apart, name_shown
 
 MOST_ROWS = 200
 WORDS = {"higher": "higher", "lower": "lower", "alike": "the same band", "open": "open"}
@@ -50,7 +50,9 @@ class Compared(NamedTuple):
     @property
     def change(self) -> str:
         a, b = sum(self.difference.a), sum(self.difference.b)
-        return minus("%+.1f %%" % (100 * (b - a) / a)) if a else ""
+        if not a:
+            return ""
+        return minus("%+.1f %%" % (100 * (b - a) / a)) if b < 10 * a else "×%s%s" % (NARROW, apart(round(b / a)))
 
     @property
     def verdict(self) -> str:
@@ -85,6 +87,18 @@ def _groups(found: list[Difference]) -> list[Line]:
             for group in GROUPS]
 
 
+def _counted(counts: Counter) -> str:
+    """How many masses there are of each verdict."""
+    words = {"higher": "higher in B for certain", "lower": "lower in B for certain"}
+    told = ["%s %s %s" % (apart(counts[verdict]), "is" if counts[verdict] == 1 else "are", words[verdict])
+            for verdict in words if counts[verdict]]
+    if counts["alike"]:
+        told.append("%s %s the same band" % (apart(counts["alike"]), "has" if counts["alike"] == 1 else "have"))
+    if counts["open"]:
+        told.append("%s %s open" % (apart(counts["open"]), "is" if counts["open"] == 1 else "are"))
+    return listed(told)
+
+
 def _seasons(a: bytes, b: bytes) -> list[dict]:
     """The seasons of both where both have as many: what stands in A and in B, and whether it differs."""
     if layout.season_count(a) != layout.season_count(b):
@@ -110,7 +124,8 @@ def page_fuels(library: Library, names: tuple[str, str], sheets: tuple[bytes, by
     total = Compared(found[-1], False)
     return render(
         "fuels.html", served, names=[name_shown(name) for name in names], fuel=fuel, rows=rows, groups=_groups(found),
-        total=total, seasons=_seasons(*sheets), counts=Counter(d.verdict for d in found), many=len(found), words=WORDS,
+        total=total, seasons=_seasons(*sheets), counts=_counted(Counter(d.verdict for d in found)), many=len(found),
+        words=WORDS, same=sheets[0] == sheets[1],
         left_out=len(a.rows) - len(rows) if rows else 0, row_counts=(len(a.rows), len(b.rows)),
         most=max(1, *(band.high for report in (a, b) for group in GROUPS for band in getattr(report, group))),
         mechanisms=MECHANISMS)

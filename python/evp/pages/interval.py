@@ -19,6 +19,7 @@ from evp.wording import apart
 NAMES = {unit: name for name, unit in UNITS.items()}
 SIDE = Fraction(8, 5)  # units to each side of the band
 LEAST = 3  # so wide is a bar at least
+EDGE = 5  # of an arrow from the picture's side, so that two of neighbours do not touch
 
 
 class Interval(NamedTuple):
@@ -78,9 +79,10 @@ def _bar(low: float, high: float, verdict: str, width: int, height: int) -> str:
         middle = (low + high) / 2
         low, high = middle - LEAST / 2, middle + LEAST / 2
     if verdict == "low":
-        return _arrow(1, 22, height) if high < 14 else _arrow(max(low, 1), high, height)
+        return _arrow(EDGE, 26, height) if high < 18 else _arrow(max(low, EDGE), high, height)
     if verdict == "high":
-        return _arrow(width - 1, width - 22, height) if low > width - 14 else _arrow(min(high, width - 1), low, height)
+        last = width - EDGE
+        return _arrow(last, width - 26, height) if low > width - 18 else _arrow(min(high, last), low, height)
     return "M%.1f %.1fH%.1fV%.1fH%.1fZ" % (low, height / 4, high, 3 * height / 4, low)
 
 

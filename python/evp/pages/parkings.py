@@ -8,9 +8,10 @@ from evp.pages.days import DIURNAL
 from evp.pages.parts import counts_of, with_cell, with_end_hours
 from evp.pages.render import render
 from evp.pages.words import canister_words, grams, hours, row_name, season_words
-from evp.wording import apart, name_shown
+from evp.wording import apart, counted, name_shown
 
 LEVELS = 6  # of a colour, above none
+DRAWN = {"left": 50, "wide": 23, "high": 15, "top": 62, "bars": 36}  # where the maps stand, for page and script
 STEPS = (1, 1.5, 2, 2.5, 3, 4, 5, 8, 10)
 
 
@@ -83,13 +84,15 @@ def page_parking(library: Library, name: str, data: bytes, season: int | None = 
         whole=library.factor(data, season, row, DIURNAL), edges=edges, steps=steps,
         count_levels=[[_level(count, steps) for count in line] for line in counts],
         factor_levels=[[_level(band.high / 1e6, edges) for band in line] for line in factors],
-        season="season %d (%s)" % (season + 1, season_words(seasons[season])), row=row + 1, who=row_name(record),
+        season="season %d" % (season + 1), season_words=season_words(seasons[season]), row=row + 1,
+        who=row_name(record),
         canister=canister_words(record), busiest=by_hour.index(max(by_hour)) + 1, end_hour=24, duration=17,
         top={"grams": grams(factors[top[0]][top[1]], 2), "end": top[0] + 1, "hours": hours(top[1] + 1)}, packed=packed,
         lists=not layout.has_grid(data), choices=_choices(data, seasons), season_index=season,
-        told={"counts": counts, "grams": [[grams(band) for band in line] for line in factors],
+        drawn=DRAWN,
+        told={"drawn": DRAWN, "counts": counts, "grams": [[grams(band) for band in line] for line in factors],
               "filled": [[apart(f.parkings), grams(f.mean, 4) if f.mean else ""] for f in filled],
-              "alone": [grams(band, 3) if band else "" for band in alone], "parkings": apart(parkings)})
+              "alone": [grams(band, 3) if band else "" for band in alone], "parkings": counted(parkings, "parking")})
 
 
 def _choices(data: bytes, seasons: list[dict[str, int]]) -> dict[str, list[str]]:

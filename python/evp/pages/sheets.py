@@ -53,10 +53,12 @@ def _seasons(library: Library, data: bytes) -> list[Part]:
     return found
 
 
-def _fleet(library: Library, data: bytes) -> list[Part]:
-    """The rows, most mass first."""
+def _fleet(library: Library, data: bytes, report: Report) -> list[Part]:
+    """The rows, most mass first. Of many those with the most are chosen by their three highs, which are shown nowhere
+    together: a row's total is the library's."""
     found = []
-    for i in range(min(layout.row_count(data), MOST_ROWS)):
+    heaviest = sorted(range(len(report.rows)), key=lambda i: -sum(band.high for band in report.rows[i]))
+    for i in heaviest[:MOST_ROWS]:
         row = layout.row(data, i)
         part = part_of(library, data, row_name(row), "%s; %s" % (canister_words(row), row_more(row)), [i])
         found.append(part._replace(single=library.report(one_vehicle(data, i)).total))
@@ -80,11 +82,12 @@ def page_sheet(library: Library, name: str, data: bytes, filings: list[Filing] |
     unit = best_unit(report.total.high)
     canisters = _by(library, data, canister_of, {code: CANISTER_NAMES[code] for code in (0, 1, 2, 3)})
     classes = _by(library, data, lambda row: row["class"], CLASS_NAMES)
-    seasons, fleet = _seasons(library, data), _fleet(library, data)
+    seasons, fleet = _seasons(library, data), _fleet(library, data, report)
     vehicles = sum(part.vehicles for part in classes)
+    without = next((part for part in canisters if part.name == "none"), None)
     return render(
         "sheet.html", served, name=name_shown(name), size=len(data), version=layout.version_of(data), report=report,
-        parking=parking_words(data),
+        parking=parking_words(data), without=without if len(canisters) > 1 and vehicles and report.total.high else None,
         total=report.total, unit=unit, canisters=canisters, classes=classes, seasons=seasons, fleet=fleet,
         row_count=layout.row_count(data), vehicles=vehicles, groups=[(GROUP_NAMES[n], m) for n, m in groups(report)],
         judged=None if filings is None else _judged(library, data, report, filings), packed=packed,

@@ -31,17 +31,25 @@ def page_cells(library: Library, name: str, data: bytes, travels: list[Travel], 
     """The urban, rural and highway cells of an accepted sheet's rows, and their sums."""
     report = library.report(data)
     *rows, sums = cells_of(library, report, travels)
-    told = [_cells_line(data, travels, i, row) for i, row in enumerate(rows[:MOST_ROWS])]
+    alike = len(set(travels)) == 1  # told once
+    told = [_cells_line(data, row, "" if alike else travel_words(travel))
+            for row, travel in zip(rows[:MOST_ROWS], travels)]
     most = max((cell.high for row in rows for cell in row.cells), default=1) or 1
     return render("cells.html", served, name=name_shown(name), rows=told, left_out=len(rows) - len(told), most=most,
-                  sums=sums.cells, total=report.total, packed=packed, mass=_cell_mass, band=_cell_band)
+                  sums=sums.cells, total=report.total, packed=packed, mass=_cell_mass, band=_cell_band,
+                  where=travel_words(travels[0]) if alike else "")
 
 
-def _cells_line(data: bytes, travels: list[Travel], i: int, row: RowOfCells) -> dict:
-    record, travel = layout.row(data, i), travels[i]
+def travel_words(travel: Travel) -> str:
+    """Where the vehicles of a row are at home and drive. Mileages and speeds are in any unit."""
+    return "owners %s; mileages %s urban, %s rural and %s highway; speeds %s rural and %s highway" % (
+        "in town" if travel.town else "out of town", *map(apart, travel[1:]))
+
+
+def _cells_line(data: bytes, row: RowOfCells, where: str) -> dict:
+    record = layout.row(data, int(row.row) - 1)
     return {"number": row.row, "who": row_name(record), "vehicles": record["vehicles"], "cells": row.cells,
-            "where": "%s; %s, %s and %s km, %s and %s km/h" % (
-                "owners in town" if travel.town else "owners out of town", *map(apart, travel[1:]))}
+            "where": where}
 
 
 def _cell_band(cell) -> Band:
@@ -60,9 +68,12 @@ def page_pool(library: Library, names: tuple[str, str], sheets: tuple[bytes, byt
     lines = [(GROUP_NAMES[group], mechanism, [_mass_of(report, group, m) for report in reports])
              for group, masses in groups(reports[2]) for m, mechanism in enumerate(masses._fields)]
     records = [layout.row(pooled, i) for i in range(rows[2])]
+    if names[0] == names[1]:
+        names = names[0] + " (first)", names[1] + " (second)"
+    names = tuple(map(name_shown, names))
     fleet = [{"number": i + 1, "from": names[i >= rows[0]], "who": row_name(row), "canister": canister_words(row),
               "vehicles": row["vehicles"]} for i, row in enumerate(records)]
-    return render("pool.html", served, names=[name_shown(name) for name in names], rows=rows, lines=lines,
+    return render("pool.html", served, names=names, rows=rows, lines=lines,
                   totals=[report.total for report in reports], most=max(1, *(r.total.high for r in reports)),
                   fleet=fleet[:MOST_ROWS], left_out=max(0, len(fleet) - MOST_ROWS), packed=packed, size=len(pooled))
 

@@ -9,7 +9,7 @@ from evp import layout
 from evp.layout import CLASSES, FIELDS, canister_name, technology_name
 from evp.library import Band
 from evp.masses import POWERS, best_unit, rounded, shown
-from evp.wording import apart
+from evp.wording import apart, counted
 
 NARROW = "\u202f"
 CLASS_NAMES = {  # of many vehicles
@@ -82,18 +82,18 @@ def hours(halves: int) -> str:
 
 
 def season_words(season: dict[str, int]) -> str:
-    return "%d days, %s to %s °C, %s kPa" % (
-        season["days"], tenths(season["lowest"]), tenths(season["highest"]), tenths(season["vp"]))
+    return "%s, %s to %s °C, %s kPa" % (
+        counted(season["days"], "day"), tenths(season["lowest"]), tenths(season["highest"]), tenths(season["vp"]))
 
 
 def parking_words(data: bytes) -> str:
     """How the parkings of a sheet are counted."""
     if not layout.has_grid(data):
         durations, ends = sum(layout.counts(data, 8)), sum(layout.counts(data, 56))
-        return "parking in two lists, %s durations and %s end hours" % (apart(durations), apart(ends))
+        return "parking in two lists, %s and %s" % (counted(durations, "duration"), counted(ends, "end hour"))
     by_hour = [sum(layout.counts(data, 8 + 48 * t)) for t in range(24)]
-    return "a grid of %s parkings, of which most end at hour %d" % (
-        apart(sum(by_hour)), by_hour.index(max(by_hour)) + 1)
+    return "a grid of %s, of which most end at hour %d" % (
+        counted(sum(by_hour), "parking"), by_hour.index(max(by_hour)) + 1)
 
 
 def canister_words(row: dict[str, int]) -> str:
@@ -104,6 +104,12 @@ def canister_words(row: dict[str, int]) -> str:
     if row["mileage"]:
         return "%s canister, m_sat %s g, load after %s km" % (name, tenths(row["saturation"]), apart(row["mileage"]))
     return "%s canister with %s of %s g" % (name, tenths(row["load"]), tenths(row["saturation"]))
+
+
+def canister_short(row: dict[str, int]) -> str:
+    """A row's canister in two words."""
+    name = canister_name(row)
+    return "%s canister" % ("no" if name == "none" else name)
 
 
 def row_name(row: dict[str, int]) -> str:

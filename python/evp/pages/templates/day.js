@@ -3,7 +3,7 @@
   function get(id) { return document.getElementById(id); }
   function clock(mark) { mark %= 48; return (mark >> 1) + ":" + (mark % 2 ? "30" : "00"); }
   function bold(words) { var b = document.createElement("b"); b.textContent = words; return b; }
-  function grams(row, season, end, lasts) { return data.grams[row][season][end - 1][lasts - 1].toFixed(3); }
+  function grams(row, season, end, lasts) { return data.grams[row][season][end - 1][lasts - 1]; }
   function state() {
     var season = +document.querySelector("[name=season]:checked").value, end = +get("end").value;
     var lasts = +get("lasts").value, start = (2 * end - lasts + 48) % 48, day = data.days[season];
@@ -45,15 +45,13 @@
   }
   function tell(s) {
     var rows = data.grams.map(function (_, row) { return grams(row, s.season, s.end, s.lasts); });
-    var heads = Array.from(document.querySelectorAll("thead th.num")).slice(-rows.length);
     var told = get("tell");
     told.replaceChildren("Parked from ", bold(clock(s.start)), " to ", bold(clock(2 * s.end)),
       " in season " + (s.season + 1) + ": ", bold(s.up.length + " of " + s.lasts), " half-hours rise");
     if (s.up.length) told.append(", by ", bold(s.rise.toFixed(1) + " °C"), " in all");
     told.append(". One such parking lets go of ");
     rows.forEach(function (mass, i) {
-      var row = heads[i].textContent.replace("Row", "row").replace(", g", "");
-      told.append(i ? ", " : "", bold(mass + " g"), " from " + row);
+      told.append(i ? ", " : "", bold(mass + " g"), " from " + data.rows[i]);
     });
     told.append(".");
     document.querySelectorAll("#factors tr").forEach(function (line, season) {

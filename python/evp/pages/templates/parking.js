@@ -1,6 +1,6 @@
 (function () {
   var data = JSON.parse(document.getElementById("data").textContent), timer = 0;
-  var left = 50, size = 23, high = 17, bottom = 74 + 24 * 17;  // as the template draws it
+  var left = data.drawn.left, size = data.drawn.wide, high = data.drawn.high, bottom = data.drawn.top + 24 * high;
   var maps = document.querySelectorAll(".hm"), play = document.getElementById("play");
   function get(id) { return document.getElementById(id); }
   function apart(number) { return String(number).replace(/\B(?=(\d{3})+$)/g, ","); }
@@ -9,7 +9,7 @@
   function tell(end, lasts) {
     var filled = data.filled[end - 1], count = data.counts[end - 1][lasts - 1], alone = data.alone[end - 1];
     var told = get("tell"), parked = "Parked " + clock(2 * end - lasts) + " to " + clock(2 * end);
-    told.replaceChildren("Up to end hour " + end + ": ", bold(filled[0]), " of " + data.parkings + " parkings");
+    told.replaceChildren("Up to end hour " + end + ": ", bold(filled[0]), " of " + data.parkings);
     if (filled[1]) told.append(", mean so far ", bold(filled[1] + " g"));
     told.append(alone ? "; those that end at " + end + ": " + alone + " g. " : "; none end at " + end + ". ");
     told.append(parked + " (" + lasts / 2 + " h): ", bold(apart(count)), count === 1 ? " parking of " : " parkings of ",
