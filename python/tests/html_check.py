@@ -7,7 +7,7 @@ VOID = {"meta", "link", "input", "br", "col", "hr", "img"}
 SVG = {"svg", "path", "rect", "circle", "g", "text", "title", "desc", "defs", "pattern", "marker"}
 LABELLED = {"input", "select", "textarea"}
 ADDRESSES = ("src", "href", "action", "formaction", "data", "poster", "srcset")
-LOCAL = re.compile(r"#|data:|[a-z]*(/[a-z]+)?$|\./$|each/|[A-Za-z0-9-]+\.html$")
+LOCAL = re.compile(r"#|data:|[a-z]*(/[a-z]+)?$|\.?/$|each/|[A-Za-z0-9-]+\.html$|/ledger/[\w-]{22}([/?][\w.=&]*)?$")
 
 
 class Page(HTMLParser):

@@ -21,6 +21,7 @@ from unittest import mock
 from urllib.parse import quote
 
 from desk_support import HAS_MODULES, HOST, MARKER, NO_MODULES, Desk, report_words
+from html_check import Page
 from support import LIBRARY, SAMPLES, TOP, DeskTestCase, run, sample
 
 from evp import layout
@@ -92,7 +93,12 @@ class PeopleTest(LedgerTestCase):
             self.assertEqual([int(line[0]) for line in client.table("rows.csv")], own)
             for rest in ("/sheet.evp", "/report.csv", "/calls.csv"):
                 self.assertEqual(client.get(rest).status, 403)
+            self.assertEqual(Page(page).faults, [])
+            self.assertEqual({address for address in Page(page).addresses if address.startswith("/")},
+                             {client.link, client.link + "/rows.csv"})
         page = marker.get().text
+        for rest in ("", "?bands=mg", "?bands=mg&every=10", "/nothing"):
+            self.assertEqual(Page(marker.get(rest).text).faults, [])
         self.assertEqual(len(re.findall(r'data-l="vehicles"', page)), ROWS)
         report = LIBRARY.report(REGION)
         self.assertIn(apart(report.total.low), re.sub("<[^>]*>", "", page))

@@ -8,10 +8,9 @@ from flask import Response
 from markupsafe import Markup
 
 from evp.desk import words
-from evp.layout import canister_name
 from evp.masses import shown
 from evp.pages import render as pages
-from evp.pages.words import canister_words, row_name
+from evp.pages.words import canister_short, canister_words, row_name
 from evp.wording import apart
 
 TEMPLATES = Path(__file__).resolve().parent / "templates"
@@ -20,12 +19,6 @@ TEMPLATES = Path(__file__).resolve().parent / "templates"
 def signed(change: int) -> str:
     """A change of a count, with its sign."""
     return "0" if not change else "%s%s" % ("+" if change > 0 else "\u2212", apart(abs(change)))
-
-
-def canister_of(row: dict[str, int]) -> str:
-    """A row's canister in two words."""
-    name = canister_name(row)
-    return "%s canister" % ("no" if name == "none" else name)
 
 
 @cache
@@ -37,7 +30,7 @@ def environment() -> jinja2.Environment:
         number=lambda band: shown(band).rpartition(" ")[0], unit=lambda band: shown(band).rpartition(" ")[2])
     made.globals.update(
         css=made.globals["css"] + Markup((TEMPLATES / "ledger.css").read_text(encoding="utf-8")), row_name=row_name,
-        canister_words=canister_words, canister_of=canister_of, done=words.done, why_not=words.why_not,
+        canister_words=canister_words, canister_short=canister_short, done=words.done, why_not=words.why_not,
         opposite=words.opposite)
     return made
 

@@ -80,12 +80,19 @@ def _marker(ledger: CourseLedger, who: int, link: str, problem: str) -> str:
     rows = {row: _row(ledger, reading, row) for row in ledger.rows_of(who)}
     owners = [(ledger.name(owner), [rows[row] for row in ledger.rows_of(owner)]) for owner in PARTICIPANTS]
     return render(
-        "marker.html", link=link, problem=problem, every=EVERY if _reloads(who) else 0, total=totals.total,
+        "marker.html", link=link, problem=problem, every=EVERY if _reloads(who) else 0, EVERY=EVERY, query=_query,
+        bands=request.args.get("bands") == "mg", total=totals.total,
         groups=[(GROUP_NAMES[name], masses) for name, masses in groups(totals)],
         so_far=sum(map(ledger.made, PARTICIPANTS)), owners=[(name, theirs) for name, theirs in owners if theirs],
         vehicles=sum(row["count"] for row in rows.values()),
         opened=sum(row["opened"]["vehicles"] for row in rows.values()),
         most=max(1, *(abs(row["change"]) for row in rows.values())))
+
+
+def _query(every: int, bands: bool) -> str:
+    """How the marker's page is asked for: loaded anew every so many seconds, with the bands of rows."""
+    words = (["every=%d" % every] if every else []) + (["bands=mg"] if bands else [])
+    return "?" + "&".join(words) if words else ""
 
 
 # ------------------------------------------------------------------ a call
