@@ -27,9 +27,11 @@ function ground(element) {
 var low = [], walker = document.createTreeWalker(document.body, NodeFilter.SHOW_TEXT), seen = 0;
 while (walker.nextNode()) {
   var element = walker.currentNode.parentElement, style = getComputedStyle(element);
-  if (!walker.currentNode.data.trim() || element.closest("script, style, noscript, .hide, [aria-hidden=true]")) continue;
+  if (!walker.currentNode.data.trim()) continue;
+  if (element.closest("script, style, noscript, .hide, [aria-hidden=true]")) continue;
   if (!element.getClientRects().length || style.visibility === "hidden" || element.closest("button:disabled")) continue;
-  var svg = element.namespaceURI.indexOf("svg") > 0, ink = parts(svg ? style.fill : style.color), below = ground(element);
+  var svg = element.namespaceURI.indexOf("svg") > 0, ink = parts(svg ? style.fill : style.color);
+  var below = ground(element);
   if (!ink || element.matches("title, desc")) continue;
   var a = light(over(ink, below)), b = light(below), ratio = (Math.max(a, b) + 0.05) / (Math.min(a, b) + 0.05);
   var size = parseFloat(style.fontSize), large = size >= 24 || size >= 18.66 && +style.fontWeight >= 700;

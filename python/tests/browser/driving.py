@@ -42,6 +42,11 @@ README_PICTURES = TOP / "docs" / "pictures"
 OF_README = ("class", "parking")
 MOST_PICTURE = 200_000  # bytes
 WAIT = 10  # seconds at most for an answer
+SIZES = ((360, 740), (768, 1024), (1024, 768), (1440, 900))  # of a telephone, a tablet, a projector, a desk
+NAMED = {"button", "link", "textbox", "combobox", "slider", "radio", "checkbox", "spinbutton", "image", "table",
+         "columnheader", "rowheader", "heading"}  # roles that a reader of the screen says by their names
+PAPER = (1032, 703)  # pixels across between the margins of A4, lying and standing
+CONTRAST, LAYOUT = ((Path(__file__).parent / name).read_text(encoding="utf-8") for name in ("contrast.js", "layout.js"))
 PROGRAMS = ("chromium", "chromium-browser", "google-chrome")
 
 
@@ -154,6 +159,49 @@ class BrowserTestCase(unittest.TestCase):
             folder.mkdir(parents=True, exist_ok=True)
             (folder / (name + ".png")).write_bytes(shot)
 
+    def check_looks(self, name: str) -> int:
+        """Nothing is cut off, overlaps or is too faint, at every size, light and dark; how many texts were seen."""
+        seen = 0
+        for scheme in ("light", "dark"):
+            for width, height in SIZES:
+                self.look(width, height, scheme)
+                with self.subTest(page=name, width=width, scheme=scheme):
+                    self.assertLessEqual(self.run_script("return document.documentElement.scrollWidth"), width)
+                    contrast, layout = self.run_script(CONTRAST), self.run_script(LAYOUT)
+                    self.assertEqual((contrast["low"], layout["overlaps"], layout["cut"]), ([], [], []))
+                    seen += contrast["seen"]
+        with self.subTest(page=name, names=True):
+            self.check_names()
+        return seen
+
+    def check_names(self):
+        """What a reader of the screen is told, narrow and wide: everything has a name, and a table stays one."""
+        tables = []
+        for width, height in (SIZES[0], SIZES[-1]):
+            self.look(width, height)
+            nodes = [node for node in self.browser.execute_cdp_cmd("Accessibility.getFullAXTree", {})["nodes"]
+                     if not node["ignored"]]
+            self.assertEqual([node["role"]["value"] for node in nodes if node["role"]["value"] in NAMED
+                              and not node["name"]["value"].strip()], [])
+            tables.append(sum(node["role"]["value"] == "table" for node in nodes))
+        self.assertEqual(*tables)
+
+    def check_paper(self, name: str):
+        """What is clicked is left out, dark is not printed, and nothing is cut off."""
+        wide = self.run_script("return getComputedStyle(document.body).page") == "wide"
+        width = PAPER[0] if wide else PAPER[1]
+        self.look(width, 900, "dark", "print")
+        with self.subTest(page=name, paper=width):
+            self.assertEqual(self.visible("button, nav, .filter, .links, .noprint, input[type=file]"), 0)
+            self.assertEqual(self.run_script("return getComputedStyle(document.body).backgroundColor"),
+                             "rgb(255, 255, 255)")
+            self.assertLessEqual(self.run_script("return document.documentElement.scrollWidth"), width)
+            layout = self.run_script(LAYOUT)
+            self.assertEqual((layout["overlaps"], layout["cut"]), ([], []))
+        printed = self.browser.execute_cdp_cmd("Page.printToPDF", {"printBackground": False, "preferCSSPageSize": True})
+        self.assertGreater(len(printed["data"]), 10_000)
+        self.look(1280, 900)
+
     # ------------------------------------------------------------------ doing
 
     def press(self, *keys: str):
@@ -170,12 +218,14 @@ class BrowserTestCase(unittest.TestCase):
             return (e.textContent || e.value || e.type).trim().replace(/\\s+/g, " ").slice(0, 60);""")
 
     def tab_to(self, wanted: str, most: int = 120):
-        """Presses the tabulator until something has the focus, and sees that it can be seen."""
+        """Presses the tabulator until something has the focus, and sees all the way that the focus can be seen."""
         for _ in range(most):
             self.press(Keys.TAB)
-            if self.focused() == wanted:
+            found = self.focused()
+            if found:
                 width = self.run_script("return getComputedStyle(document.activeElement).outlineWidth")
-                self.assertNotEqual(width, "0px", "%s has the focus, and nothing shows it" % wanted)
+                self.assertGreaterEqual(float(width.removesuffix("px")), 2, "nothing shows the focus of %s" % found)
+            if found == wanted:
                 return
         self.fail("%s is not reached by the tabulator; the last was %s" % (wanted, self.focused()))
 

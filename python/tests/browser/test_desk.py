@@ -1,15 +1,58 @@
 """The desk in a real browser: a class marked, a refusal mended, a grid filled, all of it by keyboard once."""
 
+import tempfile
 from pathlib import Path
 
 from driving import SAMPLES, BrowserTestCase, Keys
 
-from evp import layout, library
+from evp import layout, library, marking, sheet
 from evp.pages.asks import ASKS
+from evp.pages.classes import page_class
+from evp.pages.days import page_day
+from evp.pages.fuels import page_fuels
+from evp.pages.parkings import page_parking
+from evp.pages.sheets import page_sheet
 
 COURSE = SAMPLES / "course"
-CONTRAST = (Path(__file__).parent / "contrast.js").read_text(encoding="utf-8")
-WIDTHS = ((360, 740), (1024, 768), (1440, 900))
+
+
+LONG = "-".join(["a-name-that-someone-has-chosen-without-a-thought-for-those-who-read-it"] * 2) + ".evp"
+MARKUP = "<b>bold</b> & <script>alert(1)</script>.evp"
+
+
+def big_sheet() -> bytes:
+    """Of 1,000 rows and 12 seasons, in a grid."""
+    lines = ["grid %d %s" % (t, " ".join(str(t * d % 7) for d in range(1, 25))) for t in range(1, 25)]
+    lines += ["season days=30 lowest=%.1f highest=%.1f vp=%.1f" % (2 * i - 10, 3.3 * i - 2, 90 - 3 * i)
+              for i in range(12)]
+    lines += ["row class=%d technology=%d carburettor=9 hot=45 fill=40 vehicles=%d trips=4.80 minutes=12%s" % (
+        1 + i % 3, i % 4, 100 * (i % 97), " load=20.0 saturation=50.0" if i % 4 else "") for i in range(1_000)]
+    return sheet.write("\n".join(lines) + "\n")
+
+
+def class_of(sheets: dict[str, bytes], filed: str) -> str:
+    lib = library.load()
+    marked = {name: marking.marked(lib, data) for name, data in sheets.items()}
+    filings = marking.filed_of("sheet,row,mechanism,mass,unit\n" + filed, "filed.csv").filings
+    return page_class(marked, filings, marking.marks_of(lib, marked, filings))
+
+
+def extremes() -> dict[str, str]:
+    """Pages of what is seldom seen, by name."""
+    lib, big, empty = library.load(), big_sheet(), (SAMPLES / "example.evp").read_bytes()
+    north, heath = ((COURSE / name).read_bytes() for name in ("north.evp", "heath.evp"))
+    spoilt = big[:-70] + b"\xff\xff" + big[-68:]  # near its end, at a place of five digits
+    return {
+        "big": page_sheet(lib, "big.evp", big), "big day": page_day(lib, "big.evp", big),
+        "big parking": page_parking(lib, "big.evp", big), "big refused": page_sheet(lib, "big.evp", spoilt),
+        "empty": page_sheet(lib, "empty.evp", empty), "empty parking": page_parking(lib, "empty.evp", empty),
+        "flat day": page_day(lib, "empty.evp", empty), "long": page_sheet(lib, LONG, north),
+        "long refused": page_sheet(lib, LONG, heath), "fuels": page_fuels(lib, (MARKUP, LONG), (north, big)),
+        "names": class_of({LONG: north, MARKUP: north}, "%s,total,,9.9,t\n%s,cars,soak,1,t\nnobody,total,,1,t\n" % (
+            LONG, MARKUP)),
+        "refused alone": class_of({"a.evp": heath}, "a.evp,total,,1.0,t\n"),
+        "fine alone": class_of({"a.evp": north}, "a.evp,total,,%.1f,t\n" % (lib.report(north).total.low / 1e9)),
+    }
 
 
 class TestClass(BrowserTestCase):
@@ -24,7 +67,11 @@ class TestClass(BrowserTestCase):
         self.assertEqual(self.text("h1"), "14 of 30 sheets to look at")
         self.assertEqual(self.visible("tr.p"), 31)  # and a name without a sheet
         self.look(1100, 900)
-        self.picture("class")
+        self.look(1100, self.run_script("""
+            var edges = Array.from(document.querySelectorAll("tr.p")).map(function (line) {
+              return Math.floor(line.getBoundingClientRect().bottom); });
+            return Math.max.apply(null, edges.filter(function (edge) { return edge <= 900; }));"""))
+        self.picture("class")  # up to the end of a line
         self.look(1280, 900)
         self.one("#only").click()
         self.assertEqual(self.visible("tr.p"), 15)
@@ -45,8 +92,12 @@ class TestClass(BrowserTestCase):
         fault = self.text("#" + field.get_attribute("aria-describedby"))
         self.assertIn("31.00 a day is above 12.00 a day; write at most 12.00", fault)
         self.look(360, 740)
-        edge = self.run_script("return document.querySelector('.fault-text').getBoundingClientRect().right")
-        self.assertLessEqual(edge, 360)
+        self.wait(lambda: len(self.all("td > .fault-text")) == 1, "narrow, the words stand in the field's own cell")
+        below = self.run_script("""
+            var words = document.querySelector(".fault-text").getBoundingClientRect();
+            return [words.right, words.top - document.querySelector("#row-2-trips").getBoundingClientRect().bottom];""")
+        self.assertLessEqual(below[0], 360)
+        self.assertLess(below[1], 20)
         self.look(1280, 500)
         self.one("#to-fault").click()
         self.assertEqual(self.focused(), "#row-2-trips")
@@ -71,6 +122,16 @@ class TestForm(BrowserTestCase):
 
     def state(self) -> str:
         return self.one("#told").get_attribute("data-state")
+
+    def test_an_empty_form_complains_of_nothing(self):
+        self.open("/form")
+        self.wait(lambda: self.state() == "empty", "the form is looked at")
+        self.assertEqual((self.text("#told"), self.all(".fault-text")), ("Nothing is filled in yet.", []))
+        self.assertFalse(self.one("#save").is_enabled())
+        self.one("#season-0-days").send_keys("90")
+        self.wait(lambda: self.state() == "unread", "what is missing is told")
+        self.assertEqual(len(self.all("#season-table tr.fault-row")), 1)  # in one line
+        self.assertEqual(len(self.all("#season-table [aria-invalid]")), 3)
 
     def test_the_grid_is_filled_end_hour_by_end_hour(self):
         self.open("/form")
@@ -131,6 +192,8 @@ class TestParking(BrowserTestCase):
         self.open("/parking")
         self.one("form:not(.drop) button").click()
         self.wait(lambda: "21,108 parkings" in self.text("h1"), "the parkings of the survey")
+        foot = self.run_script("return document.querySelectorAll('.key')[1].getBoundingClientRect().bottom")
+        self.assertLess(foot, 768)  # a projector shows the maps with their keys
         slider = self.one("#end")
         slider.send_keys(Keys.HOME)
         for hour in range(1, 25):
@@ -208,42 +271,35 @@ class TestLooks(BrowserTestCase):
         for name in ("", "form", *ASKS):
             self.open("/" + name)
             yield "/" + name
-        for name, ask in ASKS.items():
+        for name in ("survey", "course/heath"):
+            self.open("/form")
+            self.drop([SAMPLES / (name + ".evp")])
+            self.wait(lambda: self.one("#told").get_attribute("data-state") in ("accepted", "refused"), name)
+            yield "form of " + name
+        for name in ASKS:
             self.open("/" + name)
             self.one("form:not(.drop) button").click()
             self.wait(lambda: not self.all("form.drop"), "the example of " + name)
+            self.run_script("document.querySelectorAll('details').forEach(function (more) { more.open = true; })")
             yield name
 
     def test_nothing_is_cut_off_and_all_can_be_read(self):
         seen = 0
         for name in self.shown():
-            for scheme in ("light", "dark"):
-                for width, height in WIDTHS:
-                    self.look(width, height, scheme)
-                    with self.subTest(page=name, width=width, scheme=scheme):
-                        wide = self.run_script("return document.documentElement.scrollWidth")
-                        self.assertLessEqual(wide, width)
-                    if width != 1024:
-                        found = self.run_script(CONTRAST)
-                        seen += found["seen"]
-                        with self.subTest(page=name, width=width, scheme=scheme, contrast=True):
-                            self.assertEqual(found["low"], [])
-        self.assertGreater(seen, 10_000)
-        print("contrast of %d texts" % seen)
+            seen += self.check_looks(name)
+            self.check_paper(name)
+        self.assertGreater(seen, 30_000)
+        print("contrast and layout of %d texts" % seen)
 
-    def test_paper(self):
-        """What is clicked is left out, and dark is not printed."""
-        for name in ("class", "sheet", "parking"):
-            self.open("/" + name)
-            self.one("form:not(.drop) button").click()
-            self.wait(lambda: not self.all("form.drop"), "the example of " + name)
-            self.look(1000, 900, "dark", "print")
-            self.assertEqual(self.visible("button, nav, .filter, input"), 0)
-            paper = self.run_script("return getComputedStyle(document.body).backgroundColor")
-            self.assertEqual(paper, "rgb(255, 255, 255)")
-            paper = self.browser.execute_cdp_cmd("Page.printToPDF", {"printBackground": False})
-            self.assertGreater(len(paper["data"]), 10_000)
-            self.look(1280, 900)
+    def test_extremes(self):
+        """A sheet of 1,000 rows and 12 seasons, one without vehicles, and names that are long or have markup."""
+        with tempfile.TemporaryDirectory() as folder:
+            for name, html in extremes().items():
+                path = Path(folder) / (name + ".html")
+                path.write_text(html, encoding="utf-8")
+                self.open(path.as_uri())
+                self.check_looks(name)
+                self.check_paper(name)
 
 
 class TestWithoutScript(BrowserTestCase):
