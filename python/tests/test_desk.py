@@ -757,7 +757,7 @@ class CommandTest(LedgerTestCase):
         again = self.serve("--lan", "127.0.0.2")
         self.assertEqual(listened(again.port), {"0200007F"})
         self.assertIn("by plain HTTP: whoever can listen to that network", again.said)
-        self.assertIn("The links that were given out hold: http://127.0.0.2:%d/ledger/KEY." % again.port, again.said)
+        self.assertIn("The keys that were given out hold, at http://127.0.0.2:%d/ledger/KEY." % again.port, again.said)
 
 
 @unittest.skipUnless(HAS_MODULES, NO_MODULES)

@@ -150,7 +150,7 @@ def base_of(address: str, port: int) -> str:
 def say_links(ledger: CourseLedger, made: dict[int, str], base: str):
     """The links, this once; or where the old ones lead."""
     if not made:
-        print("The links that were given out hold: %s/ledger/KEY." % base)
+        print("The keys that were given out hold, at %s/ledger/KEY." % base)
         return
     print("\n%s alone." % ("Nine links, shown this once. Each is a key: give it to its owner" if len(made) > 1 else (
         "A new link, shown this once; the old one is none any more. It is a key: give it to its owner")))
