@@ -5,6 +5,7 @@ import hashlib
 import io
 import json
 import re
+import threading
 import unittest
 import zipfile
 from unittest import mock
@@ -24,7 +25,7 @@ try:
 except ImportError as error:
     raise unittest.SkipTest("no pages: %s (apt install python3-flask python3-jinja2)" % error)
 
-from evp.pages import forms, parts, render
+from evp.pages import forms, parts, render, turns
 from evp.pages.asks import ASKS
 from evp.pages.classes import page_class
 from evp.pages.days import page_day, parking_on
@@ -525,6 +526,24 @@ class TestRoutes(unittest.TestCase):
             with self.subTest(words):
                 self.assertIn(words, Page(self.post("/open", *files).get_data(as_text=True)).text)
         self.assertIn("one is shown here", Page(self.post("/sheet", north, heath).get_data(as_text=True)).text)
+
+    def test_pages_take_turns(self):
+        """Where too many wait, a page is told to try again; the form, which takes no time, is not."""
+        sheet64 = base64.b64encode(course()).decode()
+        for held, others, paths in ((turns.CLASSES, turns.PAGES, ("/class",)), (turns.PAGES, turns.CLASSES, (
+                "/sheet", "/day", "/parking", "/species", "/fuels", "/cells", "/pool", "/open"))):
+            with mock.patch.object(held, "_places", threading.Semaphore(0)):
+                for path in paths:
+                    example = {"example": ASKS[path[1:]].example} if path != "/open" else {"sheet64": sheet64}
+                    self.assertEqual((path, self.post(path, **example).status_code), (path, 503))
+                self.assertEqual(self.post("/form", sheet64=sheet64).status_code, 200)
+                with others:
+                    pass  # whose places are their own
+        with mock.patch.object(turns.CLASSES, "_places", threading.Semaphore(0)):
+            self.assertEqual(self.post("/open", example="course").status_code, 503)
+        for _ in range(20):  # a turn is given back, also after a page that failed
+            self.assertEqual(self.post("/sheet").status_code, 400)
+        self.assertEqual(self.post("/sheet", sheet64=sheet64).status_code, 200)
 
     def test_long_requests_are_turned_away(self):
         self.assertEqual(self.client.post("/sheet", data=b"x" * 1_000_001).status_code, 413)
