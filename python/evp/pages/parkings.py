@@ -23,7 +23,8 @@ def edges_for(most: float) -> list[float]:
     while power * 10 <= most / LEVELS:
         power *= 10
     step = power * min(STEPS, key=lambda factor: abs(factor * power - most / LEVELS))
-    return [step / 20, *(round(step * i, 9) for i in range(1, LEVELS))]
+    least = round(step / (20 if step >= 0.1 else 10), 9)  # in few digits: a telephone has little room for them
+    return [least, *(round(step * i, 9) for i in range(1, LEVELS))]
 
 
 def count_edges(most: int) -> list[int]:

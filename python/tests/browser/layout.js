@@ -1,5 +1,5 @@
-// What a page lays out badly: texts that overlap, texts that a box or a picture cuts off, and words that a field is too
-// narrow for.
+// What a page lays out badly: texts that overlap or run together, texts that a box or a picture cuts off, and words
+// that a field is too narrow for.
 var texts = [], cut = [], overlaps = [], pen = document.createElement("canvas").getContext("2d");
 var walker = document.createTreeWalker(document.body, NodeFilter.SHOW_TEXT);
 function shown(element) {
@@ -15,7 +15,7 @@ while (walker.nextNode()) {
   var box = element.closest(".scroll"), edges = box && box.getBoundingClientRect(), picture = element.closest("svg");
   Array.from(range.getClientRects()).forEach(function (rect) {
     if (rect.width < 2 || edges && (rect.right > edges.right || rect.left < edges.left)) return;  // scrolled away
-    texts.push({ rect: rect, node: node });
+    texts.push({ rect: rect, node: node, of: element.closest("td, th, li, label, legend, text, p, div") });
     if (picture && rect.right > picture.getBoundingClientRect().right + 1) cut.push(short(node.data));
   });
 }
@@ -24,7 +24,8 @@ texts.forEach(function (a, i) {
   for (var k = i + 1; k < texts.length && texts[k].rect.top < a.rect.bottom - 3; k++) {
     var b = texts[k], wide = Math.min(a.rect.right, b.rect.right) - Math.max(a.rect.left, b.rect.left);
     var high = Math.min(a.rect.bottom, b.rect.bottom) - b.rect.top;
-    if (a.node !== b.node && wide > 2 && high > 4) overlaps.push(short(a.node.data) + " | " + short(b.node.data));
+    var room = a.of !== b.of ? 3 : -2;  // between two cells, and within one
+    if (a.node !== b.node && wide > -room && high > 4) overlaps.push(short(a.node.data) + " | " + short(b.node.data));
   }
 });
 document.querySelectorAll("input[type=text], input[type=number], select").forEach(function (field) {
