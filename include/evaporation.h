@@ -4,9 +4,9 @@
  * share, two sheets pooled into one, why a sheet is refused, and what a band says of a filed mass. Behind the calls
  * stand texts for their numbers, as functions of this header.
  *
- * Link with -levaporation, or with what `pkg-config --cflags --libs evaporation` says. The static and the shared library
- * are made of one proved crate, for x86-64 Linux, and need only the C library. docs/LIBRARY.md has first programs, every
- * call with what it promises and costs, and what is proved; LICENSE says whose it is.
+ * Link with -levaporation, or with what `pkg-config --cflags --libs evaporation` says. The static and the shared
+ * library are made of one proved crate, for x86-64 Linux, and need only the C library. docs/LIBRARY.md has first
+ * programs, every call with what it promises and costs, and what is proved; LICENSE says whose it is.
  *
  * Sheets of four versions are read, and the sheet itself says which it is: in version 1 the parking is two lists of 24
  * counts, durations and end hours; in version 2 it is a grid of 576 counts, end hour 1 first, its 24 durations in a

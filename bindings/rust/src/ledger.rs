@@ -66,6 +66,10 @@ impl Who {
     }
 }
 
+/// The arrival at a shared ledger, or the departure from it.
+type SharedChange =
+    unsafe extern "C" fn(*mut u8, usize, *const u8, usize, *mut u64, usize, u64, u64, u64) -> ffi::Check;
+
 /// A row of a shared ledger.
 #[derive(Clone, Copy, Debug, PartialEq, Eq)]
 pub struct RowRead {
@@ -114,30 +118,19 @@ impl SharedLedger {
 
     /// Vehicles arrive at a row. Refused: nothing changes.
     pub fn arrive(&mut self, who: Who, row: u64, vehicles: u64) -> Result<(), Refusal> {
-        let SharedLedger { sheet, owners, words } = self;
-        // SAFETY: the vectors are handed over with their lengths, and the call keeps none.
-        let answer = unsafe {
-            ffi::evp_shared_arrive(
-                sheet.as_mut_ptr(),
-                sheet.len(),
-                owners.as_ptr(),
-                owners.len(),
-                words.as_mut_ptr(),
-                words.len(),
-                who.number(),
-                row,
-                vehicles,
-            )
-        };
-        answer.accepted()
+        self.change(ffi::evp_shared_arrive, who, row, vehicles)
     }
 
     /// Vehicles depart from a row. Refused: nothing changes.
     pub fn depart(&mut self, who: Who, row: u64, vehicles: u64) -> Result<(), Refusal> {
+        self.change(ffi::evp_shared_depart, who, row, vehicles)
+    }
+
+    fn change(&mut self, call: SharedChange, who: Who, row: u64, vehicles: u64) -> Result<(), Refusal> {
         let SharedLedger { sheet, owners, words } = self;
-        // SAFETY: as above.
+        // SAFETY: the vectors are handed over with their lengths, and the call keeps none.
         let answer = unsafe {
-            ffi::evp_shared_depart(
+            call(
                 sheet.as_mut_ptr(),
                 sheet.len(),
                 owners.as_ptr(),
