@@ -45,7 +45,7 @@ use Rattle.breakthrough.proofs.Fitted.{fit-ready, curves-of, curves-ready, thro
 use Rattle.row_factors.specs.declared.season.AtSeason.{AtSeason}
 use Rattle.row_factors.specs.declared.escapes.Escapes.{Escapes}
 use Rattle.row_factors.specs.Season.{meanAt, risesOf, growthPlace, RaisedAt, DayReady, RowLent}
-use Rattle.row_factors.specs.Seven.{parkingThrough, parkingEscape, PlacesFit, VapourOf, CarEscapes, TwoWheelerEscapes}
+use Rattle.row_factors.specs.Seven.{parkingThrough, parkingEscape, VapourOf, CarEscapes, TwoWheelerEscapes}
 
 module _ (season : Season) (row : Row) (counts : List ℕ) where
   -- with a canister the escape of each cell is averaged
@@ -217,36 +217,17 @@ module _ {tables grid list day : List ℕ} {given : AtSeason} {row : Row} {kept 
 
   -- over a raise, which stands from a place of the day on
   module _ (k place : ℕ) (pick : DayReady (given .season) day → RaisedAt (given .season) k day place) where
-    raise-fits : k ≤ 60 → place ≤ 225 → RaisesFit day place
-    raise-fits h there =
-        record { there = there; raises-most = λ d l. rw (pick its-day d l) (raise-mark-most (its-day .season-in) k (ahead d) h) }
+    pub raise-needs : k ≤ 60 → place ≤ 225 → (tables ≡ entries) × GridReady grid × CurvesReady c × RaisesFit day place
+    raise-needs h there = (
+      q .0 .lent .tables-are,
+      q .0 .lent .grid-ready,
+      fitted,
+      record { there = there; raises-most = λ d l. rw (pick its-day d l) (raise-mark-most (its-day .season-in) k (ahead d) h) },
+    )
 
     pub raise-right : (ends : Bool) {x : ℕ} → x ≡ raiseThrough (cellsIn grid) ends day place c
         → x ≡ escapeOverUnits (given .season) row (cellsIn grid) (markOf ends) (tenths k)
     raise-right ends e = e ∙ raise-escape f (q .0 .row-in .load-most) (q .1) _ ends k day place (pick its-day)
-
-  -- over the raises of a car and of a two-wheeler
-  raises-needs : {places : List ℕ} {n : ℕ} → n ≤ 4 → ((j : ℕ) → j < n → RaisesFit day (at places j))
-      → (tables ≡ entries) × GridReady grid × CurvesReady c × PlacesFit day places n
-  raises-needs few fit = (q .0 .lent .tables-are, q .0 .lent .grid-ready, fitted, record { few = few; fit = fit })
-
-  pub car-needs : (tables ≡ entries) × GridReady grid × CurvesReady c × PlacesFit day (200 ∷ 225 ∷ 0 ∷ 0 ∷ []) 2
-  car-needs = raises-needs (omega arith) each
-    where
-      each : (j : ℕ) → j < 2 → RaisesFit day (at (200 ∷ 225 ∷ 0 ∷ 0 ∷ []) j)
-      each zero h = raise-fits 45 200 (λ d. d .raise45-are) (omega arith) (omega arith)
-      each (suc zero) h = raise-fits 60 225 (λ d. d .raise60-are) (omega arith) (omega arith)
-      each (suc (suc j)) h = absurd (omega arith)
-
-  pub two-wheeler-needs : (tables ≡ entries) × GridReady grid × CurvesReady c × PlacesFit day (125 ∷ 175 ∷ 100 ∷ 150 ∷ []) 4
-  two-wheeler-needs = raises-needs (omega arith) each
-    where
-      each : (j : ℕ) → j < 4 → RaisesFit day (at (125 ∷ 175 ∷ 100 ∷ 150 ∷ []) j)
-      each zero h = raise-fits 15 125 (λ d. d .raise15-are) (omega arith) (omega arith)
-      each (suc zero) h = raise-fits 35 175 (λ d. d .raise35-are) (omega arith) (omega arith)
-      each (suc (suc zero)) h = raise-fits 10 100 (λ d. d .raise10-are) (omega arith) (omega arith)
-      each (suc (suc (suc zero))) h = raise-fits 25 150 (λ d. d .raise25-are) (omega arith) (omega arith)
-      each (suc (suc (suc (suc j)))) h = absurd (omega arith)
 
 -- A row without canister, and what is lent to its functions: how large the mean rises are, and that the vapour of each is its escape.
 module _ {tables grid list day : List ℕ} {given : AtSeason} {row : Row} {vapour kept : ℕ} (r : RowLent tables grid list day given row kept)

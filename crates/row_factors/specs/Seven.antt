@@ -1,8 +1,7 @@
 -- What the escapes of a row in a season are, from which its factors are made up. Definitions only.
 use mathlib.Core.List.{List, [], _∷_}
 use mathlib.Core.Path.{_≡_}
-use Prim.Native.Nat.{ℕ, _+_, _*_, _/_, _^_, _<_, _≤_}
-use lib.Dec.{leb}
+use Prim.Native.Nat.{ℕ, _+_, _*_, _/_, _^_, _<_}
 use Rattle.numbers.specs.Lists.{at}
 use Rattle.exact.specs.declared.Season.{Season}
 use Rattle.exact.specs.declared.Row.{Row}
@@ -11,22 +10,13 @@ use Rattle.marks.specs.Marks.{tenths}
 use Rattle.factors.specs.Units.{startOf, endOf, parkingRise, escapeUnits, escapeOverUnits, openUnits, factorUnits}
 use Rattle.parking.specs.SeasonList.{byEntry}
 use Rattle.breakthrough.specs.declared.curves.Curves.{Curves}
-use Rattle.breakthrough.specs.Through.{curveAt, through, RaisesFit, raiseThrough}
+use Rattle.breakthrough.specs.Through.{curveAt, through}
 use Rattle.row_factors.specs.declared.season.Means.{Means}
 use Rattle.row_factors.specs.declared.escapes.Escapes.{Escapes}
 
 -- the mean of what breaks through: in a parking, from the list of a season, for a sum of all counts
 abbrev pub parkingThrough : List ℕ → ℕ → Curves → ℕ
 parkingThrough list total c = byEntry list (λ (start : ℕ) (rise : ℕ). through (curveAt c start) rise / 2 ^ 12) / total
-
--- of the raises that stand from some places of the day on, the first n fit
-pub record PlacesFit (day places : List ℕ) (n : ℕ) : Type 0 where
-  pub few : n ≤ 4
-  pub fit : (j : ℕ) → j < n → RaisesFit day (at places j)
-
--- and what breaks through over each: over the first two at the start of a parking, over the others at its end
-abbrev pub RaisesThrough : List ℕ → List ℕ → List ℕ → ℕ → Curves → List ℕ → Type 0
-RaisesThrough cells day places n c r = (j : ℕ) → j < n → at r j ≡ raiseThrough cells (leb 2 j) day (at places j) c
 
 -- without canister: the vapour of five mean rises
 pub record VapourOf (gain : ℕ) (rises : List ℕ) (e : Escapes) : Type 0 where

@@ -32,7 +32,7 @@ ghost use Rattle.parking.specs.SeasonList.{ListFits};
 ghost use Rattle.breakthrough.specs.Curves.{CurvesOf};
 ghost use Rattle.breakthrough.specs.Through.{CurvesReady};
 ghost use Rattle.row_factors.specs.Season.{growthPlace, RowLent};
-ghost use Rattle.row_factors.specs.Seven.{parkingThrough, PlacesFit, RaisesThrough, VapourOf, CarEscapes, TwoWheelerEscapes};
+ghost use Rattle.row_factors.specs.Seven.{parkingThrough, VapourOf, CarEscapes, TwoWheelerEscapes};
 
 // In a parking, over the lesser raise of a soak and of a trip, and over the greater.
 pub struct Escapes {
@@ -122,27 +122,6 @@ fn fitted(
     fit(tables, &bases, &growths, row, vapour, kept)
 }
 
-// What breaks through over some raises: the first two at the start of a parking, the others at its end.
-fn raises_through(
-    tables: &[u64; 1907],
-    grid: &[u64; 627],
-    day: &[u64; 250],
-    places: [usize; 4],
-    n: usize,
-    c: Curves,
-) -> [u64; 4]
-    requires { ⌜ (now tables ≡ entries) × GridReady (now grid) × CurvesReady c × PlacesFit (now day) places n ⌝ }
-    ensures { λ r. ⌜ RaisesThrough (cellsIn (now (grid .entry))) (now (day .entry)) places n c r ⌝ }
-{
-    let mut out = [0u64; 4];
-    let mut j: usize = 0;
-    while j < n {
-        out[j] = through_raises(tables, grid, day, 2 <= j, places[j], c);
-        j += 1;
-    }
-    out
-}
-
 // A car with canister, from which nothing escapes on a trip.
 fn canister_car(
     tables: &[u64; 1907],
@@ -157,11 +136,10 @@ fn canister_car(
     ensures { λ r. ⌜ CarEscapes (at .season) row (cellsIn (now (grid .entry))) r ⌝ }
 {
     let c = fitted(tables, grid, list, day, at, row, kept);
-    let over = raises_through(tables, grid, day, [RAISE_45, RAISE_60, 0, 0], 2, c);
     Escapes {
         parking: parking_through(tables, grid, list, c),
-        soak: over[0],
-        hotsoak: over[1],
+        soak: through_raises(tables, grid, day, false, RAISE_45, c),
+        hotsoak: through_raises(tables, grid, day, false, RAISE_60, c),
         trip: 0,
         hottrip: 0,
     }
@@ -181,20 +159,12 @@ fn canister_two_wheeler(
     ensures { λ r. ⌜ TwoWheelerEscapes (at .season) row (cellsIn (now (grid .entry))) r ⌝ }
 {
     let c = fitted(tables, grid, list, day, at, row, kept);
-    let over = raises_through(
-        tables,
-        grid,
-        day,
-        [RAISE_15, RAISE_35, RAISE_10, RAISE_25],
-        4,
-        c,
-    );
     Escapes {
         parking: parking_through(tables, grid, list, c),
-        soak: over[0],
-        hotsoak: over[1],
-        trip: over[2],
-        hottrip: over[3],
+        soak: through_raises(tables, grid, day, false, RAISE_15, c),
+        hotsoak: through_raises(tables, grid, day, false, RAISE_35, c),
+        trip: through_raises(tables, grid, day, true, RAISE_10, c),
+        hottrip: through_raises(tables, grid, day, true, RAISE_25, c),
     }
 }
 
