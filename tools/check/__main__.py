@@ -66,7 +66,10 @@ def run_promises(_: argparse.Namespace) -> int:
 
 def run_bounds(_: argparse.Namespace) -> int:
     return finish("bounds", bounds.faults(),
-                  "the crates above bounds cite its %d listed laws alone" % len(bounds.listed()))
+                  "of bounds' proofs the crates above cite the %d laws of its record, each of them, and its calculus, "
+                  "which speaks of no series: %s; %d files open definitions, to compute examples" % (
+                      len(bounds.listed(bounds.laws_file())), ", ".join(sorted(bounds.CALCULUS)),
+                      len(bounds.computing())))
 
 
 def run_names(_: argparse.Namespace) -> int:

@@ -1,4 +1,4 @@
-"""The tables of E in crates/bounds and crates/thresholds, one computation for all places where they stand.
+"""The tables of E in crates/bounds, one computation for all places where they stand.
 
 The two tables of the exponential: an entry is 2^40 E(c) cut to a whole number,
 for the exact c = k/step. It is cut from a number that is below E(c) for every
@@ -70,9 +70,9 @@ PLACES = [
     ("crates/bounds/src/exp.rt", r"const TABLES: \[u64; 578\] = \[\n", source(COARSE + MIDDLE), r"\];"),
     ("crates/bounds/specs/Exponential.antt", r"\ncoarse =\n", listed(COARSE), r"\[\]\n"),
     ("crates/bounds/specs/Exponential.antt", r"\nmiddle =\n", listed(MIDDLE), r"\[\]\n"),
-    ("crates/thresholds/src/lib.rt", r"const FAR: \[u64; 15\] = \[\n", source(FAR), r"\];"),
-    ("crates/thresholds/specs/Thresholds.antt", r"\nfar =\n", listed(FAR), r"\[\]\n"),
-    ("crates/thresholds/proofs/Far.antt", r"\nfarAbove =\n", listed(FAR_ABOVE), r"\[\]\n"),
+    ("crates/bounds/src/whole.rt", r"const FAR: \[u64; 15\] = \[\n", source(FAR), r"\];"),
+    ("crates/bounds/specs/WholeExponents.antt", r"\nfar =\n", listed(FAR), r"\[\]\n"),
+    ("crates/bounds/specs/WholeExponents.antt", r"\nfarAbove =\n", listed(FAR_ABOVE), r"\[\]\n"),
 ]
 
 

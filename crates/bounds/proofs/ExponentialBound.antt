@@ -155,7 +155,7 @@ exponential-within x l =
     }
 
 -- the error grows with the exponent
-pub exponentialError-mono : {x y : ℕ} → x ≤ y → y < exponentLimit → exponentialError x ≤ exponentialError y
+exponentialError-mono : {x y : ℕ} → x ≤ y → y < exponentLimit → exponentialError x ≤ exponentialError y
 unfolding exponentialError
 exponentialError-mono {x} {y} l h =
     let g : x / 6250000000000 ≤ y / 6250000000000 = div-mono 6250000000000 (omega arith) l in

@@ -1,22 +1,25 @@
--- All of them hold. A crate above may cite just the laws that are named here, and the calculus of enclosures: tools/check has a check of it.
+-- All of them hold. A crate above may cite just the laws that are named here, and the calculus of enclosures, which does not speak of E or of
+-- the root: tools/check has a check of it.
 -- Assumes nothing.
 use native.Mathlib.Omega.{arith}
 use Rattle.numbers.specs.Fraction.{Fraction, _<ᶠ_, whole}
 use Rattle.numbers.proofs.Order.{Positive, nonNegative, nonNegative→≤}
-use Rattle.bounds.specs.Laws.{SeriesLaws, EndLaws, ExponentialLaws, ShortLaws, PowerLaws, WeightLaws, Laws}
-use Rattle.bounds.proofs.Exponential.{E-cong, E-mono, E-zero, E-positive}
-use Rattle.bounds.proofs.Sums.{E-most-1, E-product-above, E-product-below, one-plus}
-use Rattle.bounds.proofs.Ends.{E-to-0·44, E-to-2·255, E-to-2·8201, E-to-3, E-to-3·58, E-to-4·0096, E-at-2·78, E-at-minus-7·75}
-use Rattle.bounds.proofs.ExponentialBound.{exponential-within, exponentialError-mono, exponentialError-1·41}
-use Rattle.bounds.proofs.ExponentialBound.{exponentialError-2·3, exponentialError-3·6, exponentialError-4·1}
-use Rattle.bounds.proofs.ExponentialBound.{exponential-size, exponential-size-1·41, exponential-at-0}
-use Rattle.bounds.proofs.ExponentialBound.{exponential-at-1·41}
-use Rattle.bounds.proofs.ShortBound.{short-within, shortError-mono, shortError-0, shortError-3, short-size}
-use Rattle.bounds.proofs.Growth.{exponential-mono}
-use Rattle.bounds.proofs.Line.{exponential-most-1}
-use Rattle.bounds.proofs.PowerBound.{power-within, power-size}
-use Rattle.bounds.proofs.Root.{power2·5-nonNegative, power2·5-above, power2·5-below, cutRoot-is, cutRoot-multiple}
-use Rattle.bounds.proofs.Weights.{weight-nearest, w-most, rises-where, apart-most, apart-alike}
+use Rattle.bounds.specs.Laws.{SeriesLaws, EndLaws, WholeLaws, ExponentialLaws, ShortLaws, TangentLaws}
+use Rattle.bounds.specs.Laws.{PowerLaws, WeightLaws, Laws}
+pub use Rattle.bounds.proofs.Exponential.{E-cong, E-mono, E-zero, E-positive}
+pub use Rattle.bounds.proofs.Sums.{E-most-1, E-product-above, E-product-below, one-plus}
+pub use Rattle.bounds.proofs.Ends.{E-to-0·44, E-to-2·255, E-to-2·8201, E-to-3, E-to-3·58, E-to-4·0096, E-at-2·78, E-at-minus-7·75}
+pub use Rattle.bounds.proofs.ExponentialBound.{exponential-within, exponentialError-1·41}
+pub use Rattle.bounds.proofs.ExponentialBound.{exponentialError-2·3, exponentialError-3·6, exponentialError-4·1}
+pub use Rattle.bounds.proofs.ExponentialBound.{exponential-size-1·41, exponential-at-0, exponential-at-1·41}
+pub use Rattle.bounds.proofs.ShortBound.{short-within, short-size}
+pub use Rattle.bounds.proofs.Growth.{exponential-mono}
+pub use Rattle.bounds.proofs.Steepness.{short-most-1, held-to-0, held-to-3}
+pub use Rattle.bounds.proofs.Tangent.{tangent-least, tangent-near}
+pub use Rattle.bounds.proofs.WholeExponents.{far-below, far-above, far-gap, far-triple, far-size, far-2, far-14}
+pub use Rattle.bounds.proofs.PowerBound.{power-within, power-size}
+pub use Rattle.bounds.proofs.Root.{power2·5-nonNegative, power2·5-above, power2·5-below, cutRoot-is, root-square-cut, cutRoot-multiple}
+pub use Rattle.bounds.proofs.Weights.{w-most, rises-where, apart-most, apart-alike}
 
 above-0 : {x : Fraction} → Positive x → whole 0 <ᶠ x
 unfolding whole
@@ -46,18 +49,26 @@ ends = record {
   at-minus-7·75 = E-at-minus-7·75;
 }
 
+wholes : WholeLaws
+wholes = record {
+  below = far-below;
+  above = far-above;
+  gap = far-gap;
+  triple = far-triple;
+  fits = far-size;
+  at-2 = far-2;
+  at-14 = far-14;
+}
+
 computed : ExponentialLaws
 computed = record {
   encloses = exponential-within;
-  error-grows = exponentialError-mono;
   error-1·41 = exponentialError-1·41;
   error-2·3 = exponentialError-2·3;
   error-3·6 = exponentialError-3·6;
   error-4·1 = exponentialError-4·1;
   grows = exponential-mono;
-  fits = exponential-size;
   fits-1·41 = exponential-size-1·41;
-  to-0 = exponential-most-1;
   at-0 = exponential-at-0;
   at-1·41 = exponential-at-1·41;
 }
@@ -65,11 +76,14 @@ computed = record {
 shorter : ShortLaws
 shorter = record {
   encloses = short-within;
-  error-grows = shortError-mono;
-  error-0 = shortError-0;
-  error-3 = shortError-3;
   fits = short-size;
+  most-1 = short-most-1;
+  held-to-0 = held-to-0;
+  held-to-3 = held-to-3;
 }
+
+tangents : TangentLaws
+tangents = record { least = tangent-least; near = tangent-near }
 
 powers : PowerLaws
 powers = record {
@@ -79,11 +93,21 @@ powers = record {
   from-0 = power2·5-above;
   below-0 = power2·5-below;
   root-is = cutRoot-is;
+  root-of-square = root-square-cut;
   root-multiple = cutRoot-multiple;
 }
 
 hourly : WeightLaws
-hourly = record { nearest = weight-nearest; most = w-most; rises = rises-where; near = apart-most; alike = apart-alike }
+hourly = record { most = w-most; rises = rises-where; near = apart-most; alike = apart-alike }
 
 pub laws : Laws
-laws = record { series = series; ends = ends; exponential = computed; short = shorter; power = powers; weights = hourly }
+laws = record {
+  series = series;
+  ends = ends;
+  wholes = wholes;
+  exponential = computed;
+  short = shorter;
+  tangent = tangents;
+  power = powers;
+  weights = hourly;
+}

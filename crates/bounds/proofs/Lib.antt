@@ -1,23 +1,25 @@
-pub mod Root
-pub mod Parts
+mod Root
+mod Parts
 pub mod Within
 pub mod Table
-pub mod Tables
-pub mod Product
-pub mod Tail
-pub mod Sizes
-pub mod Exponential
-pub mod Sums
-pub mod Entries
-pub mod PowerBound
-pub mod Composition
-pub mod ExponentialBound
-pub mod Growth
-pub mod Ends
-pub mod Weights
+mod Tables
+mod Product
+mod Tail
+mod Sizes
+mod Exponential
+mod Sums
+mod Entries
+mod PowerBound
+mod Composition
+mod ExponentialBound
+mod Growth
+mod Ends
+mod Weights
 pub mod Line
 pub mod Units
-pub mod Tangent
+mod Tangent
 pub mod Laws
-pub mod ShortBound
+mod ShortBound
 pub mod ShortLine
+mod Steepness
+mod WholeExponents

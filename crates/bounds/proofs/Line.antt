@@ -1,69 +1,21 @@
--- E along a straight line, E(a + b·m): the line as it is held, and how far E can climb.
--- a is held as A, an exponent; 2·b as K, in units of 10⁻¹⁴; m in units of 2⁻⁴⁰.
+-- A straight line of exponents, a + b·m: how it grows with m, and how its values are compared. Nothing here speaks of E.
 -- Assumes nothing.
 use Prim.Native.Nat.{ℕ, _+_, _*_, _^_, _≤_, _<_}
 use native.Mathlib.Omega.{arith}
 use Rattle.numbers.specs.Fraction.{Fraction, _≤ᶠ_, _≈ᶠ_, _+ᶠ_, _-ᶠ_, _*ᶠ_, whole, _/10^_}
-use Rattle.numbers.proofs.Order.{NonNegative, positive→nonNegative, nonNegative-up, ≤-refl, ≤-trans, ≈-refl, ≈-sym}
-use Rattle.numbers.proofs.Order.{≈-trans, ≈→≤, ≈→≥, ≈-by, +-mono, +-cong, +-comm, +-assoc, sub-add, sub-nonNegative}
-use Rattle.numbers.proofs.Order.{≤-sub, regain, *-mono, *-mono-right, *-cong, *-assoc, *-distrib, ratio, ratio-mono}
-use Rattle.numbers.proofs.Order.{ratio-nonNegative}
-use Rattle.bounds.specs.Series.{E}
+use Rattle.numbers.proofs.Order.{≤-refl, ≤-trans, ≈-refl, ≈-sym, ≈-trans, ≈-by, +-mono, +-cong, +-assoc, regain}
+use Rattle.numbers.proofs.Order.{*-mono-right, *-cong, *-assoc, *-distrib, ratio, ratio-mono, ratio-nonNegative}
 use Rattle.bounds.specs.Enclosure.{Within}
-use Rattle.bounds.specs.Exponential.{exponential, exponent}
-use Rattle.bounds.proofs.Exponential.{E-mono, E-positive, E-tangent}
-use Rattle.bounds.proofs.Sums.{E-most-1}
-use Rattle.bounds.proofs.ExponentialBound.{exponential-within}
-use Rattle.bounds.proofs.Ends.{E-to-3}
-use Rattle.bounds.proofs.Within.{within-above, within-below, within-from, within-cross, whole-within}
-
--- E up to 3
-written-3 : whole 3 ≤ᶠ 3 /10^ 0
-unfolding whole _/10^_
-written-3 = omega arith
-
-pub steep-3 : (n : ℕ) → 40 ≤ n → {z : Fraction} → z ≤ᶠ whole 3 → E n z ≤ᶠ 201 /10^ 1
-steep-3 n n40 h = E-to-3 n n40 (≤-trans h written-3)
-
--- an exponent of at most 0
-at-most-0 : (x : ℕ) → x ≤ 16 * 10 ^ 14 → exponent x ≤ᶠ whole 0
-unfolding whole
-at-most-0 x h = omega arith
-
--- the computed E is at most 1 there
-pub exponential-most-1 : (x : ℕ) → x ≤ 16 * 10 ^ 14 → exponential x ≤ 2 ^ 40
-exponential-most-1 x h =
-    within-cross (exponential-within x (omega arith) .at 40 (omega arith)) (whole-within (2 ^ 40) 1) (E-most-1 40 (at-most-0 x h))
+use Rattle.bounds.specs.Exponential.{exponent}
+pub use Rattle.bounds.specs.Line.{double-unit-pos, rising}
+unfoldable pub use Rattle.bounds.specs.Line.{along}
+use Rattle.bounds.proofs.Within.{within-above, within-below, within-from}
 
 -- a value between two enclosed ones
 pub within-between : {s l w m v u : ℕ} {x y z : Fraction} (p : 0 < s) → Within s l w x → Within s m v z → x ≤ᶠ y → y ≤ᶠ z → m + v ≤ l + u
     → Within s l u y
 within-between {s} p a b h k g =
     within-from p (≤-trans (within-above p a) h) (≤-trans k (≤-trans (within-below p b) (ratio-mono p g)))
-
--- E(y) ≤ E(x) + d·steepest where x ≤ y ≤ x + d and E(y) is at most steepest
-pub climb-to : {x y : Fraction} (n : ℕ) (d steepest : Fraction) → x ≤ᶠ y → y ≤ᶠ x +ᶠ d → E n y ≤ᶠ steepest → E n y ≤ᶠ E n x +ᶠ d *ᶠ steepest
-climb-to {x} {y} n d steepest l h k =
-    let e : Fraction = y -ᶠ x in
-    let same : x +ᶠ e ≈ᶠ y = ≈-trans (+-comm x e) (sub-add y x) in
-    let small : e ≤ᶠ d = ≤-sub x d h in
-    let e0 : NonNegative e = sub-nonNegative l in
-    ≤-trans (E-mono n (≈→≥ same))
-    (≤-trans (E-tangent n x e e0)
-    (+-mono (≤-refl (E n x))
-    (*-mono (nonNegative-up small e0) (positive→nonNegative (E-positive n (x +ᶠ e))) small (≤-trans (E-mono n (≈→≤ same)) k))))
-
--- the denominator of 2·b
-pub double-unit-pos : 0 < 2 * 10 ^ 14
-double-unit-pos = omega arith
-
--- b
-abbrev pub rising : ℕ → Fraction
-rising K = ratio K (2 * 10 ^ 14) double-unit-pos
-
--- a + b·m
-unfoldable pub along : ℕ → ℕ → Fraction → Fraction
-along A K m = exponent A +ᶠ rising K *ᶠ m
 
 -- a and b, as they are held
 pub along-is : (A K : ℕ) (m : Fraction) {a b : Fraction} → a ≈ᶠ exponent A → b ≈ᶠ rising K → a +ᶠ b *ᶠ m ≈ᶠ along A K m

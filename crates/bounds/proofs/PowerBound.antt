@@ -10,7 +10,7 @@ use native.Mathlib.Nat.{sub-add-cancel, sub-eq-zero-of-le, mul-pos, mul-le-mul-r
 use native.Mathlib.Nat.{le-of-mul-le-mul-right, lt-of-mul-lt-mul-right, le-trans, pow-zero, pow-suc, div-mul-le-self}
 use lib.Pow.{pow-add}
 use lib.Dec.{lit<}
-use Rattle.numbers.specs.Fraction.{Fraction, _≤ᶠ_, _*ᶠ_, _^ᶠ_, whole}
+use Rattle.numbers.specs.Fraction.{Fraction, _≤ᶠ_, _*ᶠ_, _^ᶠ_, whole, ratio}
 use Rattle.bounds.specs.Series.{rootFrom, root, cutRoot, power2·5, two-pos, multiple, LargestMultiple}
 use Rattle.bounds.specs.Enclosure.{Within, WithinAll}
 use Rattle.bounds.specs.Power.{degrees, halfPower, powerFrom, power, degreesLimit, powerError}
@@ -117,7 +117,7 @@ multiple-above :
     → X * X ≤ F
     → R * e ≤ X * S
     → R * 2 ^ n ≤ r * S
-unfolding multiple _*ᶠ_
+unfolding ratio _*ᶠ_
 multiple-above {n} X R G S {x = x} v is g h k =
     let fits : multiple n (R * G) *ᶠ multiple n (R * G) ≤ᶠ x = record {
       cross =
@@ -135,7 +135,7 @@ multiple-below :
     → F < Y * Y
     → Y * S ≤ Q * e
     → r * S ≤ Q * 2 ^ n
-unfolding multiple _*ᶠ_
+unfolding ratio _*ᶠ_
 multiple-below {n} Y Q S {e = e} {r = r} v is pos h k =
     let low = rw (v .numerator, v .denominator) at (is .low .cross) in
     let less : r * e < Y * 2 ^ n =

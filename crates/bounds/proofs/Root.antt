@@ -1,6 +1,6 @@
 -- The root by binary digits is the largest whole number whose square is at most x, and the cut root is document 01's "largest
 -- multiple of 2⁻ⁿ whose square is at most" x.
-use mathlib.Core.Path.{_≡_, refl, ap}
+use mathlib.Core.Path.{_≡_, refl, ap, _∙_}
 use mathlib.Core.Bool.{Bool, true, false}
 use Prim.Native.Nat.{ℕ, suc, zero, _+_, _*_, _-_, _^_, _/_, _≤_, _<_}
 use native.Mathlib.Omega.{arith}
@@ -10,7 +10,7 @@ use native.Mathlib.Nat.{mul-le-mul, mul-le-mul-right, div-mul-le-self, lt-div-mu
 use native.Mathlib.Nat.{add-sub-cancel-left, le-refl, le-antisymm}
 use lib.Dec.{leb}
 use borrow.Author.Tests.{leb-true, leb-false, le-leb, lt-leb}
-use Rattle.numbers.specs.Fraction.{Fraction, _≤ᶠ_, _<ᶠ_, _*ᶠ_, _^ᶠ_, whole, _≤?_}
+use Rattle.numbers.specs.Fraction.{Fraction, _≤ᶠ_, _<ᶠ_, _*ᶠ_, _^ᶠ_, whole, _≤?_, ratio}
 use Rattle.numbers.proofs.Order.{NonNegative, test-cases}
 use Rattle.bounds.specs.Series.{rootFrom, root, cutRoot, power2·5, multiple, CutRootTheorem}
 
@@ -92,9 +92,13 @@ halved-above x r h =
     omega (arith, a, four-products r (q + 1), mul-le-mul b b)
 
 -- 4ⁿ is the square of 2ⁿ
-pub four-power : (n : ℕ) → 4 ^ n ≡ 2 ^ n * 2 ^ n
+four-power : (n : ℕ) → 4 ^ n ≡ 2 ^ n * 2 ^ n
 four-power zero = refl
 four-power (suc n) = simp unary-clauses (omega (arith, four-power n))
+
+-- the root of m², cut after n places
+pub root-square-cut : (n m : ℕ) → root (4 ^ n * (m * m)) ≡ m * 2 ^ n
+root-square-cut n m = ap root (rw (four-power n) (omega arith)) ∙ root-square (m * 2 ^ n)
 
 -- 4ⁿ·(u − d) without the cut difference, where d ≤ u
 uncut : (two four u d : ℕ) → four ≡ two * two → d ≤ u → four * (u - d) + d * (two * two) ≡ u * (two * two)
@@ -128,7 +132,7 @@ largest-cross two x u d e k q p g h =
 
 -- the cut root of an x from 0 upward is the largest multiple of 2⁻ⁿ whose square is at most x
 pub cutRoot-is : CutRootTheorem
-unfolding cutRoot multiple _*ᶠ_ whole
+unfolding cutRoot ratio _*ᶠ_ whole
 cutRoot-is n x h =
     let two = 2 ^ n in
     let u = x .up in
@@ -145,7 +149,7 @@ cutRoot-is n x h =
 
 -- the cut root is a multiple of 2⁻ⁿ
 pub cutRoot-multiple : (n : ℕ) (x : Fraction) → cutRoot n x ≡ multiple n ((cutRoot n x) .up)
-unfolding cutRoot multiple
+unfolding cutRoot ratio
 cutRoot-multiple n x = refl
 
 -- T^2.5 from 0 upward is the cut root of T⁵

@@ -136,7 +136,7 @@ short-within x l =
     }
 
 -- the error grows with the exponent
-pub shortError-mono : {x y : ℕ} → x ≤ y → y < shortLimit → shortError x ≤ shortError y
+shortError-mono : {x y : ℕ} → x ≤ y → y < shortLimit → shortError x ≤ shortError y
 unfolding shortError high
 shortError-mono {x} {y} l h =
     let g : x / 2 ^ 49 ≤ y / 2 ^ 49 = div-mono (2 ^ 49) (omega arith) l in

@@ -1,101 +1,33 @@
--- E by the short exponential at an exponent that is known within a width: what the cuts of the exponent cost, from the load that
--- a row starts with to the vapour of an entry. An exponent z is held as x where x/2⁵³ encloses z + 16.
+-- An exponent that is known within a width: what rounding it down costs, from the load that a row starts with to the vapour of an
+-- entry. An exponent z is held as x where x/2⁵³ encloses z + 16. Nothing here speaks of E.
 -- Assumes nothing.
 use mathlib.Core.Path.{_≡_, refl}
-use Prim.Native.Nat.{ℕ, _+_, _*_, _^_, _/_, _≤_, _<_}
+use Prim.Native.Nat.{ℕ, _+_, _*_, _^_, _/_, _≤_}
 use native.Mathlib.Omega.{arith}
 use native.Mathlib.Nat.{mul-le-mul-right, mul-le-mul-left, mul-le-mul}
-use Rattle.numbers.specs.Fraction.{Fraction, _≤ᶠ_, _≈ᶠ_, _+ᶠ_, _*ᶠ_, whole, _/10^_, ten-pos}
+use Rattle.numbers.specs.Fraction.{Fraction, _≤ᶠ_, _≈ᶠ_, _+ᶠ_, _*ᶠ_, whole, ten-pos}
 use Rattle.numbers.proofs.Order.{≤-trans, ≈-refl, ≈-sym, ≈-trans, +-comm, +-assoc, +-cong, ratio}
-use Rattle.bounds.specs.Series.{E, two-pos}
+use Rattle.bounds.specs.Series.{two-pos}
 use Rattle.bounds.specs.Enclosure.{Within}
 use Rattle.bounds.specs.Exponential.{exponent}
-use Rattle.bounds.specs.Short.{shortExponent, short, shortLimit, shortError, binary, lineOf, lineExponent, reachOf, reach}
-use Rattle.bounds.proofs.Exponential.{E-mono}
-use Rattle.bounds.proofs.Sums.{E-most-1}
-use Rattle.bounds.proofs.ShortBound.{short-within, shortError-0, shortError-3}
-use Rattle.bounds.proofs.Line.{steep-3, climb-to, within-between, double-unit-pos, rising, along}
-use Rattle.bounds.proofs.Within.{widen, within-≈, within-cross, whole-within, ratio-within, +-within, *-within, round-within, div-mono}
-
--- x/2⁵³ ≤ z + 16 ≤ (x + w)/2⁵³
-pub record Held (x w : ℕ) (z : Fraction) : Type 0 where
-  pub raised : Within (2 ^ 53) x w (z +ᶠ whole 16)
+use Rattle.bounds.specs.Short.{shortExponent, binary, lineOf, lineExponent, reachOf, reach}
+pub use Rattle.bounds.specs.Line.{Held}
+use Rattle.bounds.proofs.Line.{double-unit-pos, rising, along, along-mono}
+use Rattle.bounds.proofs.Units.{unit-pos, units-within}
+use Rattle.bounds.proofs.Within.{widen, within-≈, within-above, ratio-within, +-within, *-within, round-within, div-mono}
 
 -- an equal exponent
 pub held-≈ : {x w : ℕ} {z y : Fraction} → z ≈ᶠ y → Held x w z → Held x w y
 held-≈ e h = record { raised = within-≈ (+-cong e (≈-refl (whole 16))) (h .raised) }
 
--- How steep E is up to an exponent, with the short exponential.
-pub record ShortSlope : Type 0 where
-  -- exponents up to this one, as a fraction and as it is held
-  pub top : Fraction
-  pub last : ℕ
-  pub held : (x : ℕ) → shortExponent x ≤ᶠ top → x ≤ last
-  pub last-fits : last < shortLimit
-  -- E there, which is its own slope
-  pub steepest : Fraction
-  pub steep : (n : ℕ) → 40 ≤ n → {z : Fraction} → z ≤ᶠ top → E n z ≤ᶠ steepest
-  -- how far E can be above the computed one
-  pub error : ℕ
-  pub error-most : (x : ℕ) → x ≤ last → shortError x ≤ error
-  -- by how many units of 2⁻³⁶ E moves where the exponent moves by w units of 2⁻⁵³
-  pub moved : ℕ → ℕ
-  pub moves : (w : ℕ) → Within (2 ^ 36) 0 (moved w) (ratio w (2 ^ 53) (two-pos 53) *ᶠ steepest)
-
-pub held-3 : (x : ℕ) → shortExponent x ≤ᶠ whole 3 → x ≤ 19 * 2 ^ 53
+-- an exponent of at most 0, and of at most 3, in units of 2⁻⁵³
+pub exponent-most-0 : (x : ℕ) → shortExponent x ≤ᶠ whole 0 → x ≤ 16 * 2 ^ 53
 unfolding whole
-held-3 x h = omega (arith, h .cross)
+exponent-most-0 x h = omega (arith, h .cross)
 
-pub moves-3 : (w : ℕ) → Within (2 ^ 36) 0 (201 * w / 1310720 + 1) (ratio w (2 ^ 53) (two-pos 53) *ᶠ 201 /10^ 1)
-unfolding ratio _*ᶠ_ _/10^_
-moves-3 w = omega arith
-
--- up to 3: E is at most 20.1
-abbrev pub shortTo3 : ShortSlope
-shortTo3 = record {
-  top = whole 3;
-  last = 19 * 2 ^ 53;
-  held = held-3;
-  last-fits = omega arith;
-  steepest = 201 /10^ 1;
-  steep = steep-3;
-  error = 5797;
-  error-most = λ x h. shortError-3 x (omega arith);
-  moved = λ (w : ℕ). 201 * w / 1310720 + 1;
-  moves = moves-3;
-}
-
-pub held-0 : (x : ℕ) → shortExponent x ≤ᶠ whole 0 → x ≤ 16 * 2 ^ 53
+pub exponent-most-3 : (x : ℕ) → shortExponent x ≤ᶠ whole 3 → x ≤ 19 * 2 ^ 53
 unfolding whole
-held-0 x h = omega (arith, h .cross)
-
-pub moves-0 : (w : ℕ) → Within (2 ^ 36) 0 (w / 2 ^ 17 + 1) (ratio w (2 ^ 53) (two-pos 53) *ᶠ whole 1)
-unfolding ratio _*ᶠ_ whole
-moves-0 w = omega arith
-
--- up to 0: E is at most 1
-abbrev pub shortTo0 : ShortSlope
-shortTo0 = record {
-  top = whole 0;
-  last = 16 * 2 ^ 53;
-  held = held-0;
-  last-fits = omega arith;
-  steepest = whole 1;
-  steep = λ n n40 h. E-most-1 n h;
-  error = 1047;
-  error-most = shortError-0;
-  moved = λ (w : ℕ). w / 2 ^ 17 + 1;
-  moves = moves-0;
-}
-
--- an exponent of at most 0
-at-most-0 : (x : ℕ) → x ≤ 16 * 2 ^ 53 → shortExponent x ≤ᶠ whole 0
-unfolding whole
-at-most-0 x h = omega arith
-
--- the computed E is at most 1 there
-pub short-most-1 : (x : ℕ) → x ≤ 16 * 2 ^ 53 → short x ≤ 2 ^ 36
-short-most-1 x h = within-cross (short-within x (omega arith) .at 40 (omega arith)) (whole-within (2 ^ 36) 1) (E-most-1 40 (at-most-0 x h))
+exponent-most-3 x h = omega (arith, h .cross)
 
 module _ {x w : ℕ} {z : Fraction} (a : Held x w z) where
   -- a held exponent, from below
@@ -108,19 +40,12 @@ module _ {x w : ℕ} {z : Fraction} (a : Held x w z) where
   unfolding _+ᶠ_ whole ratio
   held-below = record { cross = omega (arith, a .raised .below) }
 
-  module _ (sl : ShortSlope) (t : z ≤ᶠ sl .top) where
-    -- where z is at most the top, so is the held exponent
-    pub held-most : x ≤ sl .last
-    held-most = sl .held x (≤-trans held-above t)
+  -- where z is at most 0 or 3, so is what holds it
+  pub held-most-0 : z ≤ᶠ whole 0 → x ≤ 16 * 2 ^ 53
+  held-most-0 t = exponent-most-0 x (≤-trans held-above t)
 
-    -- E(z)
-    pub held-within : (n : ℕ) → 40 ≤ n → Within (2 ^ 36) (short x) (sl .error + sl .moved w) (E n z)
-    held-within n n40 =
-        let fits : x < shortLimit = omega (arith, held-most, sl .last-fits) in
-        let e = widen (short-within x fits .at n n40) (sl .error-most x held-most) in
-        within-between (omega arith) e (+-within e (sl .moves w)) (E-mono n held-above)
-        (climb-to n (ratio w (2 ^ 53) (two-pos 53)) (sl .steepest) held-above held-below (sl .steep n n40 t))
-        (omega arith)
+  pub held-most-3 : z ≤ᶠ whole 3 → x ≤ 19 * 2 ^ 53
+  held-most-3 t = exponent-most-3 x (≤-trans held-above t)
 
 -- What the exponent is made of.
 
@@ -171,6 +96,12 @@ lineWidth w = (4 * w + 189) * 2 ^ 9
 pub line-held : {l w : ℕ} (A K : ℕ) {m : Fraction} → K ≤ 22 * 2 ^ 41 → l ≤ 369 * 2 ^ 40 → w ≤ 2 ^ 40 → Within (2 ^ 40) l w m
     → Held (lineExponent A K l) (lineWidth w) (along A K m)
 line-held {l} {w} A K h g k a = record { raised = widen (line-cut A K a .raised) (omega (arith, mul-le-mul-right w (binary-most K h))) }
+
+-- on a line that is at most 0 at m, the exponent that is held at an l below m is at most 0
+pub line-most : (A K : ℕ) {l w : ℕ} (m : Fraction) → Within (2 ^ 40) l w m → K ≤ 22 * 2 ^ 41 → l ≤ 369 * 2 ^ 40 → along A K m ≤ᶠ whole 0
+    → lineExponent A K l ≤ 16 * 2 ^ 53
+line-most A K {l} m a hK hl top =
+    held-most-0 (line-held A K hK hl (omega arith) (units-within l)) (≤-trans (along-mono A K (within-above unit-pos a)) top)
 
 -- b·g for a gain of at most 36 that is known within 313: within six units of 2⁻³⁶
 pub reach-within : {g : ℕ} (K : ℕ) {γ : Fraction} → K ≤ 22 * 2 ^ 41 → g ≤ 36 * 2 ^ 40 → Within (2 ^ 40) g 313 γ

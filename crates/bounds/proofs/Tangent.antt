@@ -12,14 +12,16 @@ use Rattle.numbers.proofs.Order.{≤-minus, regain, *-mono-left, *-mono-right, 
 use Rattle.numbers.proofs.Order.{ratio-≤, ratio-product, ratio-nonNegative}
 use Rattle.bounds.specs.Series.{E, two-pos}
 use Rattle.bounds.specs.Enclosure.{Within}
-use Rattle.bounds.specs.Short.{shortExponent, short, lineExponent}
+use Rattle.bounds.specs.Short.{shortExponent, lineExponent}
+use Rattle.bounds.specs.Line.{shortAlong}
 use Rattle.bounds.proofs.Exponential.{E-mono, E-tangent}
 use Rattle.bounds.proofs.Sums.{E-most-1, chord}
 use Rattle.bounds.proofs.ShortBound.{short-within, shortError-0}
 use Rattle.bounds.proofs.Within.{widen, within-above, within-below}
 use Rattle.bounds.proofs.Units.{unit-pos, units, units-≤, units-sum, units-fold, units-product, units-within}
-use Rattle.bounds.proofs.Line.{climb-to, double-unit-pos, rising, along, along-split, along-mono}
-use Rattle.bounds.proofs.ShortLine.{Held, shortTo0, held-above, held-below, held-most, finer, lineWidth, line-held, short-most-1}
+use Rattle.bounds.proofs.Line.{double-unit-pos, rising, along, along-split, along-mono}
+use Rattle.bounds.proofs.ShortLine.{Held, held-above, held-below, finer, lineWidth, line-held, line-most}
+use Rattle.bounds.proofs.Steepness.{climb-to, short-most-1}
 
 -- by which an exponent on the line is cut
 abbrev cut : Fraction
@@ -91,16 +93,16 @@ module _ (A K : ℕ) {l w : ℕ} (m : Fraction) (a : Within (2 ^ 40) l w m) (hK 
   module _ (top : along A K m ≤ᶠ whole 0) (n : ℕ) (n40 : 40 ≤ n) where
     -- the computed E at l, which is at most 1
     abbrev x : ℕ
-    x = short (lineExponent A K l) * 2 ^ 4
+    x = shortAlong A K l
 
-    pub line-most : lineExponent A K l ≤ 16 * 2 ^ 53
-    line-most = held-most first-held shortTo0 (≤-trans l-below top)
+    l-most : lineExponent A K l ≤ 16 * 2 ^ 53
+    l-most = line-most A K m a hK hl top
 
     x-most : x ≤ 2 ^ 40
-    x-most = omega (arith, short-most-1 _ line-most)
+    x-most = omega (arith, short-most-1 _ l-most)
 
     E-first : (k : ℕ) → 40 ≤ k → Within (2 ^ 40) x (1047 * 2 ^ 4) (E k first)
-    E-first k k40 = finer (2 ^ 4) (widen (short-within (lineExponent A K l) (omega (arith, line-most)) .at k k40) (shortError-0 _ line-most))
+    E-first k k40 = finer (2 ^ 4) (widen (short-within (lineExponent A K l) (omega (arith, l-most)) .at k k40) (shortError-0 _ l-most))
 
     -- b·(m − l)·x + x ≤ E(a + b·m)
     pub tangent-least : rising K *ᶠ (m -ᶠ units l) *ᶠ units x +ᶠ units x ≤ᶠ E n (along A K m)

@@ -1,17 +1,11 @@
--- Counts of units of 2⁻⁴⁰ as fractions.
-use Prim.Native.Nat.{ℕ, _+_, _*_, _^_, _/_, _≤_, _<_}
+-- Counts of units of 2⁻⁴⁰ as fractions. Nothing here speaks of E.
+use Prim.Native.Nat.{ℕ, _+_, _*_, _^_, _/_, _≤_}
 use native.Mathlib.Omega.{arith}
 use Rattle.numbers.specs.Fraction.{Fraction, _≤ᶠ_, _≈ᶠ_, _+ᶠ_, _*ᶠ_}
-use Rattle.numbers.proofs.Order.{≤-trans, ≈-refl, ≈-trans, ≈→≤, +-cong, +-assoc, ratio, ratio-≤, ratio-mono, ratio-sum, ratio-product}
+use Rattle.numbers.proofs.Order.{≤-trans, ≈-refl, ≈-trans, ≈→≤, +-cong, +-assoc, ratio-≤, ratio-mono, ratio-sum, ratio-product}
 use Rattle.bounds.specs.Enclosure.{Within}
+pub use Rattle.bounds.specs.Line.{unit-pos, units}
 use Rattle.bounds.proofs.Within.{ratio-within}
-
-pub unit-pos : 0 < 2 ^ 40
-unit-pos = omega arith
-
--- k·2⁻⁴⁰
-abbrev pub units : ℕ → Fraction
-units k = ratio k (2 ^ 40) unit-pos
 
 -- they are in the order of the counts
 pub units-≤ : {j k : ℕ} → j ≤ k → units j ≤ᶠ units k

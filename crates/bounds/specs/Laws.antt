@@ -1,16 +1,19 @@
--- What the crates above this one may take from it of the series, the two computed exponentials, T^2.5 and the weights: "of which the inventory
--- uses the stated bounds alone". Proved as `laws` in proofs/Laws. Definitions only.
+-- Every fact on E, on the root and on the computed values around them that a crate above this one cites: "of which the inventory uses the
+-- stated bounds alone". Proved as `laws` in proofs/Laws. Definitions only.
 use mathlib.Core.Bool.{_&&_}
 use mathlib.Core.Path.{_≡_}
-use Prim.Native.Nat.{ℕ, _+_, _*_, _%_, _^_, _≤_, _<_}
+use Prim.Native.Nat.{ℕ, suc, _+_, _*_, _/_, _%_, _^_, _≤_, _<_}
 use lib.Dec.{leb, ltb}
-use Rattle.numbers.specs.Fraction.{Fraction, _≤ᶠ_, _<ᶠ_, _≈ᶠ_, _+ᶠ_, negᶠ, _*ᶠ_, _^ᶠ_, whole, _/10^_}
-use Rattle.bounds.specs.Series.{E, cutRoot, power2·5, multiple, CutRootTheorem}
-use Rattle.bounds.specs.Enclosure.{WithinAll}
+use lib.ListN.{getD}
+use Rattle.numbers.specs.Fraction.{Fraction, _≤ᶠ_, _<ᶠ_, _≈ᶠ_, _+ᶠ_, negᶠ, _-ᶠ_, _*ᶠ_, _^ᶠ_, whole, _/10^_}
+use Rattle.bounds.specs.Series.{E, root, cutRoot, power2·5, multiple, CutRootTheorem}
+use Rattle.bounds.specs.Enclosure.{Within, WithinAll}
 use Rattle.bounds.specs.Exponential.{exponent, exponentLimit, exponential, exponentialError}
+use Rattle.bounds.specs.WholeExponents.{far, farAbove, farUnits}
 use Rattle.bounds.specs.Short.{shortExponent, short, shortLimit, shortError}
+use Rattle.bounds.specs.Line.{units, rising, along, Held, shortAlong}
 use Rattle.bounds.specs.Power.{degrees, degreesLimit, power, powerError}
-use Rattle.bounds.specs.Weights.{w, apart, ahead, NearestTheorem}
+use Rattle.bounds.specs.Weights.{w, apart, ahead}
 
 -- E for every n
 pub record SeriesLaws : Type 0 where
@@ -36,31 +39,55 @@ pub record EndLaws : Type 0 where
   pub at-2·78 : (n : ℕ) → 40 ≤ n → whole 16 ≤ᶠ E n (278 /10^ 2)
   pub at-minus-7·75 : (n : ℕ) → 40 ≤ n → E n (negᶠ (775 /10^ 2)) ≤ᶠ 125 /10^ 3
 
+-- E at the whole exponents from 0 to 14, by two tables in units of 2⁻³⁰
+pub record WholeLaws : Type 0 where
+  -- E lies between them for every n from 40 upward, and the upper one is at most 3.7·10⁻⁹ of the lower one above it
+  pub below : (c : ℕ) → c < 15 → (n : ℕ) → 40 ≤ n → farUnits (getD far c 0) ≤ᶠ E n (whole c)
+  pub above : (c : ℕ) → c < 15 → (n : ℕ) → 40 ≤ n → E n (whole c) ≤ᶠ farUnits (getD farAbove c 0)
+  pub gap : (c : ℕ) → c < 15 → 10 ^ 12 * getD farAbove c 0 ≤ (10 ^ 12 + 3700) * getD far c 0
+  -- the lower one from an entry to the next, its size, and two of its entries
+  pub triple : (c : ℕ) → c < 14 → getD far (suc c) 0 ≤ 3 * getD far c 0
+  pub fits : (c : ℕ) → c < 15 → getD far c 0 < 2 ^ 51
+  pub at-2 : getD far 2 0 ≤ 8 * 2 ^ 30
+  pub at-14 : 12 * 10 ^ 5 * 2 ^ 30 ≤ getD far 14 0
+
 -- the computed exponential, in units of 2⁻⁴⁰, of the exponent x·10⁻¹⁴ − 16
 pub record ExponentialLaws : Type 0 where
-  -- it encloses E for every n from 40 upward, within an error that grows and has these bounds up to 1.41, 2.3, 3.6 and at the end
+  -- it encloses E for every n from 40 upward, within an error that has these bounds up to 1.41, 2.3, 3.6 and at the end
   pub encloses : (x : ℕ) → x < exponentLimit → WithinAll (2 ^ 40) (exponential x) (exponentialError x) (λ n. E n (exponent x))
-  pub error-grows : {x y : ℕ} → x ≤ y → y < exponentLimit → exponentialError x ≤ exponentialError y
   pub error-1·41 : (x : ℕ) → x ≤ 16 * 10 ^ 14 + 2 ^ 47 → exponentialError x ≤ 35
   pub error-2·3 : (x : ℕ) → x ≤ 183 * 10 ^ 13 → exponentialError x ≤ 83
   pub error-3·6 : (x : ℕ) → x ≤ 196 * 10 ^ 13 → exponentialError x ≤ 291
   pub error-4·1 : (x : ℕ) → x < exponentLimit → exponentialError x ≤ 475
-  -- it grows; how large it is everywhere, up to 1.41 and up to 0; and at 0 and at 1.41
+  -- it grows; how large it is up to 1.41; and at 0 and at 1.41
   pub grows : {x y : ℕ} → x ≤ y → y < exponentLimit → exponential x ≤ exponential y
-  pub fits : (x : ℕ) → x < exponentLimit → exponential x < 2 ^ 46
   pub fits-1·41 : (x : ℕ) → x ≤ 16 * 10 ^ 14 + 2 ^ 47 → exponential x < 2 ^ 43
-  pub to-0 : (x : ℕ) → x ≤ 16 * 10 ^ 14 → exponential x ≤ 2 ^ 40
   pub at-0 : exponential (16 * 10 ^ 14) ≡ 2 ^ 40
   pub at-1·41 : 4 * 2 ^ 40 ≤ exponential (16 * 10 ^ 14 + 2 ^ 47)
 
 -- the short exponential, in units of 2⁻³⁶, of the exponent x·2⁻⁵³ − 16
 pub record ShortLaws : Type 0 where
-  -- it encloses E for every n from 40 upward, within an error that grows and has these bounds up to 0 and at the end; and it fits
+  -- it encloses E for every n from 40 upward; it fits, and up to 0 it is at most 1
   pub encloses : (x : ℕ) → x < shortLimit → WithinAll (2 ^ 36) (short x) (shortError x) (λ n. E n (shortExponent x))
-  pub error-grows : {x y : ℕ} → x ≤ y → y < shortLimit → shortError x ≤ shortError y
-  pub error-0 : (x : ℕ) → x ≤ 16 * 2 ^ 53 → shortError x ≤ 1047
-  pub error-3 : (x : ℕ) → x < shortLimit → shortError x ≤ 5797
   pub fits : (x : ℕ) → x < shortLimit → short x < 2 ^ 41
+  pub most-1 : (x : ℕ) → x ≤ 16 * 2 ^ 53 → short x ≤ 2 ^ 36
+  -- it encloses E at an exponent z that is known within w units of 2⁻⁵³, up to 0 and up to 3
+  pub held-to-0 : {x w : ℕ} {z : Fraction} → Held x w z → z ≤ᶠ whole 0 → (n : ℕ) → 40 ≤ n
+      → Within (2 ^ 36) (short x) (1047 + (w / 2 ^ 17 + 1)) (E n z)
+  pub held-to-3 : {x w : ℕ} {z : Fraction} → Held x w z → z ≤ᶠ whole 3 → (n : ℕ) → 40 ≤ n
+      → Within (2 ^ 36) (short x) (5797 + (201 * w / 1310720 + 1)) (E n z)
+
+-- E along a straight line a + b·m that is at most 0 at m, to the first order from an l that is at most w below m, by the short exponential at l
+pub record TangentLaws : Type 0 where
+  -- b·(m − l)·x + x ≤ E(a + b·m)
+  pub least : (A K : ℕ) {l w : ℕ} (m : Fraction) → Within (2 ^ 40) l w m → K ≤ 22 * 2 ^ 41 → l ≤ 369 * 2 ^ 40 → along A K m ≤ᶠ whole 0
+      → (n : ℕ) → 40 ≤ n
+      → rising K *ᶠ (m -ᶠ units l) *ᶠ units (shortAlong A K l) +ᶠ units (shortAlong A K l) ≤ᶠ E n (along A K m)
+  -- and E is at most the errors and the square of w/4 more
+  pub near : (A K : ℕ) {l w : ℕ} (m : Fraction) → Within (2 ^ 40) l w m → K ≤ 22 * 2 ^ 41 → l ≤ 369 * 2 ^ 40 → along A K m ≤ᶠ whole 0
+      → (n : ℕ) → 40 ≤ n
+      → E n (along A K m) ≤ᶠ rising K *ᶠ (m -ᶠ units l) *ᶠ units (shortAlong A K l)
+      +ᶠ units (shortAlong A K l + (16765 + (w / 4 + 13) * (w / 4 + 16765) / 2 ^ 40))
 
 -- T^2.5 and its root
 pub record PowerLaws : Type 0 where
@@ -70,12 +97,12 @@ pub record PowerLaws : Type 0 where
   pub from-0 : (n : ℕ) {t : Fraction} → whole 0 ≤ᶠ t → power2·5 n t ≡ cutRoot n (t ^ᶠ 5)
   pub below-0 : (n : ℕ) {t : Fraction} → t <ᶠ whole 0 → power2·5 n t ≡ whole 0
   pub root-is : CutRootTheorem
+  pub root-of-square : (n m : ℕ) → root (4 ^ n * (m * m)) ≡ m * 2 ^ n
   pub root-multiple : (n : ℕ) (x : Fraction) → cutRoot n x ≡ multiple n ((cutRoot n x) .up)
 
--- the hourly weights: each is the nearest; they are at most 1, and from a mark to the next they rise from 2:00 to 14:00 and fall else; no mark
+-- the hourly weights: they are at most 1, and from a mark to the next they rise from 2:00 to 14:00 and fall else; no mark
 -- is further from 14:00 than 12 hours, and as far from it they are equal
 pub record WeightLaws : Type 0 where
-  pub nearest : NearestTheorem
   pub most : (i : ℕ) → w i ≤ 10 ^ 9
   pub rises : (i : ℕ) → i < 48 → leb (w i) (w ((i + 1) % 48)) ≡ (leb 4 i && ltb i 28)
   pub near : (i : ℕ) → apart i ≤ 24
@@ -84,7 +111,9 @@ pub record WeightLaws : Type 0 where
 pub record Laws : Type 0 where
   pub series : SeriesLaws
   pub ends : EndLaws
+  pub wholes : WholeLaws
   pub exponential : ExponentialLaws
   pub short : ShortLaws
+  pub tangent : TangentLaws
   pub power : PowerLaws
   pub weights : WeightLaws

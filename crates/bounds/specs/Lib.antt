@@ -4,4 +4,6 @@ pub mod Exponential
 pub mod Power
 pub mod Weights
 pub mod Laws
+pub mod Line
+pub mod WholeExponents
 pub mod Short

@@ -3,7 +3,7 @@ use mathlib.Core.Bool.{true, false}
 use Prim.Native.Nat.{ℕ, suc, zero, _+_, _*_, _-_, _^_, _/_, _≤_, _<_}
 use native.Mathlib.Omega.{arith}
 use lib.Dec.{leb}
-use Rattle.numbers.specs.Fraction.{Fraction, _≤ᶠ_, _+ᶠ_, negᶠ, _*ᶠ_, _^ᶠ_, whole, _over_, inverse, _≤?_}
+use Rattle.numbers.specs.Fraction.{Fraction, _≤ᶠ_, _+ᶠ_, negᶠ, _*ᶠ_, _^ᶠ_, whole, _over_, inverse, _≤?_, ratio}
 
 unfoldable pub factorial : ℕ → ℕ
 factorial zero = 1
@@ -42,8 +42,8 @@ two-pos zero = omega arith
 two-pos (suc n) = omega (arith, two-pos n)
 
 -- a multiple of 2⁻ⁿ: k of them
-unfoldable pub multiple : ℕ → ℕ → Fraction
-multiple n k = record { up = k; down = 0; den = 2 ^ n; pos = two-pos n }
+abbrev pub multiple : ℕ → ℕ → Fraction
+multiple n k = ratio k (2 ^ n) (two-pos n)
 
 -- a root of x ≥ 0 "cut after n binary places, that is the largest multiple of 2⁻ⁿ whose square is at most" x
 unfoldable pub cutRoot : ℕ → Fraction → Fraction

@@ -5,3 +5,4 @@ pub mod hours;
 pub mod order;
 pub mod power;
 pub mod short;
+pub mod whole;

@@ -10,7 +10,7 @@ use Rattle.numbers.specs.Lists.{tab, at}
 use Rattle.numbers.proofs.Lists.{getD-tab, tab-ext, tab-constant, tab-at-most}
 use Rattle.bounds.specs.Weights.{apart, ahead}
 use Rattle.bounds.specs.Short.{short, binary, lineOf, lineExponent, reachOf, reach}
-use Rattle.bounds.proofs.ShortBound.{short-size}
+use Rattle.bounds.proofs.Laws.{short-size}
 use Rattle.bounds.proofs.ShortLine.{binary-size, binary-most, line-mono, lineExponent-is, lineExponent-mono, reach-is}
 use Rattle.exact.specs.declared.Season.{Season}
 use Rattle.exact.specs.declared.Row.{Row}

@@ -7,8 +7,7 @@ use Rattle.numbers.specs.Fraction.{Fraction, _≈ᶠ_, _≤ᶠ_, _+ᶠ_, _-ᶠ_
 use Rattle.bounds.specs.Series.{root}
 use Rattle.numbers.proofs.Order.{≈-refl, ≈-sym, ≈-trans, ≈→≤, ≈→≥, ≤-refl, ≤-trans, ≤-antisym, +-cong, +-assoc, +-comm}
 use Rattle.numbers.proofs.Order.{+-zero, *-cong, sub-cong, sub-mono, sub-self, add-sub, test-cases}
-use Rattle.bounds.proofs.Root.{root-square, four-power}
-use Rattle.bounds.proofs.Exponential.{E-cong, E-zero}
+use Rattle.bounds.proofs.Laws.{root-square-cut, E-cong, E-zero}
 use Rattle.exact.specs.Canister.{a, b, curve, breakthrough}
 use Rattle.exact.specs.Marked.{Marked}
 use Rattle.exact.proofs.Loss.{B-up-to, B-above}
@@ -16,7 +15,7 @@ use Rattle.exact.proofs.Open.{definitions}
 
 -- the root of a whole square k = m², cut after n places
 square-root : (n k m : ℕ) → k ≡ m * m → root (4 ^ n * k / 1) ≡ m * 2 ^ n
-square-root n k m e = ap root (rw (e, four-power n) (omega arith)) ∙ root-square (m * 2 ^ n)
+square-root n k m e = ap root (rw e (omega arith)) ∙ root-square-cut n m
 
 -- m + v ≤ m with v not negative: nothing came
 nothing-came : {m v : Fraction} → whole 0 ≤ᶠ v → m +ᶠ v ≤ᶠ m → v ≈ᶠ whole 0

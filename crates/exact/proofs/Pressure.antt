@@ -7,8 +7,7 @@ use Rattle.numbers.specs.Fraction.{Fraction, _≤ᶠ_, _-ᶠ_, _*ᶠ_, whole, _
 use Rattle.numbers.proofs.Order.{NonNegative, ≤-refl, test-cases, decimal-nonNegative, +-mono, +-nonNegative}
 use Rattle.numbers.proofs.Order.{sub-nonNegative, *-nonNegative, *-mono-left, *-mono-right}
 use Rattle.bounds.specs.Series.{E}
-use Rattle.bounds.proofs.Exponential.{E-mono}
-use Rattle.bounds.proofs.Root.{power2·5-nonNegative}
+use Rattle.bounds.proofs.Laws.{E-mono, power2·5-nonNegative}
 use Rattle.exact.specs.Day.{startMark}
 use Rattle.exact.specs.Vapour.{vapour, stepVapour, parkingVapour}
 use Rattle.exact.specs.Permeation.{bracket, permeation, markRates, parkingPermeation}

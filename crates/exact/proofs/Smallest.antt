@@ -6,7 +6,7 @@ use Prim.Native.Nat.{ℕ, suc, zero, _+_, _*_, _-_, _^_, _/_, _≤_, _<_}
 use native.Mathlib.Omega.{arith}
 use native.Mathlib.Decide.{decLe}
 use native.Mathlib.Nat.{mul-le-mul-right, mul-le-mul-left, div-mul-le-self, lt-div-mul-add, mul-sub}
-use Rattle.numbers.specs.Fraction.{Fraction, _≤ᶠ_, whole}
+use Rattle.numbers.specs.Fraction.{Fraction, _≤ᶠ_, whole, ratio}
 use Rattle.numbers.proofs.Order.{NonNegative, nonNegative, test-cases}
 use Rattle.exact.specs.Mileage.{multiples, driven, reaches, firstOf, startingLoad, Reaches, IsStart, smallest, none-reaches, StartTheorem}
 use Rattle.bounds.specs.Series.{multiple}
@@ -27,15 +27,15 @@ beyond t u d e j q m p g c = omega (arith, m, mul-sub t u d, mul-le-mul-left t p
 
 module _ (n : ℕ) {x : Fraction} (p : NonNegative x) where
   pub multiple-≤ : (k : ℕ) → k ≤ multiples n x → multiple n k ≤ᶠ x
-  unfolding multiple multiples
+  unfolding ratio multiples
   multiple-≤ k l = record { cross = low (2 ^ n) (x .up) (x .down) (x .den) k _ l (div-mul-le-self (2 ^ n * (x .up - x .down)) (x .den)) (p .nonneg) }
 
   pub multiple-next : x ≤ᶠ multiple n (suc (multiples n x))
-  unfolding multiple multiples
+  unfolding ratio multiples
   multiple-next = record { cross = high (2 ^ n) (x .up) (x .down) (x .den) _ (lt-div-mul-add {a = 2 ^ n * (x .up - x .down)} (x .pos)) (p .nonneg) }
 
   multiple-most : (j : ℕ) → multiple n j ≤ᶠ x → j < suc (multiples n x)
-  unfolding multiple multiples
+  unfolding ratio multiples
   multiple-most j l =
       elim (decLe (suc (2 ^ n * (x .up - x .down) / x .den)) j) [
         | yes g ↦ absurd (beyond (2 ^ n) (x .up) (x .down) (x .den) j _

@@ -11,14 +11,15 @@ use Rattle.bounds.specs.Enclosure.{Within}
 use Rattle.bounds.specs.Exponential.{exponent}
 use Rattle.numbers.proofs.Order.{NonNegative, nonNegative-up, test-cases, ≤-refl, ≤-trans, ≤-antisym, ≤-by, ≈-refl, ≈-sym, ≈-trans, ≈→≤, ≈→≥}
 use Rattle.numbers.proofs.Order.{sub-cong, +-mono, +-cong, +-assoc, +-zero, +-grows, *-mono-right, *-comm, ratio-nonNegative}
-use Rattle.bounds.proofs.Exponential.{E-cong, E-mono}
+use Rattle.bounds.proofs.Laws.{E-cong, E-mono}
 use Rattle.bounds.specs.Short.{short, lineExponent, reach}
 use Rattle.bounds.proofs.Line.{double-unit-pos, rising, along, along-is, along-risen, along-mono}
-use Rattle.bounds.proofs.ShortLine.{Held, ShortSlope, held-within, held-≈, finer, lineWidth, line-held}
+use Rattle.bounds.proofs.ShortLine.{Held, held-≈, finer, lineWidth, line-held}
 use Rattle.bounds.proofs.ShortLine.{lineExponent-mono, reach-within, reach-most, riseWidth, rise-held}
 use Rattle.bounds.proofs.Within.{widen, weaken, within-≈, within-nonNegative, +-within, sub-within, *-within-rounded}
 use Rattle.exact.specs.Canister.{a, b, curve, B, breakthrough}
 use Rattle.factors.specs.Escape.{loss, risenLoss, breakUnits}
+use Rattle.factors.proofs.Slope.{ShortSlope}
 use Rattle.factors.proofs.Excess.{smaller, excess, smaller-left, smaller-right, smaller-greatest, smaller-map}
 use Rattle.factors.proofs.Excess.{smaller-held, excess-mono, excess-within}
 
@@ -99,7 +100,7 @@ module _ (sl : ShortSlope) (n A K : ℕ) {σ : ℕ} (vp s saturation T : Fractio
         → Within (2 ^ 40) (short (min x (lineExponent A K σ)) * 2 ^ 4) (eWidth sl v) (E n (smaller z (along A K saturation)))
     capped-within {x} {v} {z} h e =
         finer (2 ^ 4)
-        (held-within (smaller-held v (omega arith) h e full-held) sl (≤-trans (smaller-right z (along A K saturation)) top) n n40)
+        (sl .encloses (smaller-held v (omega arith) h e full-held) (≤-trans (smaller-right z (along A K saturation)) top) n n40)
 
     -- B(m1) for a load of at most m_sat that is known within u
     pub loss-within : {p u : ℕ} {m1 : Fraction} → 1 ≤ u → u ≤ 2 ^ 40 → p ≤ σ → Within (2 ^ 40) p u m1

@@ -16,7 +16,6 @@ use Rattle.bounds.specs.Short.{binary}
 use Rattle.numbers.proofs.Order.{NonNegative, nonNegative-up, ≈-refl, ≈-trans, ≈→≥, +-cong, *-cong, ratio, ratio-nonNegative}
 use Rattle.bounds.proofs.Within.{decimal-cut}
 use Rattle.bounds.proofs.Line.{double-unit-pos, rising, along, along-≤}
-use Rattle.bounds.proofs.ShortLine.{shortTo0, shortTo3}
 use Rattle.exact.specs.declared.Canister.{Canister}
 use Rattle.exact.specs.declared.Canister.the-variants.{None, Small, Medium, Large}
 use Rattle.exact.specs.declared.Season.{Season}
@@ -33,6 +32,7 @@ use Rattle.sheet.specs.Range.{warmth, markWarmth, halves, SeasonInRange, RowInR
 use Rattle.sheet.proofs.Temperature.{warmth-below-highest, warmth-most}
 use Rattle.factors.specs.Escape.{tenthGrams, base, growth, writtenError, drivenError, breakUnits}
 use Rattle.factors.specs.Units.{lossError, baseAt, growthAt, startAt, gain}
+use Rattle.factors.proofs.Slope.{shortTo0, shortTo3}
 use Rattle.factors.proofs.Breakthrough.{breakWidth, break-within}
 use Rattle.factors.proofs.Starts.{start-driven, start-written, error-driven, error-written, start-below}
 use Rattle.factors.proofs.Gain.{exactGain, gain-within, gain-most}

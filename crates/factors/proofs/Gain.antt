@@ -5,13 +5,11 @@ use native.Mathlib.Omega.{arith}
 use native.Mathlib.Nat.{mul-le-mul}
 use mathlib.Core.Path.{_≡_, ap}
 use Rattle.numbers.specs.Fraction.{Fraction, _≤ᶠ_, _≈ᶠ_, _+ᶠ_, negᶠ, _-ᶠ_, _*ᶠ_, whole, _/10^_}
-use Rattle.bounds.proofs.Ends.{E-to-2·255}
+use Rattle.bounds.proofs.Laws.{E-to-2·255, E-cong, exponential-within, exponentialError-2·3}
 use Rattle.bounds.specs.Series.{E}
 use Rattle.bounds.specs.Enclosure.{WithinAll}
 use Rattle.bounds.specs.Exponential.{exponential, exponent}
 use Rattle.numbers.proofs.Order.{ratio, ≈-sym}
-use Rattle.bounds.proofs.Exponential.{E-cong}
-use Rattle.bounds.proofs.ExponentialBound.{exponential-within, exponentialError-2·3}
 use Rattle.bounds.proofs.Within.{widen, within-≈, scaled-within, all-map, div-mono}
 use Rattle.exact.specs.declared.Season.{Season}
 use Rattle.exact.specs.declared.Row.{Row}

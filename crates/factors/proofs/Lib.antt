@@ -8,3 +8,4 @@ pub mod Losses
 pub mod FactorBound
 pub mod Sizes
 pub mod Excess
+pub mod Slope

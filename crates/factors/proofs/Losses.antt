@@ -11,7 +11,7 @@ use Rattle.bounds.specs.Series.{E}
 use Rattle.bounds.specs.Enclosure.{WithinAll}
 use Rattle.bounds.specs.Power.{degrees}
 use Rattle.numbers.proofs.Order.{≈-refl, ≈-sym, ≈-trans, *-cong, sub-cong, ratio}
-use Rattle.bounds.proofs.Exponential.{E-cong}
+use Rattle.bounds.proofs.Laws.{E-cong}
 use Rattle.bounds.proofs.Within.{widen, weaken, within-≈, whole-within, scaled-within, all-map, all-constant}
 use Rattle.exact.specs.declared.Canister.{Canister}
 use Rattle.exact.specs.declared.Canister.the-variants.{None, Small, Medium, Large}

@@ -6,11 +6,10 @@ use Prim.Native.Nat.{ℕ, _+_, _*_, _^_, _/_, _≤_, _<_, min}
 use native.Mathlib.Omega.{arith}
 use native.Mathlib.Nat.{mul-le-mul, div-le-of-le-mul, le-of-lt}
 use lib.Dec.{leb}
-use Rattle.numbers.specs.Fraction.{_≤ᶠ_, whole}
+use Rattle.numbers.specs.Fraction.{_≤ᶠ_, _/10^_}
 use Rattle.bounds.specs.Short.{shortExponent, short, lineExponent, reach}
-use Rattle.bounds.proofs.ShortBound.{short-within}
-use Rattle.bounds.proofs.ShortLine.{shortTo0, shortTo3, line-cut, held-most}
-use Rattle.bounds.proofs.Line.{steep-3}
+use Rattle.bounds.proofs.Laws.{short-within, E-to-3}
+use Rattle.bounds.proofs.ShortLine.{line-cut, held-most-0, held-most-3}
 use Rattle.exact.specs.declared.Canister.{Canister}
 use Rattle.exact.specs.declared.Canister.the-variants.{None, Small, Medium, Large}
 use Rattle.exact.specs.declared.Season.{Season}
@@ -48,15 +47,15 @@ gramsLimit F6 = 2500
 gramsLimit F7 = 2500
 
 -- held exponents up to 3
-exponent-≤ : (x : ℕ) → x ≤ 19 * 2 ^ 53 → shortExponent x ≤ᶠ whole 3
-unfolding whole
+exponent-≤ : (x : ℕ) → x ≤ 19 * 2 ^ 53 → shortExponent x ≤ᶠ 3 /10^ 0
+unfolding _/10^_
 exponent-≤ x h = omega arith
 
 -- E(3) ≤ 20.1
 short-3 : (x : ℕ) → x ≤ 19 * 2 ^ 53 → short x ≤ 21 * 2 ^ 36
 short-3 x h =
     let n40 : 40 ≤ 40 = omega arith in
-    omega (arith, within-most 201 1 (short-within x (omega arith) .at 40 n40) (steep-3 40 n40 (exponent-≤ x h)))
+    omega (arith, within-most 201 1 (short-within x (omega arith) .at 40 n40) (E-to-3 40 n40 (exponent-≤ x h)))
 
 -- what breaks through is at most the vapour and the curve's end, from a load of at most m_sat
 break-most : (A K σ error p g rise : ℕ) → p ≤ σ → lineExponent A K σ ≤ 19 * 2 ^ 53 → breakUnits A K σ error p g rise ≤ 21 * 2 ^ 40 + g * rise / 2 ^ 40
@@ -72,12 +71,12 @@ module _ {season : Season} {row : Row} (s : SeasonInRange season) (r : RowInRang
 
   -- the exponent of a loss at m_sat is at most 3, at every mark
   pub full-exponent-most : (i : ℕ) → lineExponent (baseAt season row i) (growthAt season row i) (tenthGrams (row .saturation)) ≤ 19 * 2 ^ 53
-  full-exponent-most i = held-most (line-cut _ _ (tenthGrams-within (row .saturation))) shortTo3 (saturated s r i)
+  full-exponent-most i = held-most-3 (line-cut _ _ (tenthGrams-within (row .saturation))) (saturated s r i)
 
   -- with a mileage it is at most 0
   pub driven-exponent-most : (i : ℕ) → 1 ≤ row .mileage
       → lineExponent (baseAt season row i) (growthAt season row i) (tenthGrams (row .saturation)) ≤ 16 * 2 ^ 53
-  driven-exponent-most i km = held-most (line-cut _ _ (tenthGrams-within (row .saturation))) shortTo0 (unsaturated s r i km)
+  driven-exponent-most i km = held-most-0 (line-cut _ _ (tenthGrams-within (row .saturation))) (unsaturated s r i km)
 
   -- 36 g for a rise of 1
   vapourUnits-most : {rise : ℕ} (M : ℕ) → rise ≤ M → vapourUnits season row rise ≤ 36 * M

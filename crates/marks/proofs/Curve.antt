@@ -10,7 +10,7 @@ use native.Mathlib.Nat.{mul-le-mul-left}
 use lib.Dec.{T, leb, ltb, leb→le}
 use borrow.Author.Tests.{leb-true, leb-false}
 use Rattle.bounds.specs.Weights.{w}
-use Rattle.bounds.proofs.Weights.{rises-where}
+use Rattle.bounds.proofs.Laws.{rises-where}
 use Rattle.bounds.specs.Enclosure.{WithinAll}
 use Rattle.bounds.specs.Power.{degrees}
 use Rattle.bounds.proofs.Table.{both, both-left, both-right}

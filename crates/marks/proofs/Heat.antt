@@ -3,16 +3,14 @@ use mathlib.Core.Path.{_≡_}
 use Prim.Native.Nat.{ℕ, _+_, _*_, _-_, _^_, _≤_, _<_}
 use native.Mathlib.Omega.{arith}
 use Rattle.numbers.specs.Fraction.{Fraction, _≤ᶠ_, _≈ᶠ_, _-ᶠ_, _*ᶠ_, _/10^_}
-use Rattle.bounds.proofs.Ends.{E-to-3·58, E-to-4·0096}
+use Rattle.bounds.proofs.Laws.{E-to-3·58, E-to-4·0096, E-cong, E-mono, exponential-within, exponentialError-3·6}
+use Rattle.bounds.proofs.Laws.{exponentialError-4·1, exponential-mono}
 use Rattle.bounds.specs.Series.{E}
 use Rattle.bounds.specs.Enclosure.{Within, WithinAll}
 use Rattle.bounds.specs.Exponential.{exponent, exponentialError, exponentLimit}
 use Rattle.bounds.specs.Power.{degrees}
 use Rattle.numbers.proofs.Order.{≈-sym, *-mono-right, decimal-nonNegative}
 use Rattle.bounds.proofs.Within.{widen, weaken, within-≈, sub-within, all-map, all-map₂}
-use Rattle.bounds.proofs.Exponential.{E-cong, E-mono}
-use Rattle.bounds.proofs.ExponentialBound.{exponential-within, exponentialError-3·6, exponentialError-4·1}
-use Rattle.bounds.proofs.Growth.{exponential-mono}
 use Rattle.sheet.proofs.Temperature.{degrees-mono}
 use Rattle.marks.proofs.Most.{all-most}
 use Rattle.marks.specs.Marks.{heat, heatError, raisedError, raise}

@@ -6,7 +6,8 @@ use native.Mathlib.Omega.{arith}
 use native.Mathlib.Nat.{le-antisymm, le-of-lt, mul-comm, mul-le-mul}
 use Rattle.sheet.specs.Limits.{vpLimit}
 use Rattle.numbers.specs.Fraction.{Fraction, _≤ᶠ_, _≈ᶠ_, _*ᶠ_, whole, _/10^_}
-use Rattle.bounds.proofs.Ends.{E-to-0·44}
+use Rattle.bounds.proofs.Laws.{E-to-0·44, E-cong, exponential-within, exponentialError-2·3, power-within, power-size}
+use Rattle.bounds.proofs.Laws.{cutRoot-is, cutRoot-multiple, power2·5-above, power2·5-below}
 use Rattle.bounds.specs.Series.{E, cutRoot, power2·5, two-pos, multiple, LargestMultiple}
 use Rattle.bounds.specs.Enclosure.{WithinAll}
 use Rattle.bounds.specs.Exponential.{exponent}
@@ -14,10 +15,6 @@ use Rattle.bounds.specs.Power.{degrees, power}
 use Rattle.numbers.proofs.Order.{≈-refl, ≈-sym, ≤-by, test-cases, not-≤→<, +-cong, *-cong, ^-cong, ^-nonNegative, nonNegative, nonNegative→≤, ratio}
 use Rattle.bounds.proofs.Within.{widen, weaken, within-≈, round-within, decimal-within, whole-within, +-within}
 use Rattle.bounds.proofs.Within.{*-within, *-within-rounded, scaled-within, all-map, all-map₂}
-use Rattle.bounds.proofs.Exponential.{E-cong}
-use Rattle.bounds.proofs.ExponentialBound.{exponential-within, exponentialError-2·3}
-use Rattle.bounds.proofs.PowerBound.{power-within, power-size}
-use Rattle.bounds.proofs.Root.{cutRoot-is, cutRoot-multiple, power2·5-above, power2·5-below}
 use Rattle.exact.specs.Day.{startMark}
 use Rattle.exact.specs.Permeation.{bracket, permeation, markRates, parkingPermeation}
 use Rattle.marks.specs.Marks.{pressureFactor, bracketUnits, rate, passed}

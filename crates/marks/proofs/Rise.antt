@@ -9,7 +9,7 @@ use Rattle.bounds.specs.Series.{E}
 use Rattle.numbers.proofs.Order.{NonNegative, nonNegative-up, whole-nonNegative, either, ≤-antisym, ≈→≥, ≈-refl, ≈-sym}
 use Rattle.numbers.proofs.Order.{≈-trans, test-cases, test-true, test-cong, +-cong, sub-cong, sub-self, sub-nonNegative}
 use Rattle.numbers.proofs.Order.{*-cong, *-zero, *-distrib}
-use Rattle.bounds.proofs.Exponential.{E-cong}
+use Rattle.bounds.proofs.Laws.{E-cong}
 use Rattle.exact.specs.Day.{startMark}
 use Rattle.exact.specs.Rise.{stepRise, rises, gain}
 use Rattle.exact.specs.Vapour.{vapour, stepVapour, parkingVapour}

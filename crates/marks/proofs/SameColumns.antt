@@ -8,7 +8,7 @@ use native.Mathlib.Omega.{arith}
 use Rattle.numbers.specs.Lists.{tab, at, AllAtMost}
 use Rattle.numbers.proofs.Lists.{tab-ext, getD-tab, tab-at-most}
 use Rattle.bounds.specs.Weights.{apart, ahead}
-use Rattle.bounds.proofs.Weights.{apart-most}
+use Rattle.bounds.proofs.Laws.{apart-most}
 use Rattle.exact.specs.declared.Season.{Season}
 use Rattle.sheet.specs.Range.{markWarmth}
 use Rattle.sheet.proofs.Temperature.{warmth-alike}

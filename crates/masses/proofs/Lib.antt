@@ -1,5 +1,6 @@
 pub mod Decimals
 pub mod MassBound
 pub mod MassWidth
+pub mod AnyCounts
 pub mod MassSizes
 pub mod FigureSizes

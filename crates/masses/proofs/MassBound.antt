@@ -15,22 +15,8 @@ use Rattle.exact.specs.Factors.{Factor, F1, F2, F3, F4, F5, F6, F7, factor}
 use Rattle.exact.specs.Masses.{Mechanism, diurnal, soak, running, blend, dayMass, mass}
 use Rattle.factors.specs.Units.{factorUnits, lowMicrograms, highMicrograms}
 use Rattle.masses.specs.Figures.{µg, blended, dayFigure, yearFigure, lowFigure, highFigure}
+use Rattle.masses.specs.AnyCounts.{Every, Shares, Enclosed}
 use Rattle.masses.proofs.Decimals.{decimal-zero, decimal-sum, decimal-product, decimal-places, decimal-times, decimal-rest}
-
--- the two shares of a row are at most all of it
-pub record Shares (row : Row) : Type 0 where
-  pub carburettor-most : row .carburettor ≤ 100
-  pub hot-most : row .hot ≤ 100
-
--- every factor of a season and row lies between its two figures in micrograms
-pub record Enclosed (counts : List ℕ) (season : Season) (row : Row) : Type 0 where
-  pub above : (k : Factor) (n : ℕ) → 40 ≤ n → lowMicrograms (factorUnits season row counts k) /10^ 6 ≤ᶠ factor n counts season row k
-  pub below : (k : Factor) (n : ℕ) → 40 ≤ n → factor n counts season row k ≤ᶠ highMicrograms (factorUnits season row counts k) /10^ 6
-
--- a statement holds of each season
-abbrev pub Every : (Season → Type 0) → List Season → Type 0
-Every P [] = Unit
-Every P (season ∷ seasons) = P season × Every P seasons
 
 -- what follows for each season holds of each
 pub every-map : {P Q : Season → Type 0} → ((season : Season) → P season → Q season) → (seasons : List Season) → Every P seasons → Every Q seasons

@@ -16,7 +16,8 @@ use Rattle.factors.proofs.FactorBound.{low-below-high}
 use Rattle.factors.proofs.Sizes.{gramsLimit}
 use Rattle.sheet.specs.Limits.{daysLimit, tripsLimit}
 use Rattle.masses.specs.Figures.{µg, blended, dayFigure, yearFigure, lowFigure, highFigure, rowFigures, allDays}
-use Rattle.masses.proofs.MassBound.{Shares, Every, every-map}
+use Rattle.masses.specs.AnyCounts.{Every, Shares}
+use Rattle.masses.proofs.MassBound.{every-map}
 
 -- how large factor k can be within the limits of a sheet, in micrograms
 abbrev pub factorMost : Factor → ℕ

@@ -13,7 +13,8 @@ use Rattle.exact.specs.Masses.{Mechanism, diurnal, soak, running}
 use Rattle.factors.specs.Units.{factorUnits, lowMicrograms, highMicrograms}
 use Rattle.factors.proofs.FactorBound.{bandMicrograms, high-near-low}
 use Rattle.masses.specs.Figures.{µg, blended, dayFigure, yearFigure, lowFigure, highFigure, rowFigures, allDays, hundredths, MassBand}
-use Rattle.masses.proofs.MassBound.{Shares, Enclosed, Every, low-above, high-below}
+use Rattle.masses.specs.AnyCounts.{Every, Shares, Enclosed}
+use Rattle.masses.proofs.MassBound.{low-above, high-below}
 
 -- a blend of parts that are at most that far apart, with shares c, d and p, q of all
 blend-apart : (c d p q h w i : ℕ) {h' w' i' : ℕ} → c + d ≡ 100 → p + q ≡ 100 → h' ≤ h + bandMicrograms

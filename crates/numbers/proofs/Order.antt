@@ -10,6 +10,7 @@ use native.Mathlib.Nat.{mul-pos, le-of-lt}
 use lib.Dec.{T, leb→le, nleb→lt}
 use Rattle.numbers.specs.Fraction.{Fraction, _≤ᶠ_, _<ᶠ_, _≈ᶠ_, _≤?_, _+ᶠ_, negᶠ, _-ᶠ_, _*ᶠ_, whole, _^ᶠ_, _/10^_}
 use Rattle.numbers.specs.Fraction.{ten-pos, _over_, inverse, _times_}
+unfoldable pub use Rattle.numbers.specs.Fraction.{ratio}
 
 -- what brings a sum of products of natural numbers into one form
 pub ruleset ring = (mul-comm, mul-assoc, mul-left-comm, mul-add, add-mul, add-comm, add-assoc, add-left-comm)
@@ -478,10 +479,6 @@ module _ (c y : Fraction) {d : Fraction} (p : Positive d) (e : c +ᶠ d ≈ᶠ w
   solve-most {x} h k = *-cancel p (≤-trans (+-cancel (c *ᶠ y) (y *ᶠ d) x (≤-trans (≈→≥ in-parts) k)) h)
 
 -- Fractions given by two natural numbers.
-
--- a / b
-unfoldable pub ratio : ℕ → (b : ℕ) → 0 < b → Fraction
-ratio a b p = record { up = a; down = 0; den = b; pos = p }
 
 -- a·d ≤ c·b gives a/b ≤ c/d
 pub ratio-≤ : (a c : ℕ) {b d : ℕ} (p : 0 < b) (r : 0 < d) → a * d ≤ c * b → ratio a b p ≤ᶠ ratio c d r

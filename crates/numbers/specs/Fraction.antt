@@ -79,6 +79,10 @@ infix 8 _/10^_
 unfoldable pub _/10^_ : ℕ → ℕ → Fraction
 k /10^ places = record { up = k; down = 0; den = 10 ^ places; pos = ten-pos places }
 
+-- a / b
+unfoldable pub ratio : ℕ → (b : ℕ) → 0 < b → Fraction
+ratio a b p = record { up = a; down = 0; den = b; pos = p }
+
 -- x / k for a whole k from 1 upward. (max changes nothing there; it makes the definition total.)
 infixl 7 _over_
 unfoldable pub _over_ : Fraction → ℕ → Fraction

@@ -10,7 +10,7 @@ use lib.ListN.{length, set, replicate, length-set, length-replicate}
 use lib.Seq.{getD-set-same, getD-set-other}
 use Rattle.numbers.specs.Lists.{at, sum}
 use Rattle.numbers.proofs.Lists.{sum-none, sum-le}
-use Rattle.bounds.proofs.Weights.{apart-most}
+use Rattle.bounds.proofs.Laws.{apart-most}
 use Rattle.exact.specs.Day.{startMark}
 use Rattle.factors.specs.Units.{startOf, endOf}
 use Rattle.parking.specs.Grid.{markOf, apartOf, tally}

@@ -9,6 +9,8 @@ use program::LONGEST;
 use program::ROOM;
 use text::lines::put_refusal;
 ghost use mathlib.Core.Path.{_≡_};
+ghost use lib.ListN.{take};
+ghost use Rattle.program.specs.Reads.{Taken};
 ghost use Rattle.sheet.specs.declared.Check.the-variants.{Pass};
 ghost use Rattle.sheet.specs.Limits.{longest};
 ghost use Rattle.pooling.specs.Pool.{pool, poolCheck};
@@ -16,9 +18,11 @@ ghost use Rattle.pooling.specs.Pool.{pool, poolCheck};
 // The bytes of the longest line of a refusal.
 const LINE: usize = 53;
 
-// Writes what `requires` says and nothing else: the pooled sheet of two that pool.
-fn write(a: &[u8], b: &[u8], bytes: &[u8]) -> bool
-    requires { ⌜ (poolCheck (now a) (now b) longest ≡ Pass) × (now bytes ≡ pool (now a) (now b)) ⌝ }
+// Writes what `requires` says and nothing else: the pooled sheet of two that were read and pool.
+fn write(first: &[u8], n: usize, second: &[u8], m: usize, bytes: &[u8]) -> bool
+    requires { ⌜ Taken n (now first) × Taken m (now second) ⌝ }
+    requires { ⌜ (poolCheck (take n (now first)) (take m (now second)) longest ≡ Pass)
+        × (now bytes ≡ pool (take n (now first)) (take m (now second))) ⌝ }
 {
     io::write_all(STDOUT_FILENO, bytes)
 }
@@ -31,13 +35,17 @@ fn refuse(sheet: &[u8], number: u64, place: u64) {
     io::write_all(STDERR_FILENO, &line[..end]);
 }
 
-// Pools two sheets and writes the pool, or the refusal.
-fn answer(a: &[u8], b: &[u8]) {
+// Pools the two sheets that were read and writes the pool, or the refusal.
+fn answer(first: &[u8], n: usize, second: &[u8], m: usize)
+    requires { ⌜ Taken n (now first) × Taken m (now second) ⌝ }
+{
     let mut out = [0u8; LONGEST];
+    let a = &first[..n];
+    let b = &second[..m];
     match pooling_calls::pool(a, b, &mut out) {
         PoolAnswer::Accepted => {
             let end = pool_length(a, b);
-            if !write(a, b, &out[..end]) {
+            if !write(first, n, second, m, &out[..end]) {
                 io::write_all(STDERR_FILENO, b"pool: cannot write standard output\n");
             }
         }
@@ -64,5 +72,5 @@ fn main() {
     }
     let n = a.count;
     let m = b.count;
-    answer(&first[..n], &second[..m]);
+    answer(&first, n, &second, m);
 }

@@ -5,3 +5,4 @@ pub mod LateSteps
 pub mod PoolWritten
 pub mod RefusedOnly
 pub mod PooledReport
+pub mod PooledCalls

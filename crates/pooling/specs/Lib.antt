@@ -1,4 +1,5 @@
 pub mod Pool
 pub mod PoolCall
 pub mod PooledReport
+pub mod PooledCalls
 pub mod Late

@@ -2,7 +2,7 @@
 // on standard error where they cannot. A program's name is handed in for its messages.
 use libc::STDERR_FILENO;
 use libc::STDIN_FILENO;
-ghost use Rattle.io.specs.Counts.{Counts};
+ghost use Rattle.program.specs.Reads.{Reads};
 
 // The bytes of the longest sheet, of 12 seasons and 1,000 rows: 1,160 + 8 · 12 + 24 · 1,000.
 pub const LONGEST: usize = 25256;
@@ -34,7 +34,7 @@ fn at_end(fd: i32) -> bool {
 // Reads until the buffer is full or the input ends. An input longer than the buffer counts as read: the buffer has one
 // byte more than the longest sheet, so that what is in it is refused by its length, as the input would be whole.
 fn read(fd: i32, bytes: &mut [u8]) -> Input
-    ensures { λ r. ⌜ Counts (r .count) (now (bytes .exit)) ⌝ }
+    ensures { λ r. ⌜ Reads (now (bytes .exit)) r ⌝ }
 {
     let n = io::read_full(fd, bytes);
     if n < bytes.len() {
@@ -52,7 +52,7 @@ fn read(fd: i32, bytes: &mut [u8]) -> Input
 
 // The sheet of standard input.
 fn read_input(name: &[u8], bytes: &mut [u8]) -> Input
-    ensures { λ r. ⌜ Counts (r .count) (now (bytes .exit)) ⌝ }
+    ensures { λ r. ⌜ Reads (now (bytes .exit)) r ⌝ }
 {
     let input = read(STDIN_FILENO, bytes);
     if !input.read {
@@ -74,7 +74,7 @@ fn open(name: &[u8], path: &[u8]) -> i32 {
 
 // The sheet of a file.
 fn read_file(name: &[u8], path: &[u8], bytes: &mut [u8]) -> Input
-    ensures { λ r. ⌜ Counts (r .count) (now (bytes .exit)) ⌝ }
+    ensures { λ r. ⌜ Reads (now (bytes .exit)) r ⌝ }
 {
     let fd = open(name, path);
     if fd < 0 {
@@ -94,7 +94,7 @@ fn read_file(name: &[u8], path: &[u8], bytes: &mut [u8]) -> Input
 
 // The sheet of the file that argument i names.
 pub fn read_argument(name: &[u8], i: usize, bytes: &mut [u8]) -> Input
-    ensures { λ r. ⌜ Counts (r .count) (now (bytes .exit)) ⌝ }
+    ensures { λ r. ⌜ Reads (now (bytes .exit)) r ⌝ }
 {
     let mut path = io::buffer();
     let n = os::arg(i, &mut path);
@@ -119,7 +119,7 @@ fn is_option(i: usize) -> bool {
 
 // The one sheet of a program: of the file that its argument names, or of standard input where it has none.
 pub fn read_sheet(name: &[u8], bytes: &mut [u8]) -> Input
-    ensures { λ r. ⌜ Counts (r .count) (now (bytes .exit)) ⌝ }
+    ensures { λ r. ⌜ Reads (now (bytes .exit)) r ⌝ }
 {
     let count = os::arg_count();
     if count < 2 {

@@ -6,24 +6,28 @@ use program::ROOM;
 use program::WORDS;
 use report_text::report_text;
 ghost use mathlib.Core.Path.{_≡_};
+ghost use lib.ListN.{take};
+ghost use Rattle.program.specs.Reads.{Taken};
 ghost use Rattle.report_text.specs.Text.{reportText};
 
 // The bytes of the longest text: 151 · 1,000 + 622.
 const TEXT: usize = 151622;
 
-// Writes what `requires` says and nothing else: the text of the sheet.
-fn write(s: &[u8], text: &[u8]) -> bool
-    requires { ⌜ now text ≡ reportText (now s) 6026 ⌝ }
+// Writes what `requires` says and nothing else: the text of the sheet that was read into the buffer.
+fn write(bytes: &[u8], count: usize, text: &[u8]) -> bool
+    requires { ⌜ Taken count (now bytes) × (now text ≡ reportText (take count (now bytes)) 6026) ⌝ }
 {
     io::write_all(STDOUT_FILENO, text)
 }
 
-// Makes the text of a sheet and writes it, in one piece.
-fn answer(s: &[u8]) -> bool {
+// Makes the text of the sheet that was read into the buffer and writes it, in one piece.
+fn answer(bytes: &[u8], count: usize) -> bool
+    requires { ⌜ Taken count (now bytes) ⌝ }
+{
     let mut words = [0u64; WORDS];
     let mut text = [0u8; TEXT];
-    let end = report_text(s, &mut words, &mut text);
-    write(s, &text[..end])
+    let end = report_text(&bytes[..count], &mut words, &mut text);
+    write(bytes, count, &text[..end])
 }
 
 fn main() {
@@ -31,7 +35,7 @@ fn main() {
     let input = program::read_sheet(b"report", &mut bytes);
     let n = input.count;
     if input.read {
-        if !answer(&bytes[..n]) {
+        if !answer(&bytes, n) {
             program::say(b"report", b": cannot write standard output\n");
         }
     }

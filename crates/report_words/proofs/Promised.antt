@@ -11,13 +11,14 @@ use Rattle.exact.specs.Masses.{diurnal, soak, running}
 use Rattle.sheet.specs.Bytes.{rowsOf, cellsOf, seasonList, rowAt}
 use Rattle.sheet.proofs.Accepted.{Bytes, Accepted}
 use Rattle.masses.specs.Figures.{rowFigures}
-use Rattle.masses.proofs.MassBound.{Enclosed, Every}
-use Rattle.masses.proofs.MassWidth.{mass-band, no-vehicles}
+use Rattle.masses.specs.AnyCounts.{Every, InRange}
+use Rattle.masses.proofs.MassWidth.{no-vehicles}
+use Rattle.masses.proofs.AnyCounts.{any-masses}
 use Rattle.report_words.specs.Report.{wordsOf, car, lightDuty, twoWheeler, anyClass, counted, subtotal, grandTotal, report}
 use Rattle.report_words.specs.Promise.{RowPromise, rowsSum, categoryWord, SumsPromise, ReportPromise}
 use Rattle.report_words.specs.Years.{category}
 use Rattle.report_words.proofs.ReportPlaces.{row-word-at, category-word-at, total-at}
-use Rattle.sheet_factors.proofs.AcceptedRange.{row-shares, enclosed, every-season}
+use Rattle.sheet_factors.proofs.AcceptedRange.{cells-least, row-shares, in-range, every-season}
 
 -- the first words of a buffer are the report's
 pub record Holds (s words : List ℕ) : Type 0 where
@@ -67,17 +68,16 @@ one-of-three (suc (suc (suc (suc (suc (suc (suc (suc (suc (suc class)))))))))) x
 module _ {s words : List ℕ} (bytes : Bytes s) (a : Accepted s) (h : Holds s words) where
   -- row i
   row-promise : (i : ℕ) → i < rowsOf s → RowPromise s words i
-  unfolding wordsOf rowFigures
+  unfolding wordsOf
   row-promise i row =
-      let each : Every (λ (season : Season). Enclosed (cellsOf s) season (rowAt s i)) (seasonList s) =
-      every-season _ s (λ j l. enclosed bytes a row l) in
-      let band = mass-band (cellsOf s) (row-shares (a .row i row)) (seasonList s) each in
+      let each : Every (InRange (rowAt s i)) (seasonList s) = every-season _ s (λ j l. in-range bytes a row l) in
+      let bands = any-masses (cellsOf s) (cells-least a) (seasonList s) (rowAt s i) (row-shares (a .row i row)) each in
       let first : at words (6 * i) ≡ at (wordsOf s i) 0 =
       ap (at words) {x = 6 * i} {y = 6 * i + 0} (omega arith) ∙ row-word h i 0 row (omega arith) in
       record {
-        diurnal-band = rw (first, row-word h i 1 row (omega arith)) (band diurnal);
-        soak-band = rw (row-word h i 2 row (omega arith), row-word h i 3 row (omega arith)) (band soak);
-        running-band = rw (row-word h i 4 row (omega arith), row-word h i 5 row (omega arith)) (band running);
+        diurnal-band = rw (first, row-word h i 1 row (omega arith)) (bands .diurnal-band);
+        soak-band = rw (row-word h i 2 row (omega arith), row-word h i 3 row (omega arith)) (bands .soak-band);
+        running-band = rw (row-word h i 4 row (omega arith), row-word h i 5 row (omega arith)) (bands .running-band);
         no-vehicles = λ none j l. row-word h i j row l ∙ zeros (no-vehicles (cellsOf s) (seasonList s) (rowAt s i) none) j;
       }
     where

@@ -10,7 +10,7 @@ use Rattle.bounds.specs.Power.{degrees}
 use Rattle.numbers.proofs.Order.{≈-refl, ≈-trans, ≤-by, ≤-trans, ≈-sym, +-cong, sub-cong, *-cong}
 use Rattle.exact.specs.declared.Season.{Season}
 use Rattle.bounds.specs.Weights.{w, apart, ahead}
-use Rattle.bounds.proofs.Weights.{w-most, apart-alike}
+use Rattle.bounds.proofs.Laws.{w-most, apart-alike}
 use Rattle.exact.specs.Day.{signedTenths, temperature}
 use Rattle.sheet.specs.Limits.{coldLimit, warmLimit, vpLimit}
 use Rattle.sheet.specs.Range.{warmth, warmthLimit, markWarmth, SeasonInRange}

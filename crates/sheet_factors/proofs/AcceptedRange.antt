@@ -10,7 +10,6 @@ use Rattle.exact.specs.declared.Season.{Season}
 use Rattle.exact.specs.Factors.{total}
 use Rattle.parking.specs.Grid.{CellsInRange}
 use Rattle.parking.proofs.Products.{products-in-range}
-use Rattle.factors.proofs.FactorBound.{low-≤-factor, factor-≤-high}
 use Rattle.factors.proofs.Sizes.{highMicrograms-most}
 use Rattle.sheet.specs.Versions.{hasGrid}
 use Rattle.sheet.specs.Bytes.{seasonsOf, rowsOf, durationCounts, hourCounts, gridCounts, cellsOf, seasonAt, seasonsFrom, seasonList, rowAt}
@@ -20,7 +19,8 @@ use Rattle.sheet.proofs.Counts.{counts-length}
 use Rattle.sheet.proofs.Accepted.{Bytes, AcceptedRow, Accepted}
 use Rattle.sheet.proofs.InRange.{row-in-range}
 use Rattle.masses.specs.Figures.{allDays}
-use Rattle.masses.proofs.MassBound.{Shares, Enclosed, Every}
+use Rattle.masses.specs.AnyCounts.{Every, Shares, InRange, Enclosed}
+use Rattle.masses.proofs.AnyCounts.{factors-enclosed}
 use Rattle.masses.proofs.MassSizes.{Sized, RowSized}
 
 -- The counts.
@@ -57,22 +57,21 @@ cells-in-range {s} a = go (hasGrid s) refl
         rw (cells-lists s h) (products-in-range (durationCounts s) (hourCounts s) (durations-length s) (hours-length s) p P q Q)
 
 -- at least one parking is counted
-cells-least : {s : List ℕ} → Accepted s → 0 < total (cellsOf s)
+pub cells-least : {s : List ℕ} → Accepted s → 0 < total (cellsOf s)
 cells-least a = cells-in-range a .total-least
 
 -- the shares of row i
 pub row-shares : {s : List ℕ} {i : ℕ} → AcceptedRow s i → Shares (rowAt s i)
 row-shares r = record { carburettor-most = r .carburettor-most; hot-most = r .hot-most }
 
+-- season j and row i are in range
+pub in-range : {s : List ℕ} {i j : ℕ} → Bytes s → Accepted s → i < rowsOf s → j < seasonsOf s → InRange (rowAt s i) (seasonAt s j)
+in-range {s} {i} {j} bytes a row season = record { season-in = a .season j season .in-range bytes; row-in = row-in-range bytes a row season }
+
 -- every factor of an accepted sheet lies between its figures in micrograms
 pub enclosed : {s : List ℕ} {i j : ℕ} → Bytes s → Accepted s → i < rowsOf s → j < seasonsOf s → Enclosed (cellsOf s) (seasonAt s j) (rowAt s i)
 enclosed {s} {i} {j} bytes a row season =
-    let in-season = a .season j season .in-range bytes in
-    let in-row = row-in-range bytes a row season in
-    record {
-      above = low-≤-factor (seasonAt s j) (rowAt s i) (cellsOf s) in-season in-row (cells-least a);
-      below = factor-≤-high (seasonAt s j) (rowAt s i) (cellsOf s) in-season in-row (cells-least a);
-    }
+    factors-enclosed (cellsOf s) (cells-least a) (rowAt s i) (seasonAt s j) (in-range bytes a row season)
 
 -- and is no larger than the limits let it be
 pub sized : {s : List ℕ} {i j : ℕ} → Bytes s → Accepted s → i < rowsOf s → j < seasonsOf s → Sized (cellsOf s) (rowAt s i) (seasonAt s j)

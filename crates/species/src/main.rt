@@ -6,24 +6,28 @@ use program::ROOM;
 use program::WORDS;
 use species_report::species_text;
 ghost use mathlib.Core.Path.{_≡_};
+ghost use lib.ListN.{take};
+ghost use Rattle.program.specs.Reads.{Taken};
 ghost use Rattle.species_report.specs.SpeciesText.{speciesText};
 
 // The bytes of the longest text: 44 · 29 + 52.
 const TEXT: usize = 1328;
 
-// Writes what `requires` says and nothing else: the text of the sheet.
-fn write(s: &[u8], text: &[u8]) -> bool
-    requires { ⌜ now text ≡ speciesText (now s) 6026 ⌝ }
+// Writes what `requires` says and nothing else: the text of the sheet that was read into the buffer.
+fn write(bytes: &[u8], count: usize, text: &[u8]) -> bool
+    requires { ⌜ Taken count (now bytes) × (now text ≡ speciesText (take count (now bytes)) 6026) ⌝ }
 {
     io::write_all(STDOUT_FILENO, text)
 }
 
-// Makes the text of a sheet and writes it, in one piece.
-fn answer(s: &[u8]) -> bool {
+// Makes the text of the sheet that was read into the buffer and writes it, in one piece.
+fn answer(bytes: &[u8], count: usize) -> bool
+    requires { ⌜ Taken count (now bytes) ⌝ }
+{
     let mut words = [0u64; WORDS];
     let mut text = [0u8; TEXT];
-    let end = species_text(s, &mut words, &mut text);
-    write(s, &text[..end])
+    let end = species_text(&bytes[..count], &mut words, &mut text);
+    write(bytes, count, &text[..end])
 }
 
 fn main() {
@@ -31,7 +35,7 @@ fn main() {
     let input = program::read_sheet(b"species", &mut bytes);
     let n = input.count;
     if input.read {
-        if !answer(&bytes[..n]) {
+        if !answer(&bytes, n) {
             program::say(b"species", b": cannot write standard output\n");
         }
     }

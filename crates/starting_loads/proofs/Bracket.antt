@@ -12,8 +12,7 @@ use Rattle.numbers.proofs.Order.{+-nonNegative, sub-cong, sub-≤, regain, rati
 use Rattle.bounds.specs.Series.{E, multiple}
 use Rattle.bounds.specs.Enclosure.{Within}
 use Rattle.bounds.specs.Exponential.{exponent}
-use Rattle.bounds.proofs.Exponential.{E-cong, E-mono, E-positive}
-use Rattle.bounds.proofs.Sums.{E-most-1}
+use Rattle.bounds.proofs.Laws.{E-cong, E-mono, E-positive, E-most-1}
 use Rattle.bounds.proofs.Within.{within-above, within-below, within-from, within-nonNegative, whole-within}
 use Rattle.bounds.proofs.Units.{unit-pos, units, units-≤, units-sum, units-fold}
 use Rattle.bounds.proofs.Line.{rising, along, along-is, along-mono}
@@ -25,7 +24,7 @@ use Rattle.exact.proofs.Smallest.{startingLoad-is, multiple-≤, multiple-next}
 
 -- one further is at most a unit further
 multiple-step : (n k : ℕ) → 40 ≤ n → multiple n (suc k) ≤ᶠ multiple n k +ᶠ units 1
-unfolding multiple ratio _+ᶠ_
+unfolding ratio _+ᶠ_
 multiple-step n k h = record { cross = step (2 ^ n) (pow-le-pow-right (omega arith) h) }
   where
     step : (t : ℕ) → 2 ^ 40 ≤ t → suc k * (t * 2 ^ 40) + (0 * 2 ^ 40 + 0 * t) * t ≤ (k * 2 ^ 40 + 1 * t) * t + 0 * (t * 2 ^ 40)
@@ -33,12 +32,12 @@ multiple-step n k h = record { cross = step (2 ^ n) (pow-le-pow-right (omega ari
 
 -- and not less
 multiple-mono : (n k : ℕ) → multiple n k ≤ᶠ multiple n (suc k)
-unfolding multiple
+unfolding ratio
 multiple-mono n k = omega arith
 
 -- the first is 0
 pub multiple-0 : (n : ℕ) → multiple n 0 ≈ᶠ whole 0
-unfolding multiple whole
+unfolding ratio whole
 multiple-0 n = omega arith
 
 -- what is lost at a load

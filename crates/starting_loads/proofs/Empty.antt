@@ -12,8 +12,7 @@ use Rattle.bounds.specs.Series.{multiple}
 use Rattle.bounds.specs.Enclosure.{Within}
 use Rattle.bounds.specs.Exponential.{exponent}
 use Rattle.bounds.proofs.Within.{widen, within-≈, whole-within}
-use Rattle.bounds.proofs.Ends.{E-at-2·78, E-at-minus-7·75}
-use Rattle.bounds.proofs.Exponential.{E-mono}
+use Rattle.bounds.proofs.Laws.{E-at-2·78, E-at-minus-7·75, E-mono}
 use Rattle.exact.specs.Canister.{a, b}
 use Rattle.exact.specs.Mileage.{multiples, g, driven, reaches, firstOf, startingLoad}
 use Rattle.starting_loads.proofs.Bracket.{multiple-0}

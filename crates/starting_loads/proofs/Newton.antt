@@ -15,8 +15,8 @@ use Rattle.bounds.specs.Short.{short, binary, lineExponent}
 use Rattle.bounds.proofs.Within.{within-above, within-below, within-from}
 use Rattle.bounds.proofs.Units.{unit-pos, units, units-≤, units-sum, units-fold}
 use Rattle.bounds.proofs.Line.{rising, along}
-use Rattle.bounds.proofs.ShortLine.{rising-cut, binary-most, lineExponent-is, short-most-1}
-use Rattle.bounds.proofs.Tangent.{line-most, tangent-least, tangent-near}
+use Rattle.bounds.proofs.ShortLine.{rising-cut, binary-most, lineExponent-is, line-most}
+use Rattle.bounds.proofs.Laws.{short-most-1, tangent-least, tangent-near}
 use Rattle.starting_loads.specs.Steps.{slope, added, stepped, step, steps}
 use Rattle.starting_loads.proofs.Bracket.{lost, Balanced, along-0, at-least, at-most, unstepped}
 
@@ -186,7 +186,7 @@ module _ (n A K G W : ℕ) {σ : ℕ} {saturation m : Fraction} (n40 : 40 ≤ n)
 
       -- what is lost is at most 1 g
       y-most : y ≤ 2 ^ 36
-      y-most = short-most-1 _ (line-most A K m a hK l-most top-m n n40)
+      y-most = short-most-1 _ (line-most A K m a hK l-most top-m)
 
       -- q ≤ 1/4, so that something is left
       q-most : q ≤ 2 ^ 17

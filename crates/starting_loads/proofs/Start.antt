@@ -10,7 +10,7 @@ use Rattle.numbers.proofs.Order.{either, ≤-trans, ≈-refl, ≈→≤, ≈→
 use Rattle.bounds.specs.Enclosure.{Within, WithinAll}
 use Rattle.bounds.specs.Exponential.{exponent}
 use Rattle.bounds.specs.Short.{binary}
-use Rattle.bounds.proofs.Exponential.{E-mono}
+use Rattle.bounds.proofs.Laws.{E-mono}
 use Rattle.bounds.proofs.Within.{widen}
 use Rattle.bounds.proofs.Units.{units}
 use Rattle.bounds.proofs.Line.{rising, along}

@@ -12,10 +12,9 @@ use Rattle.numbers.specs.Fraction.{_≤ᶠ_, whole, _/10^_}
 use Rattle.bounds.specs.Series.{E}
 use Rattle.bounds.specs.Exponential.{exponential}
 use Rattle.numbers.proofs.Order.{≤-trans, ratio}
-use Rattle.bounds.proofs.ExponentialBound.{exponential-at-0, exponential-at-1·41}
-use Rattle.bounds.proofs.Ends.{E-to-2·8201}
-use Rattle.thresholds.specs.Thresholds.{far, nearError, within, digit, digits, firstAfter, firstKilometres, wholeAbove, enough, margin, short}
-use Rattle.thresholds.proofs.Far.{triple}
+use Rattle.bounds.proofs.Laws.{exponential-at-0, exponential-at-1·41, E-to-2·8201, far-triple, far-2, far-14}
+use Rattle.bounds.specs.WholeExponents.{far}
+use Rattle.thresholds.specs.Thresholds.{nearError, within, digit, digits, firstAfter, firstKilometres, wholeAbove, enough, margin, short}
 use Rattle.thresholds.proofs.Threshold.{exponents, reached, beyond}
 
 -- The test, in whole numbers.
@@ -124,13 +123,11 @@ too-small M h l = omega (arith, l .cross)
 module _ (M : ℕ) (least : firstKilometres ≤ M) (most : M ≤ 10 ^ 6) where
   -- E(2) is less than 17
   from-2 : within M 2 0 ≡ false
-  unfolding far
-  from-2 = no-within M 2 0 (rw exponential-at-0 (omega arith))
+  from-2 = no-within M 2 0 (rw exponential-at-0 (omega (arith, far-2)))
 
   -- E(14) is more than 1,000,000
   to-14 : within M 14 0 ≡ true
-  unfolding far
-  to-14 = yes-within M 14 0 (rw exponential-at-0 (omega arith))
+  to-14 = yes-within M 14 0 (rw exponential-at-0 (omega (arith, far-14)))
 
   -- so the whole exponent is found
   above : First M 2 14 (wholeAbove M)
@@ -142,7 +139,7 @@ module _ (M : ℕ) (least : firstKilometres ≤ M) (most : M ≤ 10 ^ 6) where
   too-far p h e =
       no-within M (suc p) (0 + 2 ^ 47)
       (spread (getD far p 0) (getD far (suc p) 0) (exponential (16 * 10 ^ 14 + 2 ^ 47))
-      (rw exponential-at-0 at (within-no M p 0 e)) (triple p h) exponential-at-1·41)
+      (rw exponential-at-0 at (within-no M p 0 e)) (far-triple p h) exponential-at-1·41)
     where
       spread : (f f' x : ℕ) → f * 2 ^ 10 < M * (2 ^ 40 + nearError) → f' ≤ 3 * f → 4 * 2 ^ 40 ≤ x → f' * 2 ^ 10 < M * (x + nearError)
       spread f f' x a b c = omega (arith, a, b, mul-le-mul-left M c)

@@ -13,13 +13,13 @@ use Rattle.bounds.specs.Enclosure.{Within}
 use Rattle.bounds.specs.Exponential.{exponential, exponent}
 use Rattle.numbers.proofs.Order.{NonNegative, positive→nonNegative, whole-nonNegative, ≤-trans, ≈→≤, ≈→≥, +-nonNegative}
 use Rattle.numbers.proofs.Order.{*-mono, *-mono-right, *-nonNegative, *-cancel, ratio, ratio-nonNegative, ratio-sum}
-use Rattle.bounds.proofs.Exponential.{E-cong, E-mono, E-positive}
-use Rattle.bounds.proofs.Sums.{E-product-above, E-product-below, one-plus}
-use Rattle.bounds.proofs.ExponentialBound.{exponential-within, exponentialError-1·41}
+use Rattle.bounds.proofs.Laws.{E-cong, E-mono, E-positive, E-product-above, E-product-below, one-plus}
+use Rattle.bounds.proofs.Laws.{exponential-within, exponentialError-1·41, far-below, far-above}
 use Rattle.bounds.proofs.Within.{widen, within-≈, within-above, within-below}
 use Rattle.bounds.proofs.Units.{unit-pos, units}
-use Rattle.thresholds.specs.Thresholds.{far, nearError, margin}
-use Rattle.thresholds.proofs.Far.{farAbove, farUnits, far-below, far-above, grown, gap}
+use Rattle.bounds.specs.WholeExponents.{far, farAbove, farUnits}
+use Rattle.thresholds.specs.Thresholds.{nearError, margin}
+use Rattle.thresholds.proofs.Far.{grown, gap}
 
 -- k·10⁻¹⁴
 abbrev pub exponents : ℕ → Fraction

@@ -2,17 +2,11 @@
 -- Exponents are in units of 10⁻¹⁴, E at whole exponents in units of 2⁻³⁰.
 -- With c the first whole exponent where E is at least M, the exponent is c − d for the largest d with M·E(d) ≤ E(c).
 use mathlib.Core.Bool.{Bool, cond}
-use mathlib.Core.List.{List, [], _∷_}
 use Prim.Native.Nat.{ℕ, suc, zero, _+_, _*_, _-_, _^_}
 use lib.Dec.{leb}
 use lib.ListN.{getD}
 use Rattle.bounds.specs.Exponential.{exponential}
-
--- 2³⁰·E(c) from below, for c from 0 to 14 and every n from 40 upward
-unfoldable pub far : List ℕ
-far =
-    1073741824 ∷ 2918732888 ∷ 7933938573 ∷ 21566681051 ∷ 58624317203 ∷ 159357416160 ∷ 433178368579 ∷ 1177500887789 ∷
-    3200779266273 ∷ 8700620116419 ∷ 23650737558785 ∷ 64289370135495 ∷ 174756626595083 ∷ 475037762280381 ∷ 1291286512936591 ∷ []
+use Rattle.bounds.specs.WholeExponents.{far}
 
 -- how far 2⁴⁰·E(d) can be above what is computed of it, for d up to 2⁴⁷
 abbrev pub nearError : ℕ

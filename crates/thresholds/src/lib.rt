@@ -1,10 +1,12 @@
 // The exponent at which E reaches a mileage, in units of 10^-14: it is found downwards from a whole exponent c, by the binary digits of d = c - y.
 use bounds::exp::ZERO;
 use bounds::exp::exponential;
+use bounds::whole::far_table;
 ghost use mathlib.Core.Path.{_≡_};
 ghost use Prim.Native.Nat.{_+_, _*_, _^_, _<_, _≤_};
 ghost use Rattle.bounds.specs.Exponential.{entries};
-ghost use Rattle.thresholds.specs.Thresholds.{far, within, digit, digits, firstKilometres, wholeAbove, short};
+ghost use Rattle.bounds.specs.WholeExponents.{far};
+ghost use Rattle.thresholds.specs.Thresholds.{within, digit, digits, firstKilometres, wholeAbove, short};
 
 // An exponent of 1, in units.
 const TEN_14: u64 = 100000000000000;
@@ -14,32 +16,6 @@ const NEAR_ERROR: u64 = 35;
 
 // From an exponent where E is at least M to one where it is below.
 const MARGIN: u64 = 400001;
-
-// 2^30 E(c) from below, for c from 0 to 14
-const FAR: [u64; 15] = [
-    1073741824,
-    2918732888,
-    7933938573,
-    21566681051,
-    58624317203,
-    159357416160,
-    433178368579,
-    1177500887789,
-    3200779266273,
-    8700620116419,
-    23650737558785,
-    64289370135495,
-    174756626595083,
-    475037762280381,
-    1291286512936591,
-];
-
-// The table as a value, to be made once and lent.
-fn far_table() -> [u64; 15]
-    ensures { λ r. ⌜ r ≡ far ⌝ }
-{
-    FAR
-}
 
 // M is at most E(c - d).
 fn within(tables: &[u64; 1907], fars: &[u64; 15], mileage: u64, c: usize, d: u64) -> bool

@@ -3,7 +3,7 @@ use mathlib.Core.Path.{_≡_}
 use borrow.Author.Needs.{needs}
 use Rattle.numbers.specs.Lists.{tab}
 use Rattle.numbers.proofs.Lists.{tab-at-most}
-use Rattle.bounds.proofs.Weights.{w-most}
+use Rattle.bounds.proofs.Laws.{w-most}
 use Rattle.sheet.specs.Range.{markWarmth}
 use Rattle.sheet.proofs.Temperature.{warmth-most}
 use Rattle.marks.proofs.season_temperatures.Statement.{statement}

@@ -3,9 +3,8 @@ use Prim.Native.Nat.{ℕ, _+_, _*_, _^_, _≤_, _<_}
 use native.Mathlib.Omega.{arith}
 use native.Mathlib.Nat.{mul-le-mul}
 use borrow.Author.Needs.{needs}
-use Rattle.bounds.proofs.ExponentialBound.{exponential-size-1·41}
+use Rattle.bounds.proofs.Laws.{exponential-size-1·41, far-size}
 use Rattle.thresholds.specs.Thresholds.{nearError, within}
-use Rattle.thresholds.proofs.Far.{far-size}
 use Rattle.thresholds.proofs.within.Statement.{statement}
 use Rattle.thresholds.proofs.within.Tie as tie
 

