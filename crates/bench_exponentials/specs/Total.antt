@@ -1,4 +1,4 @@
--- The exponentials of many exponents added up: what the exported function gives. Definitions only.
+-- Need not be believed: what the function that bench/ measures returns, the sum of many exponentials.
 use mathlib.Core.Bool.{cond}
 use mathlib.Core.List.{List}
 use Prim.Native.Nat.{ℕ, _%_, _^_}

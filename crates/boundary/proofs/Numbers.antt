@@ -5,7 +5,7 @@ use Rattle.sheet.specs.declared.Check.the-variants.{Pass, Refused}
 use Rattle.sheet.specs.Check.{numberOf, placeOf}
 use Rattle.inventory.specs.declared.FactorAnswer.{FactorAnswer}
 use Rattle.inventory.specs.declared.FactorAnswer.the-variants as answer
-use Rattle.inventory.specs.FactorCall.{answerNumber, answerPlace, answerLow, answerHigh}
+use Rattle.inventory.specs.FactorBand.{answerNumber, answerPlace, answerLow, answerHigh}
 use Rattle.boundary.specs.Export.{checkNumbers, factorNumbers}
 
 pub check-is : (c : Check) → checkNumbers c ≡ record { number = numberOf c; place = placeOf c }

@@ -10,7 +10,8 @@ use Rattle.report_words.specs.Report.{report}
 use Rattle.report_words.specs.Promise.{ReportPromise}
 use Rattle.inventory.specs.declared.FactorAnswer.{FactorAnswer}
 use Rattle.inventory.specs.declared.FactorAnswer.the-variants as answer
-use Rattle.inventory.specs.FactorCall.{factorAnswer, FactorBand, factorDemands}
+use Rattle.inventory.specs.FactorAnswers.{factorAnswer}
+use Rattle.inventory.specs.FactorBand.{FactorBand, factorDemands}
 use Rattle.inventory.specs.ReportCall.{reportCheck, written, reportDemands}
 use Rattle.boundary.specs.declared.EvpCheck.{EvpCheck}
 use Rattle.boundary.specs.declared.EvpFactor.{EvpFactor}

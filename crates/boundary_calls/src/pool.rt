@@ -1,7 +1,7 @@
 // The answer of the pool call as numbers.
 use boundary::EvpPool;
 use pooling::PoolAnswer;
-use pooling_calls::pool_length;
+use pooling_calls::length::pool_length;
 ghost use mathlib.Core.Path.{_≡_};
 ghost use lib.ListN.{length};
 ghost use Rattle.pooling.specs.Pool.{pool};

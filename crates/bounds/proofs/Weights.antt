@@ -14,7 +14,8 @@ use Rattle.numbers.proofs.Order.{ratio, sub-mul}
 use Rattle.bounds.proofs.Exponential.{quotient, E-at}
 use Rattle.bounds.proofs.Tail.{belowTest, below}
 use Rattle.bounds.proofs.Table.{both, both-left, both-right, every, at}
-use Rattle.bounds.specs.Weights.{weights, w, oneWay, apart, ahead, weightExponent, Nearest, NearestTheorem, RoundTheDay}
+use Rattle.bounds.specs.Weights.{weights, w, oneWay, apart, weightExponent, Nearest, NearestTheorem, RoundTheDay}
+use Rattle.bounds.specs.Ahead.{ahead}
 
 -- the denominator of the exponents
 abbrev parts : ℕ

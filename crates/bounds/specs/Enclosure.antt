@@ -1,4 +1,4 @@
--- What it means that a computed whole number encloses an exact value. Definitions only.
+-- Need not be believed: what it means that a computed whole number encloses an exact value. Contracts of the crates above do not cite it.
 use Prim.Native.Nat.{ℕ, _+_, _*_, _≤_}
 use Rattle.numbers.specs.Fraction.{Fraction}
 

@@ -1,4 +1,4 @@
--- The computed exponential: which whole number the program's exponential is. Definitions only.
+-- Need not be believed: the computed exponential, that is which whole number the program's exponential is.
 -- An exponent z is held as the whole number x = (z + 16)·10¹⁴, and the result is in units of 2⁻⁴⁰. With
 -- z = (h − 256)/16 + m/4096 + ρ and ρ below 2⁻¹², E(z) is close to coarse(h)·middle(m)·(1 + ρ + ρ²/2); every step cuts downwards.
 use mathlib.Core.List.{List, [], _∷_, _++_}

@@ -13,7 +13,8 @@ use Rattle.bounds.specs.WholeExponents.{far, farAbove, farUnits}
 use Rattle.bounds.specs.Short.{shortExponent, short, shortLimit, shortError}
 use Rattle.bounds.specs.Line.{units, rising, along, Held, shortAlong}
 use Rattle.bounds.specs.Power.{degrees, degreesLimit, power, powerError}
-use Rattle.bounds.specs.Weights.{w, apart, ahead}
+use Rattle.bounds.specs.Weights.{w, apart}
+use Rattle.bounds.specs.Ahead.{ahead}
 
 -- E for every n
 pub record SeriesLaws : Type 0 where

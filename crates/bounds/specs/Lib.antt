@@ -3,6 +3,7 @@ pub mod Enclosure
 pub mod Exponential
 pub mod Power
 pub mod Weights
+pub mod Ahead
 pub mod Laws
 pub mod Line
 pub mod WholeExponents

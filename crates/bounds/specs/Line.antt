@@ -1,4 +1,4 @@
--- A straight line of exponents, a + b·m, as the program has it, and an exponent that is known within a width. Definitions only.
+-- Need not be believed: a straight line of exponents, a + b·m, as the program has it, and an exponent that is known within a width.
 -- a is given by A, an exponent; 2·b by K, in units of 10⁻¹⁴; m is known in units of 2⁻⁴⁰.
 use Prim.Native.Nat.{ℕ, _*_, _^_, _<_}
 use native.Mathlib.Omega.{arith}

@@ -1,4 +1,4 @@
--- The computed T^2.5: which whole number the program's root is. Definitions only.
+-- Need not be believed: the computed T^2.5, that is which whole number the program's root is.
 -- A temperature T is held as the whole number θ = (T + 30 °C)·10¹⁰, and the result is in units of 2⁻²⁴.
 use Prim.Native.Nat.{ℕ, _*_, _-_, _/_, _^_}
 use Rattle.numbers.specs.Fraction.{Fraction, ten-pos}

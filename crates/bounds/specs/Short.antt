@@ -1,4 +1,4 @@
--- The short exponential: which whole number it is, for an exponent in binary. Definitions only.
+-- Need not be believed: the short exponential, that is which whole number it is for an exponent in binary.
 -- An exponent z is held as the whole number x = (z + 16)·2⁵³, and the result is in units of 2⁻³⁶. With
 -- z = (h − 256)/16 + j/16384 + ρ and ρ below 2⁻¹⁴, E(z) is close to high(h)·finest(j)·(1 + ρ); every step cuts downwards.
 use Prim.Native.Nat.{ℕ, _+_, _*_, _/_, _%_, _^_}

@@ -26,10 +26,6 @@ oneWay i = i - 28 + (28 - i)
 unfoldable pub apart : ℕ → ℕ
 apart i = min (oneWay i) (48 - oneWay i)
 
--- the mark so many half-hours before 14:00: one of those that are as far from it
-abbrev pub ahead : ℕ → ℕ
-ahead d = 28 - d
-
 -- "−0.0247·(i/2−14)²", the exponent of w(i), with that distance for i/2 − 14
 unfoldable pub weightExponent : ℕ → Fraction
 weightExponent i = negᶠ (247 /10^ 4 *ᶠ (whole (apart i) over 2) ^ᶠ 2)

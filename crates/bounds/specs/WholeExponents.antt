@@ -1,4 +1,4 @@
--- Two tables of E at whole exponents, in units of 2⁻³⁰: E lies between them for every n from 40 upward. Definitions only.
+-- Need not be believed: two tables of E at whole exponents, in units of 2⁻³⁰. E lies between them for every n from 40 upward.
 use mathlib.Core.List.{List, [], _∷_}
 use Prim.Native.Nat.{ℕ, _^_}
 use Rattle.numbers.specs.Fraction.{Fraction, ratio}

@@ -8,7 +8,8 @@ use native.Mathlib.Decide.{decLe}
 use native.Mathlib.Nat.{mul-le-mul, mul-le-mul-left, mul-le-mul-right, le-dest}
 use Rattle.numbers.specs.Lists.{tab, at}
 use Rattle.numbers.proofs.Lists.{getD-tab, tab-ext, tab-constant, tab-at-most}
-use Rattle.bounds.specs.Weights.{apart, ahead}
+use Rattle.bounds.specs.Weights.{apart}
+use Rattle.bounds.specs.Ahead.{ahead}
 use Rattle.bounds.specs.Short.{short, binary, lineOf, lineExponent, reachOf, reach}
 use Rattle.bounds.proofs.Laws.{short-size}
 use Rattle.bounds.proofs.ShortLine.{binary-size, binary-most, line-mono, lineExponent-is, lineExponent-mono, reach-is}

@@ -1,10 +1,10 @@
--- What the values of a row's canister in a season are. Definitions only.
+-- Need not be believed: what the computed values of a row's canister in a season are.
 use mathlib.Core.List.{List}
 use mathlib.Core.Path.{_≡_}
 use Prim.Native.Nat.{ℕ, _+_, _*_, _-_, _^_, _≤_, _<_}
 use Rattle.numbers.specs.Lists.{tab, at, AllAtMost}
 use Rattle.bounds.specs.Short.{short, binary, lineOf, reachOf}
-use Rattle.bounds.specs.Weights.{ahead}
+use Rattle.bounds.specs.Ahead.{ahead}
 use Rattle.thresholds.specs.Thresholds.{firstKilometres}
 use Rattle.exact.specs.declared.Season.{Season}
 use Rattle.exact.specs.declared.Row.{Row}

@@ -1,4 +1,4 @@
--- What breaks through a canister, from its values by distance from 14:00. Definitions only.
+-- Need not be believed: the computed breakthrough of a canister, from its values by distance from 14:00.
 use mathlib.Core.Bool.{Bool}
 use mathlib.Core.List.{List}
 use Prim.Native.Nat.{ℕ, _+_, _*_, _-_, _/_, _^_, _<_, _≤_, min}

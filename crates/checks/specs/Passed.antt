@@ -1,4 +1,4 @@
--- What the stages before the rows have shown of a sheet. For `requires`; nothing here has to be believed.
+-- Need not be believed: what the checks before the rows have shown of a sheet, for the `requires` of the checks of a row.
 use mathlib.Core.List.{List}
 use mathlib.Core.Path.{_≡_}
 use Prim.Native.Nat.{ℕ, _≤_}

@@ -40,7 +40,8 @@ ghost use Rattle.sheet.specs.Versions.{hasMileage, hasManyRows};
 ghost use Rattle.sheet.specs.Bytes.{seasonsOf, rowsOf, rowPlace, equipmentAt};
 ghost use Rattle.sheet.specs.Check.{refuse, _then_, each};
 ghost use Rattle.sheet.specs.Sheet.{isAbsent, codeWrong, percentWrong, loadWrong};
-ghost use Rattle.sheet.specs.Sheet.{saturationAbove, someSeason, mileageWrong, vehiclesBefore, rowCheck};
+ghost use Rattle.sheet.specs.Sheet.{saturationAbove, someSeason, mileageWrong, rowCheck};
+ghost use Rattle.sheet.specs.RunningSums.{vehiclesBefore};
 ghost use Rattle.sheet.specs.Range.{SeasonInRange};
 ghost use Rattle.checks.specs.Passed.{SeasonsPassed};
 

@@ -19,7 +19,8 @@ ghost use lib.ListN.{length};
 ghost use Rattle.sheet.specs.Limits.{daysLimit};
 ghost use Rattle.sheet.specs.Bytes.{seasonsOf, seasonPlace, rowPlace};
 ghost use Rattle.sheet.specs.Check.{each};
-ghost use Rattle.sheet.specs.Sheet.{daysBefore, temperaturesWrong, seasonCheck};
+ghost use Rattle.sheet.specs.Sheet.{temperaturesWrong, seasonCheck};
+ghost use Rattle.sheet.specs.RunningSums.{daysBefore};
 
 // The temperatures are out of range or the wrong way round. A lowest that is not above the highest is in range where that is.
 fn temperatures_wrong(season: Season) -> bool

@@ -1,4 +1,4 @@
--- The computed breakthrough of a canister: which whole numbers it is made of. Definitions only.
+-- Need not be believed: the computed breakthrough of a canister, that is which whole numbers it is made of.
 -- Loads and vapour are in units of 2⁻⁴⁰ g, a and 2·b·s in units of 10⁻¹⁴, a above −16; the exponents made of them as bounds holds them.
 use Prim.Native.Nat.{ℕ, _+_, _*_, _-_, _/_, _^_, min}
 use Rattle.bounds.specs.Short.{short, lineExponent, reach}

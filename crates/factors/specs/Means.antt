@@ -1,4 +1,4 @@
--- The computed weighted mean over the cells. Definitions only.
+-- Need not be believed: the computed weighted mean over the cells.
 use mathlib.Core.List.{List, [], _∷_}
 use Prim.Native.Nat.{ℕ, suc, _+_, _*_, _/_, _^_}
 use Rattle.exact.specs.Factors.{total}

@@ -1,4 +1,4 @@
--- The computed factors: which whole numbers they are, in units of 2⁻²⁸ g and in micrograms. Definitions only.
+-- Need not be believed: the computed factors, that is which whole numbers they are, in units of 2⁻²⁸ g and in micrograms.
 use mathlib.Core.Bool.{true, false}
 use mathlib.Core.List.{List}
 use Prim.Native.Nat.{ℕ, _+_, _*_, _-_, _/_, _^_}

@@ -18,7 +18,8 @@ ghost use Rattle.sheet.specs.Bytes.{seasonsOf, rowsOf, countsAt, durationCounts
 ghost use Rattle.sheet.specs.Bytes.{seasonPlace, rowPlace, seasonFrom, seasonAt, equipmentAt, canisterOf, tankOf, rowFrom, rowAt};
 ghost use Rattle.sheet.specs.Range.{warmth};
 ghost use Rattle.sheet.specs.declared.Check.the-variants.{Pass};
-ghost use Rattle.sheet.specs.Sheet.{vehiclesBefore, sheetCheck};
+ghost use Rattle.sheet.specs.Sheet.{sheetCheck};
+ghost use Rattle.sheet.specs.RunningSums.{vehiclesBefore};
 ghost use Rattle.exact.specs.Factors.{total};
 
 pub mod classes;

@@ -18,8 +18,9 @@ use Rattle.sheet.proofs.Checks.{Tests, Judges, judges-refuse, judges-then, ltb-
 use Rattle.sheet.proofs.Conditions.{sheet-judged, no-zero}
 use Rattle.sheet.specs.Demands.{demand, _next_, FirstUnmet, Says, demands}
 use Rattle.sheet.proofs.Accepted.{Accepted, accepted}
-use Rattle.inventory.specs.FactorCall.{factorCheck, factorDemands}
-use Rattle.report_words.specs.Report.{reportLength}
+use Rattle.inventory.specs.FactorAnswers.{factorCheck}
+use Rattle.inventory.specs.FactorBand.{factorDemands}
+use Rattle.report_words.specs.Categories.{reportLength}
 use Rattle.inventory.specs.ReportCall.{reportCheck, reportDemands}
 
 -- the test x ≤ y demands y < x

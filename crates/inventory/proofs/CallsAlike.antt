@@ -10,8 +10,9 @@ use Rattle.sheet.specs.declared.Check.{Check}
 use Rattle.sheet.specs.declared.Check.the-variants.{Pass, Refused}
 use Rattle.sheet.specs.Bytes.{seasonsOf, rowsOf}
 use Rattle.sheet.proofs.Alike.{Alike}
-use Rattle.inventory.specs.FactorCall.{factorCheck, unitsAt, factorAnswered, factorAnswer}
-use Rattle.report_words.specs.Report.{reportLength, wordsOf, rowWords, subtotal, subtotals, grandTotal, report}
+use Rattle.inventory.specs.FactorAnswers.{factorCheck, unitsAt, factorAnswered, factorAnswer}
+use Rattle.report_words.specs.Report.{wordsOf, rowWords, subtotal, subtotals, grandTotal, report}
+use Rattle.report_words.specs.Categories.{reportLength}
 use Rattle.inventory.specs.ReportCall.{reportCheck}
 use Rattle.inventory.proofs.CallConditions.{factor-accepted}
 

@@ -13,8 +13,9 @@ use Rattle.sheet.specs.Demands.{Says}
 use Rattle.sheet.proofs.Accepted.{Bytes}
 use Rattle.inventory.specs.declared.FactorAnswer.{FactorAnswer}
 use Rattle.inventory.specs.declared.FactorAnswer.the-variants as answer
-use Rattle.inventory.specs.FactorCall.{numbered, factorCheck, unitsAt, factorAnswered, factorAnswer, FactorBand}
-use Rattle.inventory.specs.FactorCall.{answerNumber, answerPlace, answerLow, answerHigh, factorDemands}
+use Rattle.inventory.specs.FactorAnswers.{factorCheck, unitsAt, factorAnswered, factorAnswer}
+use Rattle.inventory.specs.FactorBand.{numbered, FactorBand}
+use Rattle.inventory.specs.FactorBand.{answerNumber, answerPlace, answerLow, answerHigh, factorDemands}
 use Rattle.inventory.specs.FactorCall.{FactorCall}
 use Rattle.sheet_factors.proofs.AcceptedRange.{enclosed}
 use Rattle.inventory.proofs.CallConditions.{factor-accepted, factor-judged, factor-says, number-zero}

@@ -10,7 +10,8 @@ use Rattle.sheet.specs.declared.Check.the-variants.{Pass}
 use Rattle.sheet.specs.Bytes.{rowsOf}
 use Rattle.sheet.proofs.Checks.{then-pass}
 use Rattle.sheet.proofs.Accepted.{Bytes, accepted}
-use Rattle.report_words.specs.Report.{reportLength, report}
+use Rattle.report_words.specs.Report.{report}
+use Rattle.report_words.specs.Categories.{reportLength}
 use Rattle.report_words.specs.Years.{filled, reportWord}
 use Rattle.report_words.proofs.Filled.{tab-getD}
 use Rattle.report_words.proofs.ReportPlaces.{report-length}

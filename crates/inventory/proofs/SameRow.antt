@@ -13,7 +13,7 @@ use Rattle.sheet.specs.NextVersion.{SameRow}
 use Rattle.sheet.proofs.NextVersion.{kept, cells-kept, season-kept, season-list-kept, row-kept, no-mileage}
 use Rattle.report_words.specs.Report.{wordsOf, report}
 use Rattle.report_words.proofs.ReportPlaces.{row-word-at}
-use Rattle.inventory.specs.FactorCall.{factorCheck, unitsAt, factorAnswered, factorAnswer}
+use Rattle.inventory.specs.FactorAnswers.{factorCheck, unitsAt, factorAnswered, factorAnswer}
 use Rattle.inventory.specs.NextVersion.{RowTheorem}
 use Rattle.inventory.proofs.CallConditions.{factor-accepted}
 

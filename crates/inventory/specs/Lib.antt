@@ -1,3 +1,5 @@
+pub mod FactorBand
+pub mod FactorAnswers
 pub mod FactorCall
 pub mod ReportCall
 pub mod SameGrid

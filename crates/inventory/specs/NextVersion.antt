@@ -9,10 +9,11 @@ use Rattle.exact.specs.Masses.{Mechanism, mass}
 use Rattle.sheet.specs.declared.Check.the-variants.{Pass}
 use Rattle.sheet.specs.Limits.{fleetLimit}
 use Rattle.sheet.specs.Bytes.{seasonsOf, rowsOf, cellsOf, seasonAt, seasonList, rowAt}
-use Rattle.sheet.specs.Sheet.{vehiclesBefore, sheetCheck}
+use Rattle.sheet.specs.Sheet.{sheetCheck}
+use Rattle.sheet.specs.RunningSums.{vehiclesBefore}
 use Rattle.sheet.specs.NextVersion.{NextVersion, SameRow, FourthVersion}
 use Rattle.report_words.specs.Report.{report}
-use Rattle.inventory.specs.FactorCall.{factorAnswer}
+use Rattle.inventory.specs.FactorAnswers.{factorAnswer}
 use Rattle.inventory.specs.SameGrid.{SameInventory}
 
 -- row j of t counts exactly as row i of s: its mileage is 0, with every n it has the same exact factors and masses, its six words are the

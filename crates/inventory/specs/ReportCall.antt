@@ -9,7 +9,8 @@ use Rattle.sheet.specs.declared.Check.the-variants.{Pass, Refused}
 use Rattle.sheet.specs.Check.{refuse, _then_, numberOf, placeOf}
 use Rattle.sheet.specs.Sheet.{sheetCheck}
 use Rattle.sheet.specs.Demands.{Demands, demand, _next_, Says, demands}
-use Rattle.report_words.specs.Report.{reportLength, report}
+use Rattle.report_words.specs.Report.{report}
+use Rattle.report_words.specs.Categories.{reportLength}
 use Rattle.report_words.specs.Promise.{ReportPromise}
 
 -- Call | 22 report buffer short | 0, after every check of the sheet

@@ -10,7 +10,7 @@ use Rattle.sheet.specs.Bytes.{seasonsOf, rowsOf, cellsOf, seasonAt, seasonList,
 use Rattle.sheet.specs.Sheet.{sheetCheck}
 use Rattle.sheet.specs.SameGrid.{GridOf}
 use Rattle.report_words.specs.Report.{report}
-use Rattle.inventory.specs.FactorCall.{factorAnswer}
+use Rattle.inventory.specs.FactorAnswers.{factorAnswer}
 use Rattle.inventory.specs.ReportCall.{reportCheck}
 
 -- t is accepted, and with every n each season and row of s has the same exact factors and each row the same exact masses; both calls

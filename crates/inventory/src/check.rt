@@ -10,8 +10,8 @@ ghost use lib.Dec.{leb};
 ghost use lib.ListN.{length};
 ghost use Rattle.sheet.specs.Bytes.{seasonsOf, rowsOf};
 ghost use Rattle.sheet.specs.Sheet.{outside};
-ghost use Rattle.inventory.specs.FactorCall.{factorCheck};
-ghost use Rattle.report_words.specs.Report.{reportLength};
+ghost use Rattle.inventory.specs.FactorAnswers.{factorCheck};
+ghost use Rattle.report_words.specs.Categories.{reportLength};
 ghost use Rattle.inventory.specs.ReportCall.{reportCheck};
 
 // The words of a report: six for each row, 24 of subtotals and two of totals.

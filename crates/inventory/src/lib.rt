@@ -1,21 +1,20 @@
 // The two calls of the inventory: one emission factor, and the report.
 use crate::check::factor_check;
 use crate::check::report_check;
-use report_sums::write_sums;
-use report_words::words::write_rows;
+use crate::writing::write_report;
 use row_factors::micrograms::high_micrograms;
 use row_factors::micrograms::low_micrograms;
 use sheet::Check;
 use sheet_factors::factors_at::factors_at;
 ghost use mathlib.Core.Path.{_≡_};
 ghost use Prim.Native.Nat.{_^_, _<_};
-ghost use lib.ListN.{length};
 ghost use Rattle.sheet.specs.declared.Check.the-variants.{Pass};
-ghost use Rattle.inventory.specs.FactorCall.{factorCheck, unitsAt, FactorCall};
-ghost use Rattle.report_words.specs.Report.{report};
-ghost use Rattle.inventory.specs.ReportCall.{reportCheck, written, ReportCall};
+ghost use Rattle.inventory.specs.FactorCall.{FactorCall};
+ghost use Rattle.inventory.specs.FactorAnswers.{factorCheck, unitsAt};
+ghost use Rattle.inventory.specs.ReportCall.{ReportCall};
 
 pub mod check;
+pub mod writing;
 
 // What the factor call answers.
 pub enum FactorAnswer {
@@ -44,15 +43,6 @@ pub fn factor(s: &[u8], season: u64, row: u64, k: u64) -> FactorAnswer
     }
     let units = units_at(s, season as usize, row as usize, k as usize);
     FactorAnswer::Band(low_micrograms(units), high_micrograms(units))
-}
-
-// The report of an accepted sheet, in a buffer with room for it: the words of the rows and their sums.
-pub fn write_report(s: &[u8], words: &mut [u64])
-    requires { ⌜ reportCheck (now s) (length (now words)) ≡ Pass ⌝ }
-    ensures { λ _. ⌜ now (words .exit) ≡ written Pass (report (now (s .entry))) (now (words .entry)) ⌝ }
-{
-    write_rows(s, words);
-    write_sums(s, words);
 }
 
 // All words of the report in milligrams, or a refusal that leaves the buffer as it is. Document 01 leaves a low or high

@@ -17,7 +17,7 @@ use Rattle.sheet.specs.Limits.{vehiclesLimit, fleetLimit}
 use Rattle.sheet.specs.Versions.{versionOf, hasManyRows}
 use Rattle.sheet.specs.Bytes.{rowsOf, rowPlace, rowAt}
 use Rattle.sheet.specs.Counts.{countsOf, withCount}
-use Rattle.sheet.specs.Sheet.{vehiclesBefore}
+use Rattle.sheet.specs.RunningSums.{vehiclesBefore}
 use Rattle.sheet.proofs.Accepted.{Accepted}
 use Rattle.sheet.proofs.BeforeRows.{rows}
 use Rattle.sheet.proofs.Count.{before-rows, row-changed, row-kept}

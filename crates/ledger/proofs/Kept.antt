@@ -20,12 +20,13 @@ use Rattle.sheet.proofs.Accepted.{Bytes}
 use Rattle.sheet.proofs.Checks.{then-pass}
 use Rattle.sheet.proofs.BeforeRows.{BeforeRows, version, start, seasons, rows, season-list, cells}
 use Rattle.sheet.proofs.Count.{before, beyond, bytes-kept, before-rows, row-kept, still-accepted}
-use Rattle.report_words.specs.Report.{reportLength, wordsOf, report}
+use Rattle.report_words.specs.Report.{wordsOf, report}
+use Rattle.report_words.specs.Categories.{reportLength}
 use Rattle.report_words.specs.Years.{reportWord}
 use Rattle.sheet.proofs.Places.{row-there}
 use Rattle.report_words.proofs.Promised.{promise}
 use Rattle.report_words.proofs.ReportPlaces.{report-length, row-word-at}
-use Rattle.report_sums.specs.RowYear.{RestHolds}
+use Rattle.report_sums.proofs.OneRow.{RestHolds}
 use Rattle.report_sums.proofs.OneRow.{renewed-is}
 use Rattle.inventory.specs.ReportCall.{reportCheck, written}
 use Rattle.inventory.proofs.CallConditions.{report-accepted, report-sheet}

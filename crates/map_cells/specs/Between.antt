@@ -1,4 +1,4 @@
--- For contracts inside the crates alone: the cell of two doubles, as the code makes it. That it is `cellOf` of their whole numbers is the
+-- Need not be believed: the cell of two doubles, as the code makes it. That it is `cellOf` of their whole numbers is the
 -- law `between-is`.
 use mathlib.Core.Bool.{cond, false}
 use mathlib.Core.Path.{_≡_}

@@ -1,4 +1,4 @@
--- For contracts inside the crate alone: a product over a divisor, digit by digit of its first factor.
+-- Need not be believed: a product over a divisor, digit by digit of its first factor.
 use mathlib.Core.Path.{_≡_}
 use Prim.Native.Nat.{ℕ, _+_, _*_, _/_, _%_, _^_}
 use Rattle.map_rows.specs.declared.split.Quotient.{Quotient}

@@ -1,4 +1,4 @@
--- For contracts inside the crate alone: the lows and highs of the road kinds as doubles. That the cells between them are those of Rows is
+-- Need not be believed: the lows and highs of the road kinds as doubles. That the cells between them are those of Rows is
 -- proved in proofs/SharedOut.
 use Prim.Native.Nat.{_≤_}
 use Rattle.map_cells.specs.Doubles.{massLimit, double}

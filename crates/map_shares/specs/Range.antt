@@ -1,4 +1,4 @@
--- For proofs alone: the ranges in which the fractions and the shares lie, so that nothing passes 64 bits.
+-- Need not be believed: the ranges in which the fractions and the shares lie, so that nothing passes 64 bits. For proofs alone.
 use Prim.Native.Nat.{ℕ, _≤_, _<_}
 use Rattle.map_cells.specs.Doubles.{massLimit}
 use Rattle.map_shares.specs.declared.Part.{Part}

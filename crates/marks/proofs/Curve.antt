@@ -20,7 +20,7 @@ use Rattle.exact.specs.Rise.{rises}
 use Rattle.sheet.specs.Range.{warmth, markWarmth, SeasonInRange}
 use Rattle.sheet.proofs.Temperature.{warmth-most}
 use Rattle.marks.specs.Marks.{runsMost, riseError, stepAt, passed}
-use Rattle.marks.specs.Runs.{rising, runs}
+use Rattle.marks.proofs.Runs.{rising, runs}
 use Rattle.marks.proofs.Runs.{Shape, runs-up, runs-down, rise-within, rise-most}
 
 -- the temperature rises where the weight does

@@ -6,6 +6,7 @@ use mathlib.Core.Path.{_≡_, refl, ap}
 use Prim.Native.Nat.{ℕ, suc, zero, _+_, _*_, _-_, _^_, _%_, _≤_, _<_}
 use native.Mathlib.Omega.{arith}
 use native.Mathlib.Nat.{mul-le-mul-right, mul-le-mul-left, le-of-mul-le-mul-right}
+use lib.Dec.{leb}
 use borrow.Author.Tests.{leb-true, leb-false}
 use Rattle.numbers.specs.Fraction.{Fraction, _≈ᶠ_, _+ᶠ_, _-ᶠ_, _*ᶠ_, whole, _/10^_}
 use Rattle.bounds.specs.Series.{E}
@@ -16,10 +17,19 @@ use Rattle.numbers.proofs.Order.{NonNegative, whole-nonNegative, sub-mul, ≈-r
 use Rattle.sheet.proofs.Temperature.{degrees-mono}
 use Rattle.exact.specs.Day.{startMark}
 use Rattle.exact.specs.Rise.{rises}
-use Rattle.marks.specs.Runs.{rising, runs}
 use Rattle.marks.specs.Marks.{heat, heatError, stepAt, passed}
 use Rattle.marks.proofs.Heat.{heat-within, heat-most, heat-grows}
 use Rattle.marks.proofs.Rise.{step-rises, step-falls, step-nonNegative, next-mark}
+
+-- whether the temperature does not fall from mark i to the next
+abbrev pub rising : (ℕ → ℕ) → ℕ → Bool
+rising θ i = leb (θ i) (θ ((i + 1) % 48))
+
+-- From the end of a parking back: how many runs of rising steps there are (`false`), and how many of them have ended (`true`).
+unfoldable pub runs : Bool → (ℕ → Bool) → ℕ → ℕ → ℕ
+runs ended up hour zero = 0
+runs true up hour (suc d) = elim (up (startMark hour (suc d))) [ true ↦ runs true up hour d | false ↦ runs false up hour d ]
+runs false up hour (suc d) = elim (up (startMark hour (suc d))) [ true ↦ suc (runs true up hour d) | false ↦ runs false up hour d ]
 
 -- x is at most a below c and at most b above it, in units of 1/s
 record Around (s c a b : ℕ) (x : Fraction) : Type 0 where

@@ -7,7 +7,8 @@ use native.Mathlib.Nat.{mod-lt}
 use native.Mathlib.Omega.{arith}
 use Rattle.numbers.specs.Lists.{tab, at, AllAtMost}
 use Rattle.numbers.proofs.Lists.{tab-ext, getD-tab, tab-at-most}
-use Rattle.bounds.specs.Weights.{apart, ahead}
+use Rattle.bounds.specs.Weights.{apart}
+use Rattle.bounds.specs.Ahead.{ahead}
 use Rattle.bounds.proofs.Laws.{apart-most}
 use Rattle.exact.specs.declared.Season.{Season}
 use Rattle.sheet.specs.Range.{markWarmth}

@@ -1,4 +1,4 @@
--- What the values of a season at its marks are. Definitions only.
+-- Need not be believed: what the computed values of a season at its day marks are.
 use mathlib.Core.Path.{_≡_}
 use Prim.Native.Nat.{ℕ, _+_}
 use Rattle.numbers.specs.Lists.{tab}

@@ -1,4 +1,4 @@
--- The computed values of a season at its marks: which whole numbers they are. Definitions only.
+-- Need not be believed: the computed values of a season at its day marks, that is which whole numbers they are.
 -- A temperature is held as θ, in units of 10⁻¹⁰ °C above −30 °C; exponentials and grams are in units of 2⁻⁴⁰.
 use Prim.Native.Nat.{ℕ, suc, zero, _+_, _*_, _-_, _/_, _%_, _^_}
 use Rattle.bounds.specs.Exponential.{exponential}

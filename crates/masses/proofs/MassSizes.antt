@@ -15,7 +15,8 @@ use Rattle.factors.specs.Units.{factorUnits, lowMicrograms, highMicrograms}
 use Rattle.factors.proofs.FactorBound.{low-below-high}
 use Rattle.factors.proofs.Sizes.{gramsLimit}
 use Rattle.sheet.specs.Limits.{daysLimit, tripsLimit}
-use Rattle.masses.specs.Figures.{µg, blended, dayFigure, yearFigure, lowFigure, highFigure, rowFigures, allDays}
+use Rattle.masses.specs.Figures.{µg, blended, dayFigure, yearFigure, lowFigure, highFigure, rowFigures}
+use Rattle.masses.specs.Bands.{allDays}
 use Rattle.masses.specs.AnyCounts.{Every, Shares}
 use Rattle.masses.proofs.MassBound.{every-map}
 

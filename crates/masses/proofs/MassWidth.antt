@@ -12,7 +12,8 @@ use Rattle.exact.specs.Factors.{F1}
 use Rattle.exact.specs.Masses.{Mechanism, diurnal, soak, running}
 use Rattle.factors.specs.Units.{factorUnits, lowMicrograms, highMicrograms}
 use Rattle.factors.proofs.FactorBound.{bandMicrograms, high-near-low}
-use Rattle.masses.specs.Figures.{µg, blended, dayFigure, yearFigure, lowFigure, highFigure, rowFigures, allDays, hundredths, MassBand}
+use Rattle.masses.specs.Figures.{µg, blended, dayFigure, yearFigure, lowFigure, highFigure, rowFigures}
+use Rattle.masses.specs.Bands.{allDays, hundredths, MassBand}
 use Rattle.masses.specs.AnyCounts.{Every, Shares, Enclosed}
 use Rattle.masses.proofs.MassBound.{low-above, high-below}
 

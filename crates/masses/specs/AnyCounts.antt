@@ -10,7 +10,8 @@ use Rattle.exact.specs.Factors.{Factor, total, factor}
 use Rattle.exact.specs.Masses.{diurnal, soak, running}
 use Rattle.sheet.specs.Range.{SeasonInRange, RowInRange}
 use Rattle.factors.specs.Units.{factorUnits, lowMicrograms, highMicrograms}
-use Rattle.masses.specs.Figures.{rowFigures, MassBand}
+use Rattle.masses.specs.Figures.{rowFigures}
+use Rattle.masses.specs.Bands.{MassBand}
 
 -- a statement holds of each season
 abbrev pub Every : (Season → Type 0) → List Season → Type 0

@@ -1,4 +1,4 @@
--- The figures of one vehicle on one day, as the program makes them of the seven factors. Definitions only.
+-- Need not be believed: the figures of one vehicle on one day, as the program computes them from the seven factors.
 use mathlib.Core.Bool.{Bool, true, false}
 use mathlib.Core.List.{List, [], _∷_}
 use Prim.Native.Nat.{ℕ, suc, _*_, _^_, _≤_}

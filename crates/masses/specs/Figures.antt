@@ -1,11 +1,11 @@
--- The six figures of a row, as a function of the grid, the seasons and the row. Definitions only.
+-- Need not be believed: the six figures of a row as the program computes them, a function of the counts, the seasons and the row. That they
+-- hold the exact masses is stated in Bands and AnyCounts.
 use mathlib.Core.List.{List, [], _∷_}
-use Prim.Native.Nat.{ℕ, _+_, _*_, _-_, _/_, _^_, _≤_}
-use Rattle.numbers.specs.Fraction.{_≤ᶠ_, _*ᶠ_, whole}
+use Prim.Native.Nat.{ℕ, _+_, _*_, _-_, _/_, _^_}
 use Rattle.exact.specs.declared.Season.{Season}
 use Rattle.exact.specs.declared.Row.{Row}
 use Rattle.exact.specs.Factors.{Factor, F1, F2, F3, F4, F5, F6, F7}
-use Rattle.exact.specs.Masses.{Mechanism, diurnal, soak, running, mass}
+use Rattle.exact.specs.Masses.{Mechanism, diurnal, soak, running}
 use Rattle.factors.specs.Units.{factorUnits, lowMicrograms, highMicrograms}
 
 -- c·(p·hot + (1 − p)·warm) + (1 − c)·injection, times 10⁴: the shares are in percent
@@ -46,22 +46,3 @@ rowFigures counts seasons row =
     highFigure counts seasons row soak ∷
     lowFigure counts seasons row running ∷
     highFigure counts seasons row running ∷ []
-
--- "the days of all seasons"
-unfoldable pub allDays : List Season → ℕ
-allDays [] = 0
-allDays (season ∷ seasons) = season .days + allDays seasons
-
--- how often a vehicle counts a day, in hundredths: once for diurnal, with each trip for soak and running
-unfoldable pub hundredths : Row → Mechanism → ℕ
-hundredths row diurnal = 100
-hundredths row soak = row .trips
-hundredths row running = row .trips
-
--- "Each of a row's three exact masses in grams, times 1,000, is at least its low and at most its high." With V the row's vehicles times
--- the days of all seasons, high less low is at most V/100 + 2 for diurnal and V·trips/100 + 2 for soak and for running: "A row's width
--- per vehicle and day, or trip, falls to a hundredth of a milligram, the two milligrams kept." Times 10,000, since trips are in hundredths.
-pub record MassBand (counts : List ℕ) (seasons : List Season) (row : Row) (mechanism : Mechanism) (low high : ℕ) : Type 0 where
-  pub above : (n : ℕ) → 40 ≤ n → whole low ≤ᶠ mass n counts seasons row mechanism *ᶠ whole 1000
-  pub below : (n : ℕ) → 40 ≤ n → mass n counts seasons row mechanism *ᶠ whole 1000 ≤ᶠ whole high
-  pub narrow : 10000 * high ≤ 10000 * low + row .vehicles * allDays seasons * hundredths row mechanism + 20000

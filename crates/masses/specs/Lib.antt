@@ -1,3 +1,4 @@
+pub mod Bands
 pub mod Figures
 pub mod Day
 pub mod AnyCounts

@@ -18,7 +18,7 @@ use Rattle.exact.specs.Factors.{endHour, duration}
 use Rattle.sheet.specs.Limits.{vpLimit}
 use Rattle.sheet.specs.Range.{markWarmth, SeasonInRange}
 use Rattle.sheet.proofs.Temperature.{temperature-is, season-in-range}
-use Rattle.marks.specs.Runs.{rising, runs}
+use Rattle.marks.proofs.Runs.{rising, runs}
 use Rattle.marks.specs.Marks.{stepAt, heatError, rate, passed}
 use Rattle.marks.proofs.Rise.{rises-cong, vapour-rises}
 use Rattle.marks.proofs.Runs.{shape, rise-within}

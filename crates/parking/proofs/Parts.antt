@@ -63,7 +63,6 @@ grid-made {cells} {starts} {ends} {grid} {sum} r es ee t g =
     = counts-at cells starts ends sum (r .length-is) s e es ee g in (
       record {
         cells-in = rw same r;
-        cells-are = λ cell h. rw (same, g) (cell-at cells starts ends sum (r .length-is) s e cell h);
         apart-are = rw same counts;
         sum-is = rw same (rw g (sum-at cells starts ends sum (r .length-is) s e ∙ t));
       },

@@ -1,19 +1,19 @@
 -- How much each place counts: the tally of the cells by place, and sums taken by place instead of by cell.
 use mathlib.Core.Bool.{Bool, true, false}
-use mathlib.Core.Path.{_≡_, refl, _∙_}
+use mathlib.Core.Path.{_≡_, refl, sym, _∙_}
 use mathlib.Core.List.{List}
 use Prim.Native.Nat.{ℕ, zero, suc, _+_, _*_, _≤_, _<_}
 use native.Mathlib.Numerals.{add-one}
 use native.Mathlib.Omega.{arith}
 use native.Mathlib.Decide.{ℕ-discrete}
 use lib.ListN.{length, set, replicate, length-set, length-replicate}
-use lib.Seq.{getD-set-same, getD-set-other}
+use lib.Seq.{getD-set-same, getD-set-other, getD-take}
 use Rattle.numbers.specs.Lists.{at, sum}
 use Rattle.numbers.proofs.Lists.{sum-none, sum-le}
 use Rattle.bounds.proofs.Laws.{apart-most}
 use Rattle.exact.specs.Day.{startMark}
 use Rattle.factors.specs.Units.{startOf, endOf}
-use Rattle.parking.specs.Grid.{markOf, apartOf, tally}
+use Rattle.parking.specs.Grid.{markOf, apartOf, tally, cellsIn}
 use Rattle.parking.proofs.Sums.{sum-next, sum-but-one}
 
 -- a mark is below 48
@@ -29,6 +29,10 @@ markOf-below false cell = startMark-below _ _
 -- and at most 12 hours from 14:00
 pub apartOf-below : (ends : Bool) (cell : ℕ) → apartOf ends cell < 25
 apartOf-below ends cell = omega (arith, apart-most (markOf ends cell))
+
+-- the first 576 numbers of the array are the counts
+pub cell-is : (grid : List ℕ) (cell : ℕ) → cell < 576 → at grid cell ≡ at (cellsIn grid) cell
+cell-is grid cell h = sym (getD-take 576 grid cell 0 h)
 
 -- a store at a place takes the old value's part away and adds the new one's
 sum-set : (g : ℕ → ℕ) (xs : List ℕ) (a v n : ℕ) → a < length xs → a < n

@@ -7,13 +7,14 @@ use native.Mathlib.Omega.{arith}
 use lib.ListN.{length}
 use Rattle.numbers.specs.Lists.{tab, at, sum}
 use Rattle.numbers.proofs.Lists.{sum-ext, getD-tab}
-use Rattle.bounds.specs.Weights.{apart, ahead}
+use Rattle.bounds.specs.Weights.{apart}
+use Rattle.bounds.specs.Ahead.{ahead}
 use Rattle.exact.specs.Factors.{total}
 use Rattle.factors.specs.Means.{weighted, meanUnits}
 use Rattle.factors.proofs.Mean.{weighted-most}
 use Rattle.parking.specs.Grid.{markOf, apartOf, cellsIn, apartPlace, sumPlace, GridReady}
 use Rattle.parking.proofs.Sums.{weighted-is, weighted-ext}
-use Rattle.parking.proofs.Tally.{markOf-below, apartOf-below, by-place}
+use Rattle.parking.proofs.Tally.{markOf-below, apartOf-below, cell-is, by-place}
 
 module _ {grid : List ℕ} (r : GridReady grid) (value : ℕ → ℕ) where
   -- what is added up over the places of the list is the weighted sum
@@ -45,7 +46,7 @@ module _ {grid : List ℕ} (r : GridReady grid) (value : ℕ → ℕ) where
 
   -- by cell
   by-cell : sum (λ (cell : ℕ). at grid cell * (value cell / 2 ^ 12)) 576 ≡ weighted (λ (cell : ℕ). value cell / 2 ^ 12) 0 (cellsIn grid)
-  by-cell = sum-ext 576 (λ cell h. ap (λ (count : ℕ). count * (value cell / 2 ^ 12)) (r .cells-are cell h)) ∙ counted
+  by-cell = sum-ext 576 (λ cell h. ap (λ (count : ℕ). count * (value cell / 2 ^ 12)) (cell-is grid cell h)) ∙ counted
 
   pub cell-fits : ((cell : ℕ) → value cell ≤ 2 ^ 54) → sum (λ (cell : ℕ). at grid cell * (value cell / 2 ^ 12)) 576 < 2 ^ 64
   cell-fits h = fits by-cell h

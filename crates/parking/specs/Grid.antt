@@ -1,4 +1,4 @@
--- The grid of a sheet's parkings as one array, and sums over its cells. Definitions only.
+-- Need not be believed: the counts of a sheet's parking cells as one array, and the sums over them that the program uses.
 use mathlib.Core.Path.{_≡_}
 use mathlib.Core.Bool.{Bool, true, false}
 use mathlib.Core.List.{List}
@@ -45,7 +45,6 @@ sumPlace = 626
 
 pub record GridReady (grid : List ℕ) : Type 0 where
   pub cells-in : CellsInRange (cellsIn grid)
-  pub cells-are : (cell : ℕ) → cell < 576 → at grid cell ≡ at (cellsIn grid) cell
   pub apart-are : (ends : Bool) (d : ℕ) → d < 25 → at grid (apartPlace ends + d) ≡ at (tally 25 (apartOf ends) (cellsIn grid) 576) d
   pub sum-is : at grid sumPlace ≡ total (cellsIn grid)
 

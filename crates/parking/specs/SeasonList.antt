@@ -1,4 +1,4 @@
--- The list of a season's parkings. Definitions only.
+-- Need not be believed: the list of a season's parkings that the program adds up for a row with a canister.
 use mathlib.Core.Bool.{false}
 use mathlib.Core.List.{List}
 use mathlib.Core.Path.{_≡_}

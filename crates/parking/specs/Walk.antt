@@ -1,4 +1,4 @@
--- The walk over the parkings, one end hour after another. Definitions only.
+-- Need not be believed: the sums over the parkings, one end hour after another, as the program adds them up.
 use mathlib.Core.List.{List, [], _∷_, _++_}
 use Prim.Native.Nat.{ℕ, zero, suc, _+_}
 use Rattle.numbers.specs.Lists.{at}

@@ -7,7 +7,7 @@ use marks::by_distance;
 ghost use mathlib.Core.Path.{_≡_};
 ghost use Prim.Native.Nat.{ℕ, _^_, _≤_};
 ghost use Rattle.numbers.specs.Lists.{at, AllAtMost};
-ghost use Rattle.bounds.specs.Weights.{ahead};
+ghost use Rattle.bounds.specs.Ahead.{ahead};
 ghost use Rattle.factors.specs.Means.{meanUnits};
 ghost use Rattle.parking.specs.Grid.{apartOf, cellsIn, apartPlace, GridReady};
 

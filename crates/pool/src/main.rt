@@ -4,7 +4,7 @@
 use libc::STDERR_FILENO;
 use libc::STDOUT_FILENO;
 use pooling::PoolAnswer;
-use pooling_calls::pool_length;
+use pooling_calls::length::pool_length;
 use program::LONGEST;
 use program::ROOM;
 use text::lines::put_refusal;

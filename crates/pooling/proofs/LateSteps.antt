@@ -11,7 +11,7 @@ use Rattle.sheet.specs.declared.Check.the-variants.{Pass, Refused}
 use Rattle.sheet.specs.Limits.{fleetLimit}
 use Rattle.sheet.specs.Bytes.{rowsOf, rowPlace}
 use Rattle.sheet.specs.Check.{refuse}
-use Rattle.sheet.specs.Sheet.{vehiclesBefore}
+use Rattle.sheet.specs.RunningSums.{vehiclesBefore}
 use Rattle.pooling.specs.Late.{fleetCheck}
 use Rattle.pooling.proofs.PoolBytes.{Region, start, length-is}
 

@@ -13,7 +13,8 @@ use Rattle.sheet.specs.Limits.{manyRowsLimit, longest}
 use Rattle.sheet.specs.Integers.{u8At}
 use Rattle.sheet.specs.Versions.{versionOf, hasGrid, hasManyRows, seasonsStart}
 use Rattle.sheet.specs.Bytes.{seasonsOf, rowsOf, rowPlace, rowAt}
-use Rattle.sheet.specs.Sheet.{vehiclesBefore, sheetCheck}
+use Rattle.sheet.specs.Sheet.{sheetCheck}
+use Rattle.sheet.specs.RunningSums.{vehiclesBefore}
 use Rattle.sheet.proofs.Versions.{rows-many, most-many, start-grid}
 use Rattle.sheet.proofs.Accepted.{accepted}
 use Rattle.sheet.proofs.Local.{Same, row-same}

@@ -17,7 +17,8 @@ use Rattle.sheet.specs.Versions.{versionOf, hasMileage, hasManyRows}
 use Rattle.sheet.specs.Bytes.{seasonsOf, rowsOf, rowPlace, rowAt, equipmentAt}
 use Rattle.sheet.specs.Check.{refuse, _then_, each}
 use Rattle.sheet.specs.Sheet.{outside, markCheck, numbersCheck, headCheck, lengthCheck, parkingCheck, seasonCheck}
-use Rattle.sheet.specs.Sheet.{vehiclesBefore, isAbsent, codeWrong, percentWrong, loadWrong, saturationAbove, someSeason}
+use Rattle.sheet.specs.Sheet.{isAbsent, codeWrong, percentWrong, loadWrong, saturationAbove, someSeason}
+use Rattle.sheet.specs.RunningSums.{vehiclesBefore}
 use Rattle.sheet.specs.Sheet.{mileageWrong, rowCheck, sheetCheck}
 use Rattle.sheet.specs.Demands.{Met, demands}
 use Rattle.sheet.proofs.Versions.{most-many}

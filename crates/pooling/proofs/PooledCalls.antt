@@ -12,7 +12,8 @@ use Rattle.sheet.specs.declared.Check.the-variants.{Pass, Refused}
 use Rattle.sheet.specs.Bytes.{rowsOf}
 use Rattle.sheet.specs.Check.{refuse, _then_}
 use Rattle.sheet.specs.Sheet.{sheetCheck}
-use Rattle.report_words.specs.Report.{reportLength, report}
+use Rattle.report_words.specs.Report.{report}
+use Rattle.report_words.specs.Categories.{reportLength}
 use Rattle.report_words.proofs.ReportPlaces.{report-length}
 use Rattle.inventory.specs.ReportCall.{reportCheck, ReportCall}
 use Rattle.inventory.proofs.Written.{written-first}

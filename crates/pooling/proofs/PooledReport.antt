@@ -15,7 +15,8 @@ use Rattle.sheet.specs.Bytes.{seasonsOf, rowsOf, rowPlace, rowAt}
 use Rattle.sheet.proofs.Conditions.{sheet-judged}
 use Rattle.sheet.proofs.Local.{Same}
 use Rattle.sheet.proofs.NextVersion.{SheetKept, cells-kept, season-list-kept}
-use Rattle.report_words.specs.Report.{wordsOf, anyClass, subtotal, grandTotal, report}
+use Rattle.report_words.specs.Report.{wordsOf, subtotal, grandTotal, report}
+use Rattle.report_words.specs.Categories.{anyClass}
 use Rattle.report_words.specs.Years.{category}
 use Rattle.report_words.proofs.ReportPlaces.{row-word-at, category-word-at, total-at}
 use Rattle.pooling.specs.Pool.{rowsTogether, pool, sharedBytes}

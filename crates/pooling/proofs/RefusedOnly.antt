@@ -10,7 +10,7 @@ use Rattle.sheet.specs.declared.Check.the-variants.{Pass}
 use Rattle.sheet.specs.Limits.{fleetLimit}
 use Rattle.sheet.specs.Bytes.{rowsOf}
 use Rattle.sheet.specs.Check.{_then_}
-use Rattle.sheet.specs.Sheet.{vehiclesBefore}
+use Rattle.sheet.specs.RunningSums.{vehiclesBefore}
 use Rattle.sheet.specs.Demands.{FirstUnmet}
 use Rattle.sheet.proofs.Checks.{Judges, judges-refuse, judges-then, judges-each, ltb-tests, met-passes, says, _⊳_}
 use Rattle.sheet.proofs.Stages.{go}

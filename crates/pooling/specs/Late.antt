@@ -1,4 +1,4 @@
--- What is left of a pooled sheet's checks where both sheets pass. For `requires` and proofs; nothing here has to be believed.
+-- Need not be believed: what is left of a pooled sheet's checks where both sheets pass, for `requires` and proofs.
 use mathlib.Core.List.{List}
 use mathlib.Core.Path.{_≡_}
 use Prim.Native.Nat.{ℕ, suc, _+_}
@@ -8,7 +8,7 @@ use Rattle.sheet.specs.declared.Check.the-variants.{Pass}
 use Rattle.sheet.specs.Limits.{manyRowsLimit, fleetLimit}
 use Rattle.sheet.specs.Bytes.{rowsOf, rowPlace}
 use Rattle.sheet.specs.Check.{refuse, _then_, each}
-use Rattle.sheet.specs.Sheet.{vehiclesBefore}
+use Rattle.sheet.specs.RunningSums.{vehiclesBefore}
 use Rattle.pooling.specs.Pool.{rowsTogether, regionCheck}
 
 -- both sheets pass

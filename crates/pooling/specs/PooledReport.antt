@@ -13,7 +13,7 @@ use Rattle.sheet.specs.Limits.{manyRowsLimit, fleetLimit}
 use Rattle.sheet.specs.Integers.{u8At}
 use Rattle.sheet.specs.Bytes.{rowsOf, cellsOf, rowPlace, seasonList, rowAt}
 use Rattle.sheet.specs.Check.{numberOf, placeOf}
-use Rattle.sheet.specs.Sheet.{vehiclesBefore}
+use Rattle.sheet.specs.RunningSums.{vehiclesBefore}
 use Rattle.sheet.specs.Demands.{Demands, demand, _next_, every, Says}
 use Rattle.report_words.specs.Report.{report}
 use Rattle.pooling.specs.Pool.{rowsTogether, pool, regionCheck, poolCheck}

@@ -1,6 +1,6 @@
 // Where pooling stops: the first sheet, the second, and the two together. The pooled sheet is not made for its checks: where both sheets
 // pass and agree, the number of its rows and of its vehicles are all that can refuse it, as is proved in the crate pooling.
-use crate::pool_length;
+use crate::length::pool_length;
 use checks::check_sheet;
 use checks::head::mark_check;
 use fields::GRID_START;

@@ -1,6 +1,6 @@
 // Pooling two sheets: the first's rows, then the second's, under the parking and the seasons of both.
 use crate::check::pool_answer;
-use fields::ROW_BYTES;
+use crate::length::pool_length;
 use fields::row_place;
 use fields::rows_of;
 use pooling::PoolAnswer;
@@ -16,6 +16,7 @@ ghost use Rattle.pooling.specs.PoolCall.{checkOf, PoolCall};
 ghost use Rattle.pooling.specs.Late.{Regions};
 
 mod check;
+pub mod length;
 
 // Where the row count stands, and how many numbers a byte has.
 const COUNT_LOW: usize = 6;
@@ -39,14 +40,6 @@ fn pool_byte(a: &[u8], b: &[u8], k: usize) -> u8
         return a[k];
     }
     b[row_place(b, 0) + (k - a.len())]
-}
-
-// How long the pooled sheet is: the first sheet, and the second's rows.
-pub fn pool_length(a: &[u8], b: &[u8]) -> usize
-    requires { ⌜ Regions (now a) (now b) ⌝ }
-    ensures { λ r. ⌜ r ≡ length (pool (now (a .entry)) (now (b .entry))) ⌝ }
-{
-    a.len() + ROW_BYTES * rows_of(b)
 }
 
 // The pooled sheet at the front of a buffer that has room for it.

@@ -7,7 +7,7 @@ use native.Mathlib.Decide.{decLe}
 use native.Mathlib.Omega.{arith}
 use lib.ListN.{length, getD, take, drop, drop-of-length-le}
 use lib.Seq.{sets, length-sets, sets-eq, ext-getD, length-take-le, getD-take}
-use Rattle.numbers.specs.Lists.{tab}
+use Rattle.numbers.specs.Lists.{tab, at}
 use Rattle.numbers.proofs.Lists.{tab-length, getD-tab, tab-ext, tab-at, sum-none, sum-more}
 use Rattle.numbers.proofs.Stores.{sets-before, sets-in, sets-beyond, drop-sets}
 use Rattle.sheet.specs.Bytes.{seasonsOf, rowsOf, cellsOf, seasonAt, rowAt}
@@ -21,7 +21,12 @@ use Rattle.report_words.proofs.ReportPlaces.{row-word-at}
 use Rattle.report_words.proofs.YearWords.{row-year-most}
 use Rattle.report_sums.proofs.BufferSums.{resummed-is}
 use Rattle.report_sums.specs.Renewed.{renewed}
-use Rattle.report_sums.specs.RowYear.{rowYear, RestHolds}
+use Rattle.report_sums.specs.RowYear.{rowYear}
+
+-- all words of the rows but those of row i are the report's
+pub record RestHolds (s : List ℕ) (i : ℕ) (words : List ℕ) : Type 0 where
+  pub before : (k : ℕ) → k < 6 * i → at words k ≡ reportWord s k
+  pub beyond : (k : ℕ) → 6 * i + 6 ≤ k → k < 6 * rowsOf s → at words k ≡ reportWord s k
 
 -- no season
 pub year-none : (s : List ℕ) (i : ℕ) → (0 ∷ 0 ∷ 0 ∷ 0 ∷ 0 ∷ 0 ∷ []) ≡ tab (rowYear s i 0) 6

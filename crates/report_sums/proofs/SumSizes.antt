@@ -6,9 +6,10 @@ use Prim.Native.Nat.{ℕ, suc, zero, _+_, _*_, _^_, _≤_, _<_}
 use native.Mathlib.Omega.{arith}
 use Rattle.sheet.specs.Limits.{rowsLimit, vehiclesLimit}
 use Rattle.sheet.specs.Bytes.{rowsOf, cellsOf, seasonList, rowAt}
-use Rattle.sheet.specs.Sheet.{vehiclesBefore}
+use Rattle.sheet.specs.RunningSums.{vehiclesBefore}
 use Rattle.masses.proofs.MassSizes.{vehicleMost, RowSized, word-most}
-use Rattle.report_words.specs.Report.{wordsOf, counted, subtotal, grandTotal, anyClass}
+use Rattle.report_words.specs.Report.{wordsOf, subtotal, grandTotal}
+use Rattle.report_words.specs.Categories.{counted, anyClass}
 
 -- a word that counts or not
 counted-most : (b : Bool) {word most : ℕ} → word ≤ most → counted b word ≤ most

@@ -7,7 +7,7 @@ use lib.ListN.{set}
 use lib.Seq.{sets}
 use Rattle.numbers.specs.Lists.{tab, at}
 use Rattle.sheet.specs.Bytes.{rowsOf, rowAt}
-use Rattle.report_words.specs.Report.{counted}
+use Rattle.report_words.specs.Categories.{counted}
 use Rattle.report_words.specs.Years.{category}
 
 -- word j of the first n rows that belong to a category, summed

@@ -13,11 +13,14 @@ use Rattle.sheet.specs.Versions.{seasonsStart, rowsMost}
 use Rattle.sheet.specs.Bytes.{rowsOf, countsAt, durationCounts, hourCounts, gridCounts, cellsOf, seasonFrom, seasonAt, seasonList}
 use Rattle.sheet.specs.Bytes.{equipmentAt, fittedCanister, fittedTank, canisterOf, tankOf, rowFrom, rowAt}
 use Rattle.sheet.specs.Check.{refuse, _then_, each}
-use Rattle.sheet.specs.Sheet.{vehiclesBefore, outside, lettersMissing, markCheck, numbersCheck, headCheck, lengthCheck}
-use Rattle.sheet.specs.Sheet.{parkingCheck, daysBefore, temperaturesWrong}
+use Rattle.sheet.specs.Sheet.{outside, lettersMissing, markCheck, numbersCheck, headCheck, lengthCheck}
+use Rattle.sheet.specs.RunningSums.{vehiclesBefore}
+use Rattle.sheet.specs.Sheet.{parkingCheck, temperaturesWrong}
+use Rattle.sheet.specs.RunningSums.{daysBefore}
 use Rattle.sheet.specs.Sheet.{seasonCheck, isAbsent, codeWrong, percentWrong, loadWrong, saturationAbove, someSeason, rowCheck, sheetCheck}
 use Rattle.masses.proofs.MassWidth.{no-vehicles}
-use Rattle.report_words.specs.Report.{reportLength, wordsOf, rowWords, car, lightDuty, twoWheeler, anyClass, counted}
+use Rattle.report_words.specs.Report.{wordsOf, rowWords}
+use Rattle.report_words.specs.Categories.{reportLength, car, lightDuty, twoWheeler, anyClass, counted}
 use Rattle.report_words.specs.Report.{subtotal, subtotals, grandTotal, report}
 use Rattle.inventory.specs.ReportCall.{reportCheck}
 use Rattle.text.specs.Ascii.{bytes}

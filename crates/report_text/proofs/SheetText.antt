@@ -13,7 +13,8 @@ use Rattle.sheet.specs.Bytes.{rowsOf}
 use Rattle.sheet.proofs.Versions.{rows-limit}
 use Rattle.sheet.proofs.Accepted.{accepted}
 use Rattle.sheet.proofs.Versions.{start-between}
-use Rattle.report_words.specs.Report.{report, reportLength}
+use Rattle.report_words.specs.Report.{report}
+use Rattle.report_words.specs.Categories.{reportLength}
 use Rattle.report_words.proofs.ReportPlaces.{report-length}
 use Rattle.inventory.specs.ReportCall.{reportCheck, written, ReportCall}
 use Rattle.inventory.proofs.CallConditions.{report-accepted, report-sheet}

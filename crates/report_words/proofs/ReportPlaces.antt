@@ -12,7 +12,8 @@ use lib.Seq.{getD-append-add}
 use Rattle.numbers.proofs.Lists.{tab-length, getD-tab}
 use Rattle.sheet.specs.Bytes.{rowsOf}
 use Rattle.masses.specs.Figures.{rowFigures}
-use Rattle.report_words.specs.Report.{reportLength, wordsOf, rowWords, car, lightDuty, twoWheeler, anyClass}
+use Rattle.report_words.specs.Report.{wordsOf, rowWords}
+use Rattle.report_words.specs.Categories.{reportLength, car, lightDuty, twoWheeler, anyClass}
 use Rattle.report_words.specs.Report.{subtotal, subtotals, grandTotal, report}
 use Rattle.report_words.specs.Years.{category}
 

@@ -2,7 +2,7 @@
 -- Assumes nothing.
 use mathlib.Core.List.{List, _++_}
 use mathlib.Core.Path.{_≡_, sym, _∙_, ap}
-use Prim.Native.Nat.{ℕ, _+_, _*_, _/_, _%_, _≤_, _<_}
+use Prim.Native.Nat.{ℕ, _+_, _*_, _/_, _%_, _^_, _≤_, _<_}
 use native.Mathlib.Omega.{arith}
 use lib.ListN.{length, getD, take, drop}
 use lib.Seq.{sets}
@@ -12,10 +12,14 @@ use Rattle.exact.specs.declared.Season.{Season}
 use Rattle.sheet.specs.Bytes.{seasonsOf, rowsOf, cellsOf, seasonAt, rowAt}
 use Rattle.sheet.proofs.Accepted.{Bytes, Accepted}
 use Rattle.masses.specs.Day.{dayFigures}
-use Rattle.report_words.specs.Years.{seasonFigure, yearWord, daysAdded, SumsFit, seasonAdded, SeasonFits, filled}
+use Rattle.report_words.specs.Years.{seasonFigure, yearWord, daysAdded, SumsFit, seasonAdded, filled}
 use Rattle.masses.proofs.MassSizes.{year-fits}
 use Rattle.report_words.proofs.Filled.{filled-run, filled-all, filled-beyond, filled-less, first-at}
 use Rattle.report_words.proofs.YearWords.{year-none, year-more, year-word-most}
+
+-- all words of the rows fit 64 bits after a season
+pub record SeasonFits (s : List ℕ) (season : Season) (words : List ℕ) : Type 0 where
+  pub word-fits : (k : ℕ) → k < 6 * rowsOf s → seasonAdded s season words k < 2 ^ 64
 
 -- Row i, where the rows before it have been added.
 module _ (s : List ℕ) (season : Season) (old words : List ℕ) (i : ℕ) (e : words ≡ filled (seasonAdded s season old) (6 * i) old) where

@@ -15,7 +15,7 @@ use Rattle.factors.specs.Units.{factorUnits, lowMicrograms, highMicrograms}
 use Rattle.factors.proofs.FactorBound.{low-below-high}
 use Rattle.sheet.specs.Limits.{daysLimit}
 use Rattle.sheet.specs.Bytes.{seasonsOf, rowsOf, cellsOf, seasonAt, seasonsFrom, seasonList, rowAt}
-use Rattle.sheet.specs.Sheet.{daysBefore}
+use Rattle.sheet.specs.RunningSums.{daysBefore}
 use Rattle.sheet.proofs.Accepted.{Bytes, Accepted}
 use Rattle.masses.specs.Figures.{µg, dayFigure, yearFigure, lowFigure, highFigure, rowFigures}
 use Rattle.report_words.specs.Report.{wordsOf}

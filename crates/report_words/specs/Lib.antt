@@ -1,3 +1,4 @@
+pub mod Categories
 pub mod Report
 pub mod Promise
 pub mod Years

@@ -6,8 +6,8 @@ use Prim.Native.Nat.{ℕ, _+_, _*_, _<_}
 use Rattle.numbers.specs.Lists.{at, sum}
 use Rattle.exact.specs.Masses.{diurnal, soak, running}
 use Rattle.sheet.specs.Bytes.{rowsOf, cellsOf, seasonList, rowAt}
-use Rattle.masses.specs.Figures.{MassBand}
-use Rattle.report_words.specs.Report.{car, lightDuty, twoWheeler, anyClass, counted}
+use Rattle.masses.specs.Bands.{MassBand}
+use Rattle.report_words.specs.Categories.{car, lightDuty, twoWheeler, anyClass, counted}
 
 -- Of the words that stand in a buffer. Document 01 leaves a low or high open within these bounds.
 module _ (s words : List ℕ) where

@@ -1,16 +1,12 @@
--- The words of the report of a sheet. Definitions only.
-use mathlib.Core.Bool.{Bool, true, false, _&&_}
+-- Need not be believed: all words of the report of a sheet as the program computes them. What they are promised to be is in Promise.
+use mathlib.Core.Bool.{Bool}
 use mathlib.Core.List.{List, [], _∷_, _++_}
 use Prim.Native.Nat.{ℕ, suc, zero, _+_, _*_}
-use lib.Dec.{leb, eqb}
 use lib.ListN.{getD}
 use Rattle.numbers.specs.Lists.{tab}
 use Rattle.sheet.specs.Bytes.{rowsOf, cellsOf, seasonList, rowAt}
 use Rattle.masses.specs.Figures.{rowFigures}
-
--- "6R + 26 u64 words"
-unfoldable pub reportLength : List ℕ → ℕ
-reportLength s = 6 * rowsOf s + 26
+use Rattle.report_words.specs.Categories.{car, lightDuty, twoWheeler, anyClass, counted}
 
 -- the six words of row i
 unfoldable pub wordsOf : List ℕ → ℕ → List ℕ
@@ -20,24 +16,6 @@ wordsOf s i = rowFigures (cellsOf s) (seasonList s) (rowAt s i)
 unfoldable pub rowWords : List ℕ → ℕ → List ℕ
 rowWords s zero = []
 rowWords s (suc n) = rowWords s n ++ wordsOf s n
-
--- "cars (1 to 3), light-duty (4), two-wheelers (5 to 9)", by class
-unfoldable pub car : ℕ → Bool
-car class = leb 1 class && leb class 3
-
-unfoldable pub lightDuty : ℕ → Bool
-lightDuty class = eqb class 4
-
-unfoldable pub twoWheeler : ℕ → Bool
-twoWheeler class = leb 5 class && leb class 9
-
-unfoldable pub anyClass : ℕ → Bool
-anyClass class = true
-
--- a word where the row belongs to the category, else 0
-unfoldable pub counted : Bool → ℕ → ℕ
-counted true word = word
-counted false word = 0
 
 -- "A subtotal's low is the sum of its rows' lows, its high that of their highs, 0 without rows": word j of the first n rows
 unfoldable pub subtotal : List ℕ → (ℕ → Bool) → ℕ → ℕ → ℕ

@@ -1,4 +1,4 @@
--- The figures on the way to the words of a report, as the program adds them up season by season. Definitions only.
+-- Need not be believed: the figures on the way to the words of a report, as the program adds them up season by season.
 use mathlib.Core.Bool.{Bool}
 use mathlib.Core.List.{List, _++_}
 use mathlib.Core.Path.{_≡_}
@@ -8,7 +8,8 @@ use Rattle.numbers.specs.Lists.{tab, sum}
 use Rattle.exact.specs.declared.Season.{Season}
 use Rattle.masses.specs.Day.{dayFigures}
 use Rattle.sheet.specs.Bytes.{rowsOf, cellsOf, seasonAt, rowAt}
-use Rattle.report_words.specs.Report.{car, lightDuty, twoWheeler, anyClass, report}
+use Rattle.report_words.specs.Report.{report}
+use Rattle.report_words.specs.Categories.{car, lightDuty, twoWheeler, anyClass}
 
 -- figure m of row i in season j, over its days
 unfoldable pub seasonFigure : List ℕ → ℕ → ℕ → ℕ → ℕ
@@ -22,10 +23,6 @@ yearWord s n k = sum (seasonFigure s (k / 6) (k % 6)) n
 abbrev pub seasonAdded : List ℕ → Season → List ℕ → ℕ → ℕ
 seasonAdded s season words k =
     getD words k 0 + season .days * getD (dayFigures (cellsOf s) season (rowAt s (k / 6))) (k % 6) 0
-
--- all words of the rows fit 64 bits then
-pub record SeasonFits (s : List ℕ) (season : Season) (words : List ℕ) : Type 0 where
-  pub word-fits : (k : ℕ) → k < 6 * rowsOf s → seasonAdded s season words k < 2 ^ 64
 
 -- the first n words replaced by those of f
 abbrev pub filled : (ℕ → ℕ) → ℕ → List ℕ → List ℕ

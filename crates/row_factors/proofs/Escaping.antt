@@ -32,7 +32,8 @@ use Rattle.factors.proofs.Gain.{gain-most}
 use Rattle.factors.proofs.Mean.{meanUnits-most}
 use Rattle.factors.proofs.Sizes.{parking-rise-most, raise-rise-most}
 use Rattle.bounds.specs.Exponential.{entries}
-use Rattle.bounds.specs.Weights.{apart, ahead}
+use Rattle.bounds.specs.Weights.{apart}
+use Rattle.bounds.specs.Ahead.{ahead}
 use Rattle.parking.specs.Grid.{markOf, apartOf, passedIn, cellsIn, sumPlace, GridReady}
 use Rattle.parking.specs.SeasonList.{ListFits}
 use Rattle.parking.proofs.Passed.{passedIn-tab}

@@ -11,7 +11,7 @@ use Rattle.numbers.specs.Lists.{tab, at, AllAtMost}
 use Rattle.numbers.proofs.Lists.{tab-ext, tab-at-most, tab-length, getD-tab}
 use Rattle.numbers.proofs.Stores.{sets-before, sets-in}
 use Rattle.bounds.specs.Short.{binary}
-use Rattle.bounds.specs.Weights.{ahead}
+use Rattle.bounds.specs.Ahead.{ahead}
 use Rattle.exact.specs.declared.Canister.{Canister}
 use Rattle.exact.specs.declared.Canister.the-variants.{None, Small, Medium, Large}
 use Rattle.exact.specs.declared.Season.{Season}

@@ -1,11 +1,11 @@
--- What a season gives to every row. Definitions only.
+-- Need not be believed: what the program computes once for all rows of a season.
 use mathlib.Core.List.{List}
 use mathlib.Core.Path.{_≡_}
 use Prim.Native.Nat.{ℕ, _+_, _/_, _<_}
 use Rattle.numbers.specs.Lists.{tab, at}
 use Rattle.bounds.specs.Exponential.{entries}
 use Rattle.bounds.specs.Short.{binary}
-use Rattle.bounds.specs.Weights.{ahead}
+use Rattle.bounds.specs.Ahead.{ahead}
 use Rattle.exact.specs.declared.Canister.{Canister}
 use Rattle.exact.specs.declared.Canister.the-variants.{None, Small, Medium, Large}
 use Rattle.exact.specs.declared.Season.{Season}

@@ -1,4 +1,4 @@
--- What the escapes of a row in a season are, from which its factors are made up. Definitions only.
+-- Need not be believed: the computed escapes of a row in a season, from which its seven factors are made.
 use mathlib.Core.List.{List, [], _∷_}
 use mathlib.Core.Path.{_≡_}
 use Prim.Native.Nat.{ℕ, _+_, _*_, _/_, _^_, _<_}

@@ -32,7 +32,7 @@ ghost use mathlib.Core.Path.{_≡_};
 ghost use Prim.Native.Nat.{_+_, _^_, _<_, _≤_};
 ghost use lib.ListN.{length};
 ghost use Rattle.sheet.specs.Bytes.{rowsOf, rowPlace};
-ghost use Rattle.sheet.specs.Sheet.{vehiclesBefore};
+ghost use Rattle.sheet.specs.RunningSums.{vehiclesBefore};
 ghost use Rattle.checks.specs.Passed.{SeasonsPassed};
 ghost use Rattle.findings.specs.Lines.{eachFinding};
 ghost use Rattle.findings.specs.Table.{lastTechnology, classFinding, percentFinding, fleetFinding, useFinding, loadFinding};

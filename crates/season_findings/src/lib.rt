@@ -21,7 +21,7 @@ ghost use mathlib.Core.Path.{_≡_};
 ghost use Prim.Native.Nat.{_+_, _*_, _<_, _≤_};
 ghost use lib.ListN.{length};
 ghost use Rattle.sheet.specs.Bytes.{seasonsOf, seasonPlace, rowPlace};
-ghost use Rattle.sheet.specs.Sheet.{daysBefore};
+ghost use Rattle.sheet.specs.RunningSums.{daysBefore};
 ghost use Rattle.findings.specs.Lines.{eachFinding};
 ghost use Rattle.findings.specs.Table.{shifted, daysFinding, weatherFinding, seasonFinding};
 

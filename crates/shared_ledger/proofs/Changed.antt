@@ -19,7 +19,7 @@ use Rattle.sheet.proofs.Checks.{then-pass, refuse-pass, met-passes}
 use Rattle.sheet.proofs.BeforeRows.{rows, season-list, cells}
 use Rattle.sheet.proofs.Count.{before-rows, row-changed, row-kept}
 use Rattle.sheet.proofs.RowDemands.{withVehicles}
-use Rattle.report_words.specs.Report.{counted}
+use Rattle.report_words.specs.Categories.{counted}
 use Rattle.inventory.specs.ReportCall.{reportCheck}
 use Rattle.inventory.proofs.CallConditions.{report-judged, allowed}
 use Rattle.ledger.specs.declared.Call.{Call}

@@ -13,8 +13,8 @@ use lib.Dec.{eqb}
 use Rattle.numbers.specs.Lists.{at, sum}
 use Rattle.sheet.specs.declared.Check.the-variants.{Pass}
 use Rattle.sheet.specs.Bytes.{rowsOf, rowAt}
-use Rattle.sheet.specs.Sheet.{vehiclesBefore}
-use Rattle.report_words.specs.Report.{counted}
+use Rattle.sheet.specs.RunningSums.{vehiclesBefore}
+use Rattle.report_words.specs.Categories.{counted}
 use Rattle.shared_ledger.specs.Opening.{vehiclesEach, participants, vehiclesHeld, sharedCheck}
 use Rattle.shared_ledger.specs.Calls.{ownerOf}
 use Rattle.shared_ledger.proofs.Conditions.{shared-share}

@@ -16,7 +16,8 @@ use Rattle.sheet.specs.declared.Check.the-variants.{Pass, Refused}
 use Rattle.sheet.specs.Bytes.{rowsOf, rowAt}
 use Rattle.sheet.proofs.RowDemands.{withVehicles}
 use Rattle.sheet.specs.Check.{refuse, _then_}
-use Rattle.report_words.specs.Report.{counted, wordsOf}
+use Rattle.report_words.specs.Report.{wordsOf}
+use Rattle.report_words.specs.Categories.{counted}
 use Rattle.ledger.specs.declared.Call.{Call}
 use Rattle.ledger.specs.Machine.{rowOf}
 use Rattle.ledger.specs.Ledger.{Ledger, after, opened}

@@ -18,7 +18,8 @@ use Rattle.sheet.specs.Counts.{countsOf}
 use Rattle.sheet.specs.Check.{refuse, _then_}
 use Rattle.sheet.proofs.BeforeRows.{rows}
 use Rattle.masses.specs.Figures.{rowFigures}
-use Rattle.report_words.specs.Report.{reportLength, wordsOf, report}
+use Rattle.report_words.specs.Report.{wordsOf, report}
+use Rattle.report_words.specs.Categories.{reportLength}
 use Rattle.report_words.proofs.ReportPlaces.{report-length, row-word-at}
 use Rattle.inventory.proofs.Written.{written-first}
 use Rattle.ledger.specs.declared.Call.{Call}

@@ -12,7 +12,8 @@ use Rattle.sheet.specs.Bytes.{rowsOf, rowPlace, rowAt}
 use Rattle.sheet.specs.Check.{refuse, _then_, each, numberOf, placeOf}
 use Rattle.sheet.specs.Demands.{Demands, demand, _next_, every, Says}
 use Rattle.sheet.specs.Sheet.{outside}
-use Rattle.report_words.specs.Report.{counted, report}
+use Rattle.report_words.specs.Report.{report}
+use Rattle.report_words.specs.Categories.{counted}
 use Rattle.report_words.specs.Promise.{ReportPromise}
 use Rattle.inventory.specs.ReportCall.{reportCheck, reportDemands, written}
 

@@ -18,7 +18,7 @@ use Rattle.sheet.specs.Bytes.{rowPlace, rowAt}
 use Rattle.sheet.specs.Check.{refuse}
 use Rattle.sheet.specs.Sheet.{outside}
 use Rattle.sheet.proofs.Checks.{true-is-not-false}
-use Rattle.report_words.specs.Report.{counted}
+use Rattle.report_words.specs.Categories.{counted}
 use Rattle.shared_ledger.specs.Opening.{participants, rowsEach, vehiclesEach, rowsHeld, vehiclesHeld, shareWrong, shareCheck}
 
 pub theirs-is : (owner who v : ℕ) → owner ≡ who → v ≡ counted (eqb owner who) v

@@ -14,7 +14,7 @@ ghost use Rattle.sheet.specs.declared.Check.the-variants.{Pass};
 ghost use Rattle.sheet.specs.Bytes.{rowsOf};
 ghost use Rattle.sheet.specs.Check.{each};
 ghost use Rattle.sheet.specs.Sheet.{sheetCheck};
-ghost use Rattle.report_words.specs.Report.{counted};
+ghost use Rattle.report_words.specs.Categories.{counted};
 ghost use Rattle.shared_ledger.specs.Opening.{vehiclesHeld, shareCheck, sharedCheck};
 
 // The participants are 1 to this one.

@@ -17,7 +17,8 @@ use Rattle.sheet.specs.Integers.{u8At, u16At}
 use Rattle.sheet.specs.Versions.{versionOf, rowsMost, seasonsStart}
 use Rattle.sheet.specs.Bytes.{seasonsOf, rowsOf, durationCounts, hourCounts, gridCounts, seasonPlace, rowPlace}
 use Rattle.sheet.specs.Bytes.{seasonFrom, seasonAt, rowFrom, rowAt, equipmentAt, tankOf}
-use Rattle.sheet.specs.Sheet.{daysBefore, vehiclesBefore, sheetCheck}
+use Rattle.sheet.specs.Sheet.{sheetCheck}
+use Rattle.sheet.specs.RunningSums.{daysBefore, vehiclesBefore}
 use Rattle.sheet.specs.Range.{SeasonInRange}
 use Rattle.sheet.specs.Demands.{Met}
 use Rattle.sheet.proofs.Equipment.{equipment-tank, equipment-class}

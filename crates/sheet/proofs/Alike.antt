@@ -22,7 +22,8 @@ use Rattle.sheet.specs.Bytes.{seasonsOf, rowsOf, cellsOf, rowPlace, seas
 use Rattle.sheet.specs.Bytes.{equipmentAt, fittedCanister, fittedTank, writtenCanister, canisterOf, tankOf}
 use Rattle.sheet.specs.ByClass.{codeOf, Written}
 use Rattle.sheet.specs.Check.{each}
-use Rattle.sheet.specs.Sheet.{lengthCheck, vehiclesBefore, codeWrong, saturationAbove, mileageWrong, rowCheck, sheetCheck}
+use Rattle.sheet.specs.Sheet.{lengthCheck, codeWrong, saturationAbove, mileageWrong, rowCheck, sheetCheck}
+use Rattle.sheet.specs.RunningSums.{vehiclesBefore}
 use Rattle.sheet.proofs.Equipment.{equipment-tank}
 use Rattle.sheet.proofs.Local.{Same, byte-at, word-at, equipment-same, row-counts, row-same}
 use Rattle.sheet.proofs.BeforeRows.{BeforeRows, each-cong, version, start, seasons, rows, season, season-list}

@@ -16,7 +16,8 @@ use Rattle.sheet.specs.Bytes.{seasonsOf, rowsOf, durationCounts, hourCou
 use Rattle.sheet.specs.Bytes.{rowPlace, seasonAt, seasonsFrom, seasonList}
 use Rattle.sheet.specs.Check.{_then_, each}
 use Rattle.sheet.specs.Sheet.{lettersMissing, markCheck, numbersCheck, headCheck, lengthCheck, parkingCheck}
-use Rattle.sheet.specs.Sheet.{daysBefore, seasonCheck, someSeason, rowCheck, sheetCheck}
+use Rattle.sheet.specs.Sheet.{seasonCheck, someSeason, rowCheck, sheetCheck}
+use Rattle.sheet.specs.RunningSums.{daysBefore}
 use Rattle.sheet.proofs.Versions.{start-grid, start-between, start-same}
 use Rattle.sheet.proofs.Checks.{then-pass, each-pass}
 use Rattle.sheet.proofs.Local.{Same, season-same, counts-same}

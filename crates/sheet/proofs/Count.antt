@@ -16,7 +16,8 @@ use Rattle.sheet.specs.Integers.{u8At, u32At}
 use Rattle.sheet.specs.Versions.{versionOf}
 use Rattle.sheet.specs.Bytes.{seasonsOf, rowsOf, rowPlace, rowFrom, rowAt}
 use Rattle.sheet.specs.Counts.{fourBytes, withCount}
-use Rattle.sheet.specs.Sheet.{vehiclesBefore, rowCheck, sheetCheck}
+use Rattle.sheet.specs.Sheet.{rowCheck, sheetCheck}
+use Rattle.sheet.specs.RunningSums.{vehiclesBefore}
 use Rattle.sheet.specs.Demands.{Met, MileageRight, rowDemands}
 use Rattle.sheet.proofs.Checks.{met-passes}
 use Rattle.sheet.proofs.Conditions.{row-judged}

@@ -11,7 +11,7 @@ use borrow.Author.Tests.{lt-leb}
 use Rattle.sheet.specs.Limits.{rowsLimit, vehiclesLimit}
 use Rattle.sheet.specs.Versions.{versionOf}
 use Rattle.sheet.specs.Bytes.{rowsOf, rowAt}
-use Rattle.sheet.specs.Sheet.{vehiclesBefore}
+use Rattle.sheet.specs.RunningSums.{vehiclesBefore}
 use Rattle.sheet.proofs.Versions.{most-few}
 use Rattle.sheet.proofs.Accepted.{Accepted}
 

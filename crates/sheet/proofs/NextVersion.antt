@@ -13,7 +13,8 @@ use Rattle.sheet.specs.Integers.{u8At, u16At}
 use Rattle.sheet.specs.Versions.{hasGrid, hasManyRows, seasonsStart}
 use Rattle.sheet.specs.Bytes.{seasonsOf, rowsOf, gridCounts, cellsOf, rowPlace, seasonAt, seasonsFrom, seasonList, rowAt}
 use Rattle.sheet.specs.Limits.{fleetLimit}
-use Rattle.sheet.specs.Sheet.{daysBefore, vehiclesBefore, someSeason, sheetCheck}
+use Rattle.sheet.specs.Sheet.{someSeason, sheetCheck}
+use Rattle.sheet.specs.RunningSums.{daysBefore, vehiclesBefore}
 use Rattle.sheet.specs.Demands.{Met, MileageRight, numbersDemands}
 use Rattle.sheet.specs.NextVersion.{NextVersion, SameRow, FourthVersion}
 use Rattle.sheet.proofs.Versions.{grid-version, rows-many, rows-few, most-many, most-few, start-grid, cells-grid}

@@ -9,7 +9,7 @@ use Rattle.sheet.specs.Limits.{vehiclesLimit, fleetLimit}
 use Rattle.sheet.specs.Integers.{u8At, u16At}
 use Rattle.sheet.specs.Versions.{versionOf}
 use Rattle.sheet.specs.Bytes.{seasonsOf, rowPlace, seasonAt, rowAt, equipmentAt}
-use Rattle.sheet.specs.Sheet.{vehiclesBefore}
+use Rattle.sheet.specs.RunningSums.{vehiclesBefore}
 use Rattle.sheet.specs.Demands.{Met, ExponentMost, MileageRight, rowDemands}
 use Rattle.sheet.proofs.Local.{Same, byte-at, word-at, equipment-same, row-same}
 

@@ -13,7 +13,8 @@ use Rattle.sheet.specs.declared.Check.the-variants.{Pass}
 use Rattle.sheet.specs.Limits.{countsLimit, gridLimit}
 use Rattle.sheet.specs.Versions.{versionOf, hasGrid, seasonsStart}
 use Rattle.sheet.specs.Bytes.{seasonsOf, durationCounts, hourCounts, gridCounts, cellsOf, rowPlace, seasonAt, seasonsFrom, seasonList, rowAt}
-use Rattle.sheet.specs.Sheet.{daysBefore, sheetCheck}
+use Rattle.sheet.specs.Sheet.{sheetCheck}
+use Rattle.sheet.specs.RunningSums.{daysBefore}
 use Rattle.sheet.specs.Demands.{Met, markDemands, numbersDemands, seasonDemands, rowDemands}
 use Rattle.sheet.specs.SameGrid.{GridOf}
 use Rattle.sheet.proofs.Versions.{most-few, start-grid, start-lists, cells-grid, cells-lists}

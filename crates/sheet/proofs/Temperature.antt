@@ -9,7 +9,8 @@ use Rattle.numbers.specs.Fraction.{Fraction, _≤ᶠ_, _≈ᶠ_, _+ᶠ_, _-ᶠ_
 use Rattle.bounds.specs.Power.{degrees}
 use Rattle.numbers.proofs.Order.{≈-refl, ≈-trans, ≤-by, ≤-trans, ≈-sym, +-cong, sub-cong, *-cong}
 use Rattle.exact.specs.declared.Season.{Season}
-use Rattle.bounds.specs.Weights.{w, apart, ahead}
+use Rattle.bounds.specs.Weights.{w, apart}
+use Rattle.bounds.specs.Ahead.{ahead}
 use Rattle.bounds.proofs.Laws.{w-most, apart-alike}
 use Rattle.exact.specs.Day.{signedTenths, temperature}
 use Rattle.sheet.specs.Limits.{coldLimit, warmLimit, vpLimit}

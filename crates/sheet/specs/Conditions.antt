@@ -16,7 +16,8 @@ use Rattle.sheet.specs.declared.Check.the-variants.{Refused}
 use Rattle.sheet.specs.Integers.{u8At, u16At}
 use Rattle.sheet.specs.Versions.{versionOf, rowsMost, seasonsStart}
 use Rattle.sheet.specs.Bytes.{seasonsOf, rowsOf, durationCounts, hourCounts, gridCounts, rowPlace, seasonAt, rowAt, equipmentAt}
-use Rattle.sheet.specs.Sheet.{daysBefore, vehiclesBefore, sheetCheck}
+use Rattle.sheet.specs.Sheet.{sheetCheck}
+use Rattle.sheet.specs.RunningSums.{daysBefore, vehiclesBefore}
 use Rattle.sheet.specs.Demands.{ExponentMost}
 
 -- in some season, whose record starts at p, this does not hold of it and of the days before it

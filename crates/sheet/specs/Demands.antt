@@ -18,7 +18,7 @@ use Rattle.sheet.specs.Limits.{vpLeast, vpLimit, percentLimit, tankLimit
 use Rattle.sheet.specs.Integers.{u8At, u16At}
 use Rattle.sheet.specs.Versions.{versionOf, rowsMost, seasonsStart}
 use Rattle.sheet.specs.Bytes.{seasonsOf, rowsOf, durationCounts, hourCounts, gridCounts, seasonPlace, rowPlace, seasonAt, rowAt, equipmentAt}
-use Rattle.sheet.specs.Sheet.{daysBefore, vehiclesBefore}
+use Rattle.sheet.specs.RunningSums.{daysBefore, vehiclesBefore}
 
 -- Demands in their order: one with its number and place, one after another, and those on records 0, 1, .. n − 1.
 infixr 5 _next_

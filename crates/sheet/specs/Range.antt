@@ -1,4 +1,5 @@
--- What is known of the values of an accepted sheet, as whole numbers. For `requires` and proofs; nothing here has to be believed.
+-- The values of an accepted sheet as whole numbers: the hypothesis of request One's theorems, and the `requires` of the functions of a row.
+-- That every accepted sheet has them is proved, so that nothing here has to be believed of a call.
 use mathlib.Core.Path.{_≡_}
 use Prim.Native.Nat.{ℕ, _+_, _*_, _-_, _%_, _^_, _≤_, _<_}
 use Rattle.bounds.specs.Weights.{w}

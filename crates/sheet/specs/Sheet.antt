@@ -1,4 +1,5 @@
--- "Where a sheet stops": the table of document 01, numbers 1 to 21, with numbers 24 to 26 of document 02. Definitions only.
+-- Need not be believed: "Where a sheet stops" as a function that the program follows, numbers 1 to 21 of document 01 with numbers 24 to 26 of
+-- document 02. Demands has the same table in plain arithmetic, and that both agree is proved.
 use mathlib.Core.Bool.{Bool, true, false, not, _&&_, _||_}
 use mathlib.Core.List.{List}
 use Prim.Native.Nat.{ℕ, suc, zero, _+_, _*_}
@@ -20,6 +21,7 @@ use Rattle.sheet.specs.Limits.{vpLeast, vpLimit, percentLimit, tankLimit
 use Rattle.sheet.specs.Integers.{u8At, u16At}
 use Rattle.sheet.specs.Versions.{versionOf, hasGrid, hasMileage, hasManyRows, rowsMost, seasonsStart}
 use Rattle.sheet.specs.Bytes.{seasonsOf, rowsOf, durationCounts, hourCounts, gridCounts, seasonPlace, rowPlace, seasonAt, rowAt, equipmentAt}
+use Rattle.sheet.specs.RunningSums.{daysBefore, vehiclesBefore}
 use Rattle.sheet.specs.Check.{refuse, _then_, each}
 
 -- a number outside least to most
@@ -60,11 +62,6 @@ parkingCheck s =
     refuse (not (hasGrid s) && outside 1 countsLimit (total (hourCounts s))) 9 56 then
     refuse (hasGrid s && outside 1 gridLimit (total (gridCounts s))) 24 8
 
--- the days of the first i seasons
-unfoldable pub daysBefore : List ℕ → ℕ → ℕ
-daysBefore s zero = 0
-daysBefore s (suc i) = daysBefore s i + (seasonAt s i) .days
-
 -- "each −300 to 500, lowest not above highest", in tenths of °C
 unfoldable pub temperaturesWrong : Season → Bool
 temperaturesWrong season =
@@ -80,11 +77,6 @@ seasonCheck s i =
     refuse (outside 1 daysLimit (season .days) || ltb daysLimit (daysBefore s i + season .days)) 10 place then
     refuse (temperaturesWrong season) 11 place then
     refuse (outside vpLeast vpLimit (season .vp)) 12 place
-
--- the vehicles of the first i rows
-unfoldable pub vehiclesBefore : List ℕ → ℕ → ℕ
-vehiclesBefore s zero = 0
-vehiclesBefore s (suc i) = vehiclesBefore s i + (rowAt s i) .vehicles
 
 -- "class and technology not in the table"
 unfoldable pub isAbsent : Equipment → Bool

@@ -13,12 +13,12 @@ use Rattle.parking.proofs.Products.{products-in-range}
 use Rattle.factors.proofs.Sizes.{highMicrograms-most}
 use Rattle.sheet.specs.Versions.{hasGrid}
 use Rattle.sheet.specs.Bytes.{seasonsOf, rowsOf, durationCounts, hourCounts, gridCounts, cellsOf, seasonAt, seasonsFrom, seasonList, rowAt}
-use Rattle.sheet.specs.Sheet.{daysBefore}
+use Rattle.sheet.specs.RunningSums.{daysBefore}
 use Rattle.sheet.proofs.Versions.{grid-version, lists-version, cells-grid, cells-lists}
 use Rattle.sheet.proofs.Counts.{counts-length}
 use Rattle.sheet.proofs.Accepted.{Bytes, AcceptedRow, Accepted}
 use Rattle.sheet.proofs.InRange.{row-in-range}
-use Rattle.masses.specs.Figures.{allDays}
+use Rattle.masses.specs.Bands.{allDays}
 use Rattle.masses.specs.AnyCounts.{Every, Shares, InRange, Enclosed}
 use Rattle.masses.proofs.AnyCounts.{factors-enclosed}
 use Rattle.masses.proofs.MassSizes.{Sized, RowSized}

@@ -7,6 +7,7 @@ use native.Mathlib.Omega.{arith}
 use Rattle.exact.specs.declared.Season.{Season}
 use Rattle.exact.specs.declared.Row.{Row}
 use Rattle.sheet.specs.Limits.{mileageLimit}
+use Rattle.sheet.specs.Range.{RowInRange}
 use Rattle.sheet.specs.Versions.{versionOf}
 use Rattle.sheet.specs.Bytes.{seasonsOf, rowsOf, seasonAt, rowAt}
 use Rattle.sheet.proofs.Accepted.{Bytes, Accepted, accepted}
@@ -15,7 +16,13 @@ use Rattle.row_factors.specs.declared.season.AtSeason.{AtSeason}
 use Rattle.row_factors.specs.Season.{Lent}
 use Rattle.row_factors.specs.Seven.{sevenUnits}
 use Rattle.masses.specs.Day.{UseInRange}
-use Rattle.sheet_factors.specs.Lent.{SheetLent, SeasonLent}
+use Rattle.sheet_factors.specs.Lent.{SheetLent}
+
+-- what is computed once of an accepted sheet and one of its seasons, for all its rows
+pub record SeasonLent (s tables grid day : List ℕ) (given : AtSeason) : Type 0 where
+  pub sheet : SheetLent s tables grid
+  pub lent : Lent tables grid day given
+  pub rows-in : (i : ℕ) → i < rowsOf s → RowInRange (given .season) (rowAt s i)
 
 -- the shares and trips of row i
 pub use-in-range : {s : List ℕ} → Accepted s → {i : ℕ} → i < rowsOf s → UseInRange (rowAt s i)

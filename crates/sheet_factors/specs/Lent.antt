@@ -1,4 +1,4 @@
--- What is made once of an accepted sheet, and lent to the functions of its seasons and rows. Definitions only.
+-- Need not be believed: what the program computes once of an accepted sheet, for the `requires` of the functions of its seasons and rows.
 use mathlib.Core.List.{List}
 use mathlib.Core.Path.{_≡_}
 use Prim.Native.Nat.{ℕ, _<_}
@@ -23,9 +23,3 @@ pub record SheetLent (s tables grid : List ℕ) : Type 0 where
 -- what the canister of each of its rows keeps of its load
 pub record RowsKept (s kept : List ℕ) : Type 0 where
   pub kept-of : (i : ℕ) → i < rowsOf s → KeptOf (rowAt s i) (getD kept i 0)
-
--- with one of its seasons, for all its rows
-pub record SeasonLent (s tables grid day : List ℕ) (given : AtSeason) : Type 0 where
-  pub sheet : SheetLent s tables grid
-  pub lent : Lent tables grid day given
-  pub rows-in : (i : ℕ) → i < rowsOf s → RowInRange (given .season) (rowAt s i)

@@ -13,7 +13,8 @@ use Rattle.sheet.specs.Bytes.{rowsOf}
 use Rattle.sheet.specs.Check.{numberOf}
 use Rattle.sheet.proofs.Accepted.{Accepted}
 use Rattle.sheet.proofs.Versions.{start-between}
-use Rattle.report_words.specs.Report.{reportLength, report}
+use Rattle.report_words.specs.Report.{report}
+use Rattle.report_words.specs.Categories.{reportLength}
 use Rattle.report_words.proofs.ReportPlaces.{report-length, total-at}
 use Rattle.inventory.specs.ReportCall.{reportCheck, ReportCall}
 use Rattle.inventory.proofs.CallConditions.{report-accepted, report-judged, number-zero}

@@ -1,4 +1,4 @@
--- How the names of the species stand in the code: one text, and where each starts. Nothing rests on reading it. Definitions only.
+-- Need not be believed: how the names of the species are written in the code, as one text, and where each starts.
 use mathlib.Core.List.{List, [], _∷_, _++_}
 use Prim.Native.Nat.{ℕ}
 use Rattle.text.specs.Ascii.{bytes}

@@ -16,9 +16,9 @@ use Rattle.bounds.proofs.Units.{units}
 use Rattle.bounds.proofs.Line.{rising, along}
 use Rattle.exact.specs.Canister.{a, b}
 use Rattle.exact.specs.Mileage.{g, driven, startingLoad, Reaches}
-use Rattle.thresholds.specs.Thresholds.{firstKilometres, margin, enough, short}
+use Rattle.thresholds.specs.Thresholds.{firstKilometres, margin, enough, logLower}
 use Rattle.thresholds.proofs.Threshold.{exponents}
-use Rattle.thresholds.proofs.Found.{enough-reaches, enough-least, short-enough, short-fails}
+use Rattle.thresholds.proofs.Found.{enough-reaches, enough-least, lower-enough, lower-fails}
 use Rattle.starting_loads.specs.Steps.{stepCount}
 use Rattle.starting_loads.specs.Net.{net, startUnits}
 use Rattle.starting_loads.proofs.Bracket.{startingLoad-balanced}
@@ -99,19 +99,19 @@ module _ (A K h σ M : ℕ) (vp s saturation T : Fraction) (ea : a vp T ≈ᶠ e
   where
     -- what is kept, as it is computed
     abbrev G : ℕ
-    G = net h (short M)
+    G = net h (logLower M)
 
-    short-least : 282 * 10 ^ 12 ≤ short M
-    short-least = omega (arith, enough-least M least most, short-enough M least most)
+    lower-least : 282 * 10 ^ 12 ≤ logLower M
+    lower-least = omega (arith, enough-least M least most, lower-enough M least most)
 
     -- a load that reaches M has a g of at least G
     low : (n : ℕ) → 40 ≤ n → (m : Fraction) → Reaches n vp s T M saturation m → units G ≤ᶠ g n vp s T m
     unfolding driven
     low n n40 m r =
         let x : Fraction = g n vp s T m in
-        either (exponents (short M)) (drivenExponent s x)
-        (λ l. net-low h (short M) G x h0 (net-above h (short M) h0 short-least) (≤-trans l (≈→≤ (drivenExponent-cong x es))))
-        (λ l. absurd (short-fails M least most n n40 (≤-trans (r .far) (E-mono n l))))
+        either (exponents (logLower M)) (drivenExponent s x)
+        (λ l. net-low h (logLower M) G x h0 (net-above h (logLower M) h0 lower-least) (≤-trans l (≈→≤ (drivenExponent-cong x es))))
+        (λ l. absurd (lower-fails M least most n n40 (≤-trans (r .far) (E-mono n l))))
 
     -- one that does not has a g of at most G and `netError`
     high : (n : ℕ) → 40 ≤ n → (m : Fraction) → ¬ Reaches n vp s T M saturation m → g n vp s T m ≤ᶠ units (G + netError)
@@ -120,7 +120,7 @@ module _ (A K h σ M : ℕ) (vp s saturation T : Fraction) (ea : a vp T ≈ᶠ e
         let x : Fraction = g n vp s T m in
         either (drivenExponent s x) (exponents (enough M))
         (λ l.
-        net-high h (enough M) (G + netError) x h0 (rw (← (short-enough M least most)) (net-below h (short M) h0 short-least))
+        net-high h (enough M) (G + netError) x h0 (rw (← (lower-enough M least most)) (net-below h (logLower M) h0 lower-least))
         (≤-trans (≈→≥ (drivenExponent-cong x es)) l))
         (λ l. absurd (r (record { far = ≤-trans (enough-reaches M least most n n40) (E-mono n l) })))
 

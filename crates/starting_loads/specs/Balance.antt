@@ -1,4 +1,4 @@
--- What the steps ask of a canister. Definitions only.
+-- Need not be believed: what the steps towards a starting load ask of a canister.
 use mathlib.Core.List.{List}
 use Prim.Native.Nat.{ℕ, _*_, _^_, _<_, _≤_, min}
 use Rattle.numbers.specs.Lists.{at}

@@ -1,4 +1,4 @@
--- The computed starting load: which whole number the program finds. Definitions only.
+-- Need not be believed: the computed starting load, that is which whole number the program finds.
 -- A load m is G, the part that is kept, and what is lost at it: m = G + E(a + b·s·m). Newton's steps come up to it from G.
 -- Loads are in units of 2⁻⁴⁰ g; a and 2·b·s are held in units of 2⁻⁴⁴, a above −16.
 use mathlib.Core.List.{List}

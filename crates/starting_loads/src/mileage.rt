@@ -1,5 +1,5 @@
 // What a mileage says of a canister's load: the part of it that is kept, in units of 2^-40 g.
-use thresholds::short;
+use thresholds::log_lower;
 ghost use mathlib.Core.Path.{_≡_};
 ghost use Prim.Native.Nat.{_*_, _^_, _<_, _≤_};
 ghost use Rattle.bounds.specs.Exponential.{entries};
@@ -28,5 +28,5 @@ pub fn net(tables: &[u64; 1907], mileage: u64, halves: u64) -> u64
     requires { ⌜ (now tables ≡ entries) × (firstKilometres ≤ mileage) × (mileage ≤ 10 ^ 6) × (0 < halves) ⌝ }
     ensures { λ r. ⌜ (r ≡ netOf halves mileage) × (r < 2 ^ 50) ⌝ }
 {
-    kept(short(tables, mileage), halves)
+    kept(log_lower(tables, mileage), halves)
 }

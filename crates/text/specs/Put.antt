@@ -1,4 +1,4 @@
--- What a function that puts a text into a buffer requires, and what it leaves. Definitions only.
+-- Need not be believed: what a function that writes a text into a buffer requires, and what it leaves there.
 use mathlib.Core.List.{List}
 use mathlib.Core.Path.{_≡_}
 use Prim.Native.Nat.{ℕ, _+_, _^_, _<_}

@@ -1,4 +1,4 @@
--- What the search finds, for M from 17 to 1,000,000 and every n from 40 upward: E(enough) is at least M, E(short) is below M.
+-- What the search finds, for M from 17 to 1,000,000 and every n from 40 upward: E(enough) is at least M, E(logLower) is below M.
 -- Assumes nothing.
 use mathlib.Core.Bool.{Bool, true, false, cond}
 use mathlib.Core.Path.{_≡_, refl, subst}
@@ -14,7 +14,7 @@ use Rattle.bounds.specs.Exponential.{exponential}
 use Rattle.numbers.proofs.Order.{≤-trans, ratio}
 use Rattle.bounds.proofs.Laws.{exponential-at-0, exponential-at-1·41, E-to-2·8201, far-triple, far-2, far-14}
 use Rattle.bounds.specs.WholeExponents.{far}
-use Rattle.thresholds.specs.Thresholds.{nearError, within, digit, digits, firstAfter, firstKilometres, wholeAbove, enough, margin, short}
+use Rattle.thresholds.specs.Thresholds.{nearError, within, digit, digits, firstAfter, firstKilometres, wholeAbove, enough, margin, logLower}
 use Rattle.thresholds.proofs.Threshold.{exponents, reached, beyond}
 
 -- The test, in whole numbers.
@@ -174,14 +174,14 @@ module _ (M : ℕ) (least : firstKilometres ≤ M) (most : M ≤ 10 ^ 6) where
       ]
 
   -- the two are a margin apart
-  pub short-enough : short M + margin ≡ enough M
-  unfolding short
-  short-enough = omega (arith, enough-least)
+  pub lower-enough : logLower M + margin ≡ enough M
+  unfolding logLower
+  lower-enough = omega (arith, enough-least)
 
-  -- E(short) is below M
-  pub short-fails : (n : ℕ) → 40 ≤ n → ¬ (whole M ≤ᶠ E n (exponents (short M)))
-  unfolding enough short
-  short-fails =
+  -- E(logLower) is below M
+  pub lower-fails : (n : ℕ) → 40 ≤ n → ¬ (whole M ≤ᶠ E n (exponents (logLower M)))
+  unfolding enough logLower
+  lower-fails =
       let c : ℕ = wholeAbove M in
       let d : ℕ = digits M c 47 0 in
       let d47 : d < 0 + 2 ^ 47 = last .below in

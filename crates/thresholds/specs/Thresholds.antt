@@ -1,4 +1,4 @@
--- The exponent at which E reaches a whole number M of kilometres: which numbers the program finds. Definitions only.
+-- Need not be believed: the exponent at which E reaches a whole number M of kilometres, as the program finds it.
 -- Exponents are in units of 10⁻¹⁴, E at whole exponents in units of 2⁻³⁰.
 -- With c the first whole exponent where E is at least M, the exponent is c − d for the largest d with M·E(d) ≤ E(c).
 use mathlib.Core.Bool.{Bool, cond}
@@ -47,5 +47,5 @@ abbrev pub margin : ℕ
 margin = 400001
 
 -- an exponent where E is below M
-unfoldable pub short : ℕ → ℕ
-short M = enough M - margin
+unfoldable pub logLower : ℕ → ℕ
+logLower M = enough M - margin

@@ -6,7 +6,7 @@ ghost use mathlib.Core.Path.{_≡_};
 ghost use Prim.Native.Nat.{_+_, _*_, _^_, _<_, _≤_};
 ghost use Rattle.bounds.specs.Exponential.{entries};
 ghost use Rattle.bounds.specs.WholeExponents.{far};
-ghost use Rattle.thresholds.specs.Thresholds.{within, digit, digits, firstKilometres, wholeAbove, short};
+ghost use Rattle.thresholds.specs.Thresholds.{within, digit, digits, firstKilometres, wholeAbove, logLower};
 
 // An exponent of 1, in units.
 const TEN_14: u64 = 100000000000000;
@@ -69,10 +69,10 @@ fn whole_above(tables: &[u64; 1907], fars: &[u64; 15], mileage: u64) -> usize
     before + 1
 }
 
-// The exponent from below: E there is below M for every n from 40 upward, and at least M a margin above it.
-pub fn short(tables: &[u64; 1907], mileage: u64) -> u64
+// A lower bound of the logarithm of the mileage M: E at this exponent is below M for every n from 40 upward, and at least M a margin above it.
+pub fn log_lower(tables: &[u64; 1907], mileage: u64) -> u64
     requires { ⌜ (now tables ≡ entries) × (firstKilometres ≤ mileage) × (mileage ≤ 10 ^ 6) ⌝ }
-    ensures { λ r. ⌜ (r ≡ short mileage) × (282 * 10 ^ 12 ≤ r) × (r ≤ 14 * 10 ^ 14) ⌝ }
+    ensures { λ r. ⌜ (r ≡ logLower mileage) × (282 * 10 ^ 12 ≤ r) × (r ≤ 14 * 10 ^ 14) ⌝ }
 {
     let fars = far_table();
     let c = whole_above(tables, &fars, mileage);

@@ -14,7 +14,7 @@ use Rattle.sheet.specs.declared.Check.the-variants.{Pass}
 use Rattle.sheet.specs.Bytes.{cellsOf, seasonList, rowAt}
 use Rattle.sheet.specs.Sheet.{sheetCheck}
 use Rattle.sheet.proofs.Accepted.{Bytes, accepted}
-use Rattle.masses.specs.Figures.{MassBand}
+use Rattle.masses.specs.Bands.{MassBand}
 use Rattle.report_words.specs.Report.{report}
 use Rattle.report_words.specs.Promise.{RowPromise}
 use Rattle.report_words.proofs.Promised.{promise}

@@ -5,7 +5,7 @@ use Prim.Native.Nat.{_+_, _-_, _≤_}
 use borrow.Author.Needs.{needs}
 use native.Mathlib.Omega.{arith}
 use Rattle.sheet.specs.Bytes.{rowsOf}
-use Rattle.sheet.specs.Sheet.{vehiclesBefore}
+use Rattle.sheet.specs.RunningSums.{vehiclesBefore}
 use Rattle.sheet.proofs.Accepted.{accepted}
 use Rattle.sheet.proofs.Fleet.{vehicles-none, vehicles-more, vehicles-most}
 use Rattle.sheet.proofs.Places.{parking-there, row-there}

@@ -7,7 +7,8 @@ use native.Mathlib.Omega.{arith}
 use lib.ListN.{getD}
 use Rattle.row_factors.specs.Seven.{sevenUnits}
 use Rattle.sheet.specs.Bytes.{cellsOf, seasonAt, rowAt}
-use Rattle.inventory.specs.FactorCall.{numbered, unitsAt}
+use Rattle.inventory.specs.FactorAnswers.{unitsAt}
+use Rattle.inventory.specs.FactorBand.{numbered}
 use Rattle.inventory.proofs.CallConditions.{factor-accepted, factor-sheet}
 use Rattle.masses.proofs.FigureSizes.{units-fit}
 use Rattle.inventory.proofs.units_at.Statement.{statement}

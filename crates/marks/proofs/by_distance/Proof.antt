@@ -5,7 +5,7 @@ use native.Mathlib.Omega.{arith}
 use lib.ListN.{replicate}
 use Rattle.numbers.specs.Lists.{at}
 use Rattle.numbers.proofs.Lists.{Filled, filled-none, filled-more, filled-all}
-use Rattle.bounds.specs.Weights.{ahead}
+use Rattle.bounds.specs.Ahead.{ahead}
 use borrow.Author.Needs.{needs}
 use Rattle.marks.proofs.by_distance.Statement.{statement}
 use Rattle.marks.proofs.by_distance.Tie as tie

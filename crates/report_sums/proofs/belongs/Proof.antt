@@ -1,7 +1,7 @@
 -- `report_sums::belongs` meets its contract.
 -- Assumes nothing.
 use mathlib.Core.Path.{refl, sym}
-use Rattle.report_words.specs.Report.{car, lightDuty, twoWheeler}
+use Rattle.report_words.specs.Categories.{car, lightDuty, twoWheeler}
 use Rattle.report_words.specs.Years.{category}
 use Rattle.report_words.proofs.ReportPlaces.{category-rest}
 use Rattle.report_sums.proofs.belongs.Statement.{statement}

@@ -1,6 +1,6 @@
 -- `report_sums::counted` meets its contract.
 -- Assumes nothing.
-use Rattle.report_words.specs.Report.{counted}
+use Rattle.report_words.specs.Categories.{counted}
 use Rattle.report_sums.proofs.counted.Statement.{statement}
 use Rattle.report_sums.proofs.counted.Tie as tie
 

@@ -4,7 +4,7 @@ use Prim.Native.Nat.{_+_, _*_, _-_}
 use native.Mathlib.Omega.{arith}
 use borrow.Author.Needs.{needs}
 use lib.ListN.{length-take}
-use Rattle.report_words.specs.Report.{reportLength}
+use Rattle.report_words.specs.Categories.{reportLength}
 use Rattle.text.proofs.Putting.{put-same}
 use Rattle.text.proofs.LineSizes.{Words}
 use Rattle.report_text.proofs.SheetText.{lines-made, lines-most, room, end-most, head-there}

@@ -4,7 +4,7 @@ use mathlib.Core.Path.{_≡_, ap, _∙_}
 use Prim.Native.Nat.{_*_, _-_, _^_, _≤_}
 use borrow.Author.Needs.{needs}
 use native.Mathlib.Omega.{arith}
-use Rattle.sheet.specs.Sheet.{vehiclesBefore}
+use Rattle.sheet.specs.RunningSums.{vehiclesBefore}
 use Rattle.sheet.proofs.Versions.{start-between}
 use Rattle.sheet.proofs.Fleet.{vehicles-none, vehicles-more}
 use Rattle.findings.specs.Lines.{eachFinding}

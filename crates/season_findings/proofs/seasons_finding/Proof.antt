@@ -6,7 +6,7 @@ use Prim.Native.Nat.{_*_, _-_, _≤_}
 use native.Mathlib.Numerals.{add-one}
 use borrow.Author.Needs.{needs}
 use native.Mathlib.Omega.{arith}
-use Rattle.sheet.specs.Sheet.{daysBefore}
+use Rattle.sheet.specs.RunningSums.{daysBefore}
 use Rattle.sheet.proofs.Versions.{start-between}
 use Rattle.findings.specs.Lines.{eachFinding}
 use Rattle.findings.specs.Table.{seasonFinding}

@@ -6,7 +6,8 @@ use borrow.Author.Needs.{needs}
 use native.Mathlib.Omega.{arith}
 use Rattle.sheet.specs.declared.Check.the-variants.{Pass}
 use Rattle.sheet.specs.Check.{each}
-use Rattle.sheet.specs.Sheet.{vehiclesBefore, rowCheck}
+use Rattle.sheet.specs.Sheet.{rowCheck}
+use Rattle.sheet.specs.RunningSums.{vehiclesBefore}
 use Rattle.sheet.proofs.Versions.{start-between}
 use Rattle.sheet.proofs.Fleet.{vehicles-none, vehicles-more}
 use Rattle.sheet.proofs.Stages.{each-none, each-more, each-stop, each-all}

@@ -7,7 +7,8 @@ use borrow.Author.Needs.{needs}
 use native.Mathlib.Omega.{arith}
 use Rattle.sheet.specs.declared.Check.the-variants.{Pass}
 use Rattle.sheet.specs.Check.{each}
-use Rattle.sheet.specs.Sheet.{daysBefore, seasonCheck}
+use Rattle.sheet.specs.Sheet.{seasonCheck}
+use Rattle.sheet.specs.RunningSums.{daysBefore}
 use Rattle.sheet.proofs.Versions.{start-between}
 use Rattle.sheet.proofs.Conditions.{season-judged}
 use Rattle.sheet.proofs.Stages.{each-none, each-more, each-stop, each-all}

@@ -4,7 +4,7 @@ use mathlib.Core.Path.{sym, _∙_}
 use borrow.Author.Needs.{needs}
 use native.Mathlib.Omega.{arith}
 use Rattle.sheet.proofs.Stages.{stop, go}
-use Rattle.inventory.specs.FactorCall.{factorCheck}
+use Rattle.inventory.specs.FactorAnswers.{factorCheck}
 use Rattle.inventory.proofs.CallConditions.{refused, allowed}
 use Rattle.sheet.proofs.Places.{parking-there}
 use Rattle.inventory.proofs.check.factor_check.Statement.{statement}

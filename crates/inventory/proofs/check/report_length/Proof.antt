@@ -1,7 +1,7 @@
 -- `inventory::check::report_length` meets its contract.
 -- Assumes nothing.
 use borrow.Author.Needs.{needs}
-use Rattle.report_words.specs.Report.{reportLength}
+use Rattle.report_words.specs.Categories.{reportLength}
 use Rattle.inventory.proofs.check.report_length.Statement.{statement}
 use Rattle.inventory.proofs.check.report_length.Tie as tie
 

@@ -3,7 +3,7 @@ use mathlib.Core.Path.{_∙_}
 use Prim.Native.Nat.{ℕ}
 use Rattle.numbers.specs.Lists.{at}
 use Rattle.numbers.proofs.Lists.{tab-at-most}
-use Rattle.bounds.specs.Weights.{ahead}
+use Rattle.bounds.specs.Ahead.{ahead}
 use Rattle.parking.proofs.Weighted.{mean-distances}
 use borrow.Author.Needs.{needs}
 use Rattle.parking.proofs.means.mean_by_mark.Statement.{statement}

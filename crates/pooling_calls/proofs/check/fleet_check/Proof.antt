@@ -7,7 +7,7 @@ use borrow.Author.Needs.{needs}
 use Rattle.sheet.specs.declared.Check.the-variants.{Pass}
 use Rattle.sheet.specs.Bytes.{rowsOf}
 use Rattle.sheet.specs.Check.{each}
-use Rattle.sheet.specs.Sheet.{vehiclesBefore}
+use Rattle.sheet.specs.RunningSums.{vehiclesBefore}
 use Rattle.sheet.proofs.Fleet.{vehicles-none, vehicles-more}
 use Rattle.sheet.proofs.Stages.{each-none, each-more, each-stop, each-all}
 use Rattle.pooling.specs.Late.{fleetCheck}

@@ -8,7 +8,7 @@ use Rattle.sheet.specs.Range.{SeasonInRange}
 use Rattle.sheet.proofs.Accepted.{Bytes, accepted}
 use Rattle.sheet.proofs.Places.{season-there, row-there}
 use Rattle.masses.proofs.FigureSizes.{units-in-range}
-use Rattle.sheet_factors.specs.Lent.{SeasonLent}
+use Rattle.sheet_factors.proofs.SeasonWork.{SeasonLent}
 use Rattle.sheet_factors.proofs.SeasonWork.{season-lent, alike}
 use Rattle.sheet_factors.proofs.factors_at.units_with.Statement.{statement}
 use Rattle.sheet_factors.proofs.factors_at.units_with.Tie as tie

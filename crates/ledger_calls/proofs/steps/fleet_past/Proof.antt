@@ -1,11 +1,11 @@
--- `ledger_calls::fleet_past` meets its contract.
+-- `ledger_calls::steps::fleet_past` meets its contract.
 -- Assumes nothing.
 use borrow.Author.Needs.{needs}
 use native.Mathlib.Omega.{arith}
 use Rattle.sheet.proofs.Places.{parking-there}
 use Rattle.ledger.proofs.Counts.{total-counts}
-use Rattle.ledger_calls.proofs.fleet_past.Statement.{statement}
-use Rattle.ledger_calls.proofs.fleet_past.Tie as tie
+use Rattle.ledger_calls.proofs.steps.fleet_past.Statement.{statement}
+use Rattle.ledger_calls.proofs.steps.fleet_past.Tie as tie
 
 returns : tie.Need-returns
 returns c = cc (c .fleet-of .ensures .0, total-counts _, c .before .has-many-rows .ensures)

@@ -1,9 +1,9 @@
--- `ledger_calls::row_named` meets its contract.
+-- `ledger_calls::steps::row_named` meets its contract.
 -- Assumes nothing.
 use borrow.Author.Needs.{needs}
 use Rattle.ledger.specs.Machine.{rowOf}
-use Rattle.ledger_calls.proofs.row_named.Statement.{statement}
-use Rattle.ledger_calls.proofs.row_named.Tie as tie
+use Rattle.ledger_calls.proofs.steps.row_named.Statement.{statement}
+use Rattle.ledger_calls.proofs.steps.row_named.Tie as tie
 
 returns : tie.Need-returns
 unfolding rowOf

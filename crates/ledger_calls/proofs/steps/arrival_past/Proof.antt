@@ -1,4 +1,4 @@
--- `ledger_calls::arrival_past` meets its contract.
+-- `ledger_calls::steps::arrival_past` meets its contract.
 -- Assumes nothing.
 use mathlib.Core.Path.{refl}
 use Prim.Native.Nat.{_+_}
@@ -6,8 +6,8 @@ use borrow.Author.Needs.{needs}
 use native.Mathlib.Omega.{arith}
 use borrow.Author.Tests.{lt-ltb, le-ltb}
 use Rattle.sheet.specs.Limits.{vehiclesLimit}
-use Rattle.ledger_calls.proofs.arrival_past.Statement.{statement}
-use Rattle.ledger_calls.proofs.arrival_past.Tie as tie
+use Rattle.ledger_calls.proofs.steps.arrival_past.Statement.{statement}
+use Rattle.ledger_calls.proofs.steps.arrival_past.Tie as tie
 
 returns : tie.Need-returns
 returns c = let x = c .before .before .args in rw (lt-ltb vehiclesLimit (x .v + x .count) (omega arith)) refl

@@ -1,9 +1,9 @@
--- `ledger_calls::is_past` meets its contract.
+-- `ledger_calls::steps::is_past` meets its contract.
 -- Assumes nothing.
 use borrow.Author.Needs.{needs}
 use Rattle.ledger.specs.Machine.{past}
-use Rattle.ledger_calls.proofs.is_past.Statement.{statement}
-use Rattle.ledger_calls.proofs.is_past.Tie as tie
+use Rattle.ledger_calls.proofs.steps.is_past.Statement.{statement}
+use Rattle.ledger_calls.proofs.steps.is_past.Tie as tie
 
 returns : tie.Need-returns
 unfolding past

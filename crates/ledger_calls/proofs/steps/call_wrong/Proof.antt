@@ -1,12 +1,12 @@
--- `ledger_calls::call_wrong` meets its contract.
+-- `ledger_calls::steps::call_wrong` meets its contract.
 -- Assumes nothing.
 use mathlib.Core.Path.{_∙_}
 use borrow.Author.Needs.{needs}
 use native.Mathlib.Omega.{arith}
 use Rattle.sheet.proofs.Places.{parking-there, row-there}
 use Rattle.ledger_calls.proofs.Outcome.{absent-wrong, count-most, past-wrong}
-use Rattle.ledger_calls.proofs.call_wrong.Statement.{statement}
-use Rattle.ledger_calls.proofs.call_wrong.Tie as tie
+use Rattle.ledger_calls.proofs.steps.call_wrong.Statement.{statement}
+use Rattle.ledger_calls.proofs.steps.call_wrong.Tie as tie
 
 rows-of-requires : tie.Need-rows-of-requires
 rows-of-requires c κs = omega (arith, parking-there _ (c .before .before .pre))

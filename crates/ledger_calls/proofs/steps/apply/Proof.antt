@@ -1,4 +1,4 @@
--- `ledger_calls::apply` meets its contract: the count is changed, and the words of its row and all sums are made anew.
+-- `ledger_calls::steps::apply` meets its contract: the count is changed, and the words of its row and all sums are made anew.
 -- Assumes nothing.
 use mathlib.Core.Path.{_≡_, _∙_, ap}
 use Prim.Native.Nat.{ℕ}
@@ -10,8 +10,8 @@ use Rattle.inventory.proofs.CallConditions.{report-sheet}
 use Rattle.ledger.specs.Machine.{rowOf, newCount}
 use Rattle.ledger.specs.Ledger.{sheetAfter, wordsAfter}
 use Rattle.ledger_calls.proofs.Outcome.{right-room, row-named-there, with-count-same}
-use Rattle.ledger_calls.proofs.apply.Statement.{statement}
-use Rattle.ledger_calls.proofs.apply.Tie as tie
+use Rattle.ledger_calls.proofs.steps.apply.Statement.{statement}
+use Rattle.ledger_calls.proofs.steps.apply.Tie as tie
 
 count-after-requires : tie.Need-count-after-requires
 count-after-requires c κs = let p = c .before .before .before .pre in (report-sheet _ _ (p .0), p .1)

@@ -1,4 +1,4 @@
--- `ledger_calls::count_after` meets its contract: an allowed call neither passes the row's limit nor goes below 0.
+-- `ledger_calls::steps::count_after` meets its contract: an allowed call neither passes the row's limit nor goes below 0.
 -- Assumes nothing.
 use mathlib.Core.Bool.{false}
 use mathlib.Core.Path.{_≡_, _∙_}
@@ -11,8 +11,8 @@ use Rattle.sheet.specs.Counts.{countsOf}
 use Rattle.sheet.proofs.Places.{row-there}
 use Rattle.ledger.specs.Machine.{rowOf, moved, past}
 use Rattle.ledger_calls.proofs.Outcome.{row-named-there, entry-is, past-wrong, arrival-fits, departure-fits}
-use Rattle.ledger_calls.proofs.count_after.Statement.{statement}
-use Rattle.ledger_calls.proofs.count_after.Tie as tie
+use Rattle.ledger_calls.proofs.steps.count_after.Statement.{statement}
+use Rattle.ledger_calls.proofs.steps.count_after.Tie as tie
 
 vehicles-of-requires : tie.Need-vehicles-of-requires
 vehicles-of-requires c κs =

@@ -1,11 +1,11 @@
--- `pooling_calls::pool_length` meets its contract.
+-- `pooling_calls::length::pool_length` meets its contract.
 -- Assumes nothing.
 use native.Mathlib.Omega.{arith}
 use borrow.Author.Needs.{needs}
 use Rattle.pooling.proofs.PoolBytes.{length-is, length-most, rows-most, pool-long}
 use Rattle.pooling.proofs.PoolAnswers.{region}
-use Rattle.pooling_calls.proofs.pool_length.Statement.{statement}
-use Rattle.pooling_calls.proofs.pool_length.Tie as tie
+use Rattle.pooling_calls.proofs.length.pool_length.Statement.{statement}
+use Rattle.pooling_calls.proofs.length.pool_length.Tie as tie
 
 pub pool-length-spec : {M : Type 1} → statement M
 pool-length-spec =

@@ -1,12 +1,12 @@
--- `ledger_calls::store_u32` meets its contract.
+-- `ledger_calls::steps::store_u32` meets its contract.
 -- Assumes nothing.
 use mathlib.Core.Path.{_≡_, refl}
 use Prim.Native.Nat.{suc, _+_}
 use native.Mathlib.Omega.{arith}
 use lib.ListN.{length-set}
 use borrow.Author.Needs.{needs}
-use Rattle.ledger_calls.proofs.store_u32.Statement.{statement}
-use Rattle.ledger_calls.proofs.store_u32.Tie as tie
+use Rattle.ledger_calls.proofs.steps.store_u32.Statement.{statement}
+use Rattle.ledger_calls.proofs.steps.store_u32.Tie as tie
 
 cast-s : tie.Need-cast-s
 cast-s c = search needs

@@ -1,9 +1,9 @@
--- `ledger_calls::set_vehicles` meets its contract.
+-- `ledger_calls::steps::set_vehicles` meets its contract.
 -- Assumes nothing.
 use Rattle.sheet.specs.Counts.{withCount}
 use borrow.Author.Needs.{needs}
-use Rattle.ledger_calls.proofs.set_vehicles.Statement.{statement}
-use Rattle.ledger_calls.proofs.set_vehicles.Tie as tie
+use Rattle.ledger_calls.proofs.steps.set_vehicles.Statement.{statement}
+use Rattle.ledger_calls.proofs.steps.set_vehicles.Tie as tie
 
 row-place-requires : tie.Need-row-place-requires
 row-place-requires c κs = search needs

@@ -1,4 +1,4 @@
--- `inventory::write_report` meets its contract: the sums of the rows' words are the report's, since no sum passes 64 bits.
+-- `inventory::writing::write_report` meets its contract: the sums of the rows' words are the report's, since no sum passes 64 bits.
 -- Assumes nothing.
 use mathlib.Core.Path.{_≡_, _∙_, ap}
 use Prim.Native.Nat.{_+_, _*_, _≤_}
@@ -8,14 +8,14 @@ use lib.ListN.{length, take}
 use Rattle.numbers.specs.Lists.{tab}
 use Rattle.sheet.specs.Bytes.{rowsOf}
 use Rattle.sheet.proofs.Accepted.{Bytes, accepted}
-use Rattle.report_words.specs.Report.{reportLength}
+use Rattle.report_words.specs.Categories.{reportLength}
 use Rattle.report_words.specs.Years.{reportWord}
 use Rattle.report_words.proofs.Filled.{filled-less, filled-twice}
 use Rattle.report_sums.proofs.BufferSums.{resummed-is}
 use Rattle.inventory.proofs.CallConditions.{report-accepted, report-sheet}
 use Rattle.inventory.proofs.ReportPromise.{report-written}
-use Rattle.inventory.proofs.write_report.Statement.{statement}
-use Rattle.inventory.proofs.write_report.Tie as tie
+use Rattle.inventory.proofs.writing.write_report.Statement.{statement}
+use Rattle.inventory.proofs.writing.write_report.Tie as tie
 
 write-rows-requires : tie.Need-write-rows-requires
 unfolding reportLength
