@@ -110,9 +110,9 @@ class ConvertTest(DeskTestCase):
         found = run("convert", path, "--to", 4, "-o", target)
         self.assertEqual((found.status, found.out, target.exists()), (1, "", False))
         self.assertEqual(found.err, (
-            "%s: not written, since in version 4 this sheet is refused 26 at 1440: row 12: with its 10,000,000 vehicles "
-            "the rows so far have 100,019,100, and a sheet has at most 100,000,000; write at most 9,980,900 here, or "
-            "fewer in the rows before\n" % path))
+            "%s: not written, since in version 4 this sheet is refused 26 at 1440: row 12: with its 10,000,000 "
+            "vehicles the rows so far have 100,019,100, and a sheet has at most 100,000,000; write at most 9,980,900 "
+            "here, or fewer in the rows before\n" % path))
         self.put("b.evp", b"kept")
         self.assertEqual(run("convert", path, "--to", 4, "-o", target, "--force").status, 1)
         self.assertEqual(target.read_bytes(), b"kept")
