@@ -58,7 +58,7 @@ def code_lines(text: str) -> Iterator[str]:
 def declarations(text: str) -> dict[str, Declaration]:
     """The public declarations of a file of antt."""
     found: dict[str, tuple[int, list[str], list[str]]] = {}
-    indent, types, body = -1, [], []
+    indent, types, body = -1, list[str](), list[str]()
     for line in code_lines(text):
         depth = len(line) - len(line.lstrip())
         if indent >= 0 and depth > indent:

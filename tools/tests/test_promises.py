@@ -146,7 +146,8 @@ class InSmallCrates(unittest.TestCase):
         self.assertEqual(len(found), 1)
 
     def test_a_contract_that_cites_the_record(self):
-        self.assertEqual(self.faults("`Band` (`narrow`) in low: Band", "contract of `good` in crates/low/src/lib.rt"), [])
+        self.assertEqual(
+            self.faults("`Band` (`narrow`) in low: Band", "contract of `good` in crates/low/src/lib.rt"), [])
 
     def test_a_contract_that_leads_to_the_record(self):
         line, contract = "`Band` in low: Band", "contract of `call` in crates/low/src/lib.rt"
@@ -216,7 +217,8 @@ class OfTheProject(unittest.TestCase):
 
     def test_the_law_that_assumes_the_enclosure(self):
         """Request One's line named it once: it has the enclosure of the factors among its conditions."""
-        found = list(promises.proof_faults("`MassBand` in masses: Figures", "`mass-band` in masses/proofs/MassWidth", {}))
+        law = "`mass-band` in masses/proofs/MassWidth"
+        found = list(promises.proof_faults("`MassBand` in masses: Figures", law, {}))
         self.assertIn("mass-band in crates/masses/proofs/MassWidth.antt is of the type", found[0])
         self.assertIn("Enclosed", found[0])
 
