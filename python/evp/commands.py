@@ -153,10 +153,10 @@ def write_sheet(given: Namespace) -> int:
         data = builder.data()
     except TextError as error:
         raise InputError(str(error)) from None
-    _save(target, data, given.force, *_tables_in(given.source))
+    explanation = explain(library, data)
+    _save(target, data, given.force, *_tables_in(given.source))  # also where it is refused, to be corrected
     for line in limited(doubts(builder), "things to look at"):
         print("evp: note: %s" % line, file=sys.stderr)
-    explanation = explain(library, data)
     out = sys.stderr if target == "-" else sys.stdout
     where = _source_of(builder, explanation)
     line = explanation.refusal if where else explanation.line
@@ -213,16 +213,26 @@ def template(given: Namespace) -> int:
 def convert(given: Namespace) -> int:
     library = get_library()
     data, report = read_report(library, given.sheet)
-    try:
-        later = converted(data, given.to)
-    except InputError as error:
-        raise InputError("%s: %s" % (name_shown(given.sheet), error)) from None
+    later, its_report = _later_version(library, given.sheet, data, given.to)
     target = _target(given.sheet, given.output, "-version-%d.evp" % given.to)
     _save(target, later, given.force, given.sheet)
     if target != "-":
-        same = "the same report" if library.report(later) == report else "the same exact masses, other bands"
+        same = "the same report" if its_report == report else "the same exact masses, other bands"
         print("%s: %d bytes, version %d, %s" % (name_shown(target), len(later), given.to, same))
     return FINE
+
+
+def _later_version(library: Library, name: str, data: bytes, version: int) -> tuple[bytes, Report]:
+    """An accepted sheet in a later version, and its report. The later version may have a rule that the sheet breaks
+    (version 4 limits the vehicles of all rows together), so the library checks the result before it is written."""
+    try:
+        later = converted(data, version)
+        return later, library.report(later)
+    except InputError as error:
+        raise InputError("%s: %s" % (name_shown(name), error)) from None
+    except Refusal:
+        raise SheetRefused("%s: not written, since in version %d this sheet is %s" % (
+            name_shown(name), version, explain(library, later).line)) from None
 
 
 # ------------------------------------------------------------------ marking

@@ -102,6 +102,22 @@ class ConvertTest(DeskTestCase):
         self.assertEqual(found.status, 2)
         self.assertIn("a product of the two lists is 540000, and a count of a grid is at most 65535", found.err)
 
+    def test_refused_in_the_later_version(self):
+        """Version 4 limits the vehicles of all rows together, version 3 does not. Such a sheet is not written."""
+        path = self.put_sheet("a.evp", GRID_TEXT + 11 * CAR.replace("18400", "10000000"))
+        self.assertEqual((run("check", path).status, layout.version_of(path.read_bytes())), (0, 3))
+        target = self.folder / "b.evp"
+        found = run("convert", path, "--to", 4, "-o", target)
+        self.assertEqual((found.status, found.out, target.exists()), (1, "", False))
+        self.assertEqual(found.err, (
+            "%s: not written, since in version 4 this sheet is refused 26 at 1440: row 12: with its 10,000,000 "
+            "vehicles the rows so far have 100,019,100, and a sheet has at most 100,000,000; write at most 9,980,900 "
+            "here, or fewer in the rows before\n" % path))
+        self.put("b.evp", b"kept")
+        self.assertEqual(run("convert", path, "--to", 4, "-o", target, "--force").status, 1)
+        self.assertEqual(target.read_bytes(), b"kept")
+        self.assertEqual(run("convert", path, "--to", 4, "-o", "-"), (1, "", found.err))
+
 
 class CompareTest(DeskTestCase):
     def test_fuels(self):
