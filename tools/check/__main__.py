@@ -78,9 +78,9 @@ def run_believe(given: argparse.Namespace) -> int:
         return 0
     keys = believe.in_specs(believe.demanded())
     return finish("believe", believe.faults(),
-                  "%s names the %d definitions, %d lines, that the three demands rest on; %d files are to be split and %d "
-                  "to be marked" % (believe.READING, len(keys), believe.line_count(keys), len(believe.MIXED),
-                                    len(believe.UNMARKED)))
+                  "%s names the %d definitions, %d lines, that the three demands rest on; %d files are still to be "
+                  "split, %d to be marked" % (believe.READING, len(keys), believe.line_count(keys),
+                                       len(believe.MIXED), len(believe.UNMARKED)))
 
 
 def run_names(_: argparse.Namespace) -> int:

@@ -24,16 +24,19 @@ from tools.command import TOP
 
 READING = "docs/READING.md"
 
-# Where each demand starts: a crate, and names of its definitions, in whatever file they are. Beside the statement itself
-# these are the functions that take number, place, low and high from an answer.
+# Where each demand starts: a crate, and names of its definitions, in whatever file they are. Beside the statement
+# itself these are the functions that take number, place, low and high from an answer.
 DEMANDS: dict[str, dict[str, str]] = {
-    "1": {"inventory": "reportDemands factorDemands written answerNumber answerPlace", "sheet": "Says numberOf placeOf"},
+    "1": {
+        "inventory": "reportDemands factorDemands written answerNumber answerPlace",
+        "sheet": "Says numberOf placeOf",
+    },
     "2": {"inventory": "FactorBand answerLow answerHigh", "sheet": "Written"},
     "3": {"report_words": "ReportPromise"},
 }
 
-# Functions that the code is proved to compute. A statement that names one says that its value encloses an exact value, or
-# that two calls have the same words, and is understood without the inside of the function, which is method.
+# Functions that the code is proved to compute. A statement that names one says that its value encloses an exact value,
+# or that two calls have the same words, and is understood without the inside of the function, which is method.
 COMPUTED = {
     "report_words": "report wordsOf subtotal subtotals grandTotal",
     "inventory": "reportCheck factorCheck factorAnswer unitsAt",
@@ -98,7 +101,8 @@ def find(crate: str, name: str) -> Key:
     """The definition of a crate by its name."""
     found = [key for key in definitions() if key.crate == crate and key.name == name]
     if len(found) != 1:
-        raise Missing("%s has %d definitions %s, and tools/check/believe.py starts from one" % (crate, len(found), name))
+        raise Missing("crates/%s/specs has %d definitions of %s; tools/check/believe.py starts at one" % (
+            crate, len(found), name))
     return found[0]
 
 
@@ -198,10 +202,13 @@ def files() -> dict[File, Sorts]:
     return found
 
 
+def is_marked(text: str) -> bool:
+    """Whether the first line of a text says that it need not be believed."""
+    return MARK.search(text.partition("\n")[0]) is not None
+
+
 def marked(file: File) -> bool:
-    """Whether the first line of a file says that it need not be believed."""
-    first, _, _ = (CRATES / file[0] / "specs" / (file[1] + ".antt")).read_text(encoding="utf-8").partition("\n")
-    return MARK.search(first) is not None
+    return is_marked((CRATES / file[0] / "specs" / (file[1] + ".antt")).read_text(encoding="utf-8"))
 
 
 def unmarked() -> list[str]:
@@ -311,7 +318,8 @@ def file_faults() -> Iterator[str]:
     """Files that are not marked, are marked wrongly or mix, and definitions that proofs alone use."""
     yield from against(unmarked(), UNMARKED, 'has no definition that a statement needs; its first line should say '
                        '"Need not be believed"', "UNMARKED")
-    yield from against(mismarked(), MISMARKED, "says that it need not be believed, and a statement needs it", "MISMARKED")
+    yield from against(mismarked(), MISMARKED, "says that it need not be believed, and a statement needs it",
+                       "MISMARKED")
     yield from against(proofs_alone(), PROOFS_ALONE, "is used by proofs alone, and belongs in proofs/", "PROOFS_ALONE")
     yield from against(mixed(), MIXED, "has definitions to believe and definitions of the method", "MIXED")
 

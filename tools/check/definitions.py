@@ -44,6 +44,7 @@ TOKEN = re.compile(r"[^\s(){};,\[\]|]+")
 BINDER = re.compile(r"[({]([^(){}:=;]*?) :(?= )|λ ([^.(]*)\.|\blet (\S+)(?= =)")
 ARM = re.compile(r"[\[|]([^\[\]|↦]*)↦")
 GIVEN = re.compile(r"(?<=[{;])(\s*)(\S+)(?= = )")  # the name of a field in `record { name = value; .. }`
+LET = re.compile(r"\b(let )(\S+)(?= =)")
 DECLARATION = re.compile(r"^pub (?:struct|enum) (\w+)[^{;]*\{(.*?)^\}", re.M | re.S)
 FUNCTION = re.compile(r"^(?:pub )?(?:extern \"C\" )?fn (\w+)(.*?)(?:^| )\{$", re.M | re.S)
 
@@ -184,8 +185,8 @@ def bound(text: str, scope: Scope) -> list[tuple[int, str]]:
     for match in BINDER.finditer(text):
         words = (match[1] or match[2] or match[3] or "").split()
         # a `let` binds behind its value, which may name a definition of the same name
-        place = text.find(" in", match.end()) if match[3] else match.start()
-        found += [(place, word) for word in words]
+        value = re.compile(r" in(?= |$)").search(text, match.end()) if match[3] else None
+        found += [(value.start() if value else match.start(), word) for word in words]
     for match in ARM.finditer(text):
         found += [(match.start(), word) for word in TOKEN.findall(match[1]) if not is_constructor(word, scope)]
     return found
@@ -195,6 +196,7 @@ def references(text: str, scope: Scope, hidden: Iterable[str] = ()) -> set[Key]:
     """The definitions that a text names."""
     text = GIVEN.sub(lambda match: match[1] + " " * len(match[2]), text)
     variables = bound(text, scope) + [(0, name) for name in hidden]
+    text = LET.sub(lambda match: match[1] + " " * len(match[2]), text)
     found = set()
     for match in TOKEN.finditer(text):
         token = match[0] if match[0] == "." else match[0].rstrip(".")
