@@ -18,7 +18,7 @@ from typing import NamedTuple
 
 from tools.check import names, promises
 from tools.check.definitions import (
-    CRATES, DECLARED, Key, bare, closure, contracts, declared, definitions, graph, imported,
+    CRATES, DECLARED, Key, bare, closure, contracts, declared, definitions, graph, imported, unresolved,
 )
 from tools.command import TOP
 
@@ -324,6 +324,13 @@ def file_faults() -> Iterator[str]:
     yield from against(mixed(), MIXED, "has definitions to believe and definitions of the method", "MIXED")
 
 
+def import_faults() -> Iterator[str]:
+    """Names that a file imports and that were not found: the reader of definitions is then at fault."""
+    for path in (*CRATES.glob("*/specs/*.antt"), *CRATES.glob("*/src/**/*.rt")):
+        for name in unresolved(path.read_text(encoding="utf-8")):
+            yield "%s imports %s, which tools/check/definitions.py does not find" % (path.relative_to(TOP), name)
+
+
 def call_faults() -> Iterator[str]:
     """Public calls with a `requires`, and calls that the page names and the code does not have."""
     known = {(str(each.path.relative_to(TOP)), each.name): each for each in contracts()}
@@ -339,7 +346,8 @@ def faults() -> list[str]:
     text = (TOP / READING).read_text(encoding="utf-8")
     try:
         page = [*naming_faults(text), *limit_faults(text), *count_faults(text)]
-        return [*sorted("%s: %s" % (READING, fault) for fault in page), *call_faults(), *file_faults()]
+        return [*sorted("%s: %s" % (READING, fault) for fault in page), *import_faults(), *call_faults(),
+                *file_faults()]
     except Missing as missing:
         return [str(missing)]
 

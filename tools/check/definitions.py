@@ -45,7 +45,7 @@ BINDER = re.compile(r"[({]([^(){}:=;]*?) :(?= )|λ ([^.(]*)\.|\blet (\S+)(?= =)"
 ARM = re.compile(r"[\[|]([^\[\]|↦]*)↦")
 GIVEN = re.compile(r"(?<=[{;])(\s*)(\S+)(?= = )")  # the name of a field in `record { name = value; .. }`
 LET = re.compile(r"\b(let )(\S+)(?= =)")
-DECLARATION = re.compile(r"^pub (?:struct|enum) (\w+)[^{;]*\{(.*?)^\}", re.M | re.S)
+DECLARATION = re.compile(r"^(?:pub )?(?:struct|enum) (\w+)\s*(?:\{(.*?)^\}|\(([^;]*)\);)", re.M | re.S)
 FUNCTION = re.compile(r"^(?:pub )?(?:extern \"C\" )?fn (\w+)(.*?)(?:^| )\{$", re.M | re.S)
 
 
@@ -112,8 +112,8 @@ def declared() -> dict[Key, str]:
     found = {}
     for path in sorted(CRATES.glob("*/src/**/*.rt")):
         crate = path.relative_to(CRATES).parts[0]
-        for name, body in DECLARATION.findall(path.read_text(encoding="utf-8")):
-            found[Key(crate, DECLARED, name)] = re.sub(r"//.*", "", body)
+        for name, fields, members in DECLARATION.findall(path.read_text(encoding="utf-8")):
+            found[Key(crate, DECLARED, name)] = re.sub(r"//.*", "", fields or members)
     return found
 
 
@@ -144,7 +144,7 @@ def imported(text: str) -> Iterator[tuple[str, Key, bool]]:
     for crate, module, names, alias in USE.findall(text):
         parts = module.split(".")
         if parts[0] == "declared":
-            key = Key(crate, DECLARED, parts[1])
+            key = Key(crate, DECLARED, [part for part in parts if part != "the-variants"][-1])
             listed = [name.strip() for name in names.split(",")] if names else []
             yield from ((name.split(" as ")[-1], key, "the-variants" in parts) for name in listed)
             if alias:
@@ -158,6 +158,17 @@ def imported(text: str) -> Iterator[tuple[str, Key, bool]]:
             name, _, called = name.strip().partition(" as ")
             if key := given.find(name):
                 yield called or name, key, name in given.made and name not in given.names
+
+
+def unresolved(text: str) -> Iterator[str]:
+    """Names that a text imports from definitions of ours and that are not found, so that a closure would lack them."""
+    lines = re.findall(r"^(?:ghost )?(?:unfoldable )?(?:pub )?use Rattle·.*", text, re.M)
+    yield from (line for line in lines if not USE.search(line))
+    for crate, module, listed, _ in USE.findall(text):
+        names = [name.strip().split(" as ")[0] for name in listed.split(",")] if listed else []
+        if module.startswith("declared.") or not (CRATES / crate).is_dir():  # a crate of the kit
+            continue
+        yield from ("%s of %s: %s" % (name, crate, module) for name in names if not exported(crate, module).find(name))
 
 
 def scope_of(text: str, own: Scope) -> Scope:

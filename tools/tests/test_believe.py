@@ -91,6 +91,15 @@ class Reading(unittest.TestCase):
     def test_another_name_for_a_module_is_followed(self):
         self.assertIn(Key("exact", "Canister", "escape"), reader.graph()[Key("exact", "Factors", "rowEscape")])
 
+    def test_a_name_that_is_not_found_is_told(self):
+        text = ("use Rattle.exact.specs.Day.{temperature, dew}\nuse Rattle.io.specs.Counts.{Counts}\n"
+                "pub use Rattle.exact.specs.Day.{w,\n")
+        self.assertEqual(list(reader.unresolved(text)), ["pub use Rattle.exact.specs.Day.{w,", "dew of exact: Day"])
+
+    def test_a_type_that_the_code_declares_is_followed(self):
+        self.assertIn(Key("exact", reader.DECLARED, "Canister"), reader.graph()[Key("exact", reader.DECLARED, "Row")])
+        self.assertIn(Key("findings", reader.DECLARED, "Site"), reader.declared())
+
     def test_a_contract_has_what_it_requires_and_ensures(self):
         code = ('ghost use Rattle.sheet.specs.Bytes.{rowsOf};\nghost use Rattle.sheet.specs.Sheet.{sheetCheck};\n'
                 'pub fn f(s: &[u8]) -> u64\n    requires { ⌜ sheetCheck (now s) ≡ Pass ⌝ }\n'
