@@ -6,7 +6,7 @@ from collections.abc import Iterable
 from pathlib import Path
 
 from tools.check import (
-    bindings, bounds, edits, figures, header, lines, names, pressures, promises, samples, snippets,
+    believe, bindings, bounds, edits, figures, header, lines, names, pressures, promises, samples, snippets,
 )
 from tools.command import add_command, described, report, run
 
@@ -72,6 +72,17 @@ def run_bounds(_: argparse.Namespace) -> int:
                       len(bounds.computing())))
 
 
+def run_believe(given: argparse.Namespace) -> int:
+    if given.list or given.mixed:
+        print("\n".join(believe.listing() if given.list else believe.mixture()))
+        return 0
+    keys = believe.in_specs(believe.demanded())
+    return finish("believe", believe.faults(),
+                  "%s names the %d definitions, %d lines, that the three demands rest on; %d files are still to be "
+                  "split, %d to be marked" % (believe.READING, len(keys), believe.line_count(keys),
+                                       len(believe.MIXED), len(believe.UNMARKED)))
+
+
 def run_names(_: argparse.Namespace) -> int:
     return finish("names", names.faults(), "the files, links and %d functions that %d pages name are there" % (
         sum(len(list(names.named(page))) for page in names.pages()), len(names.pages())))
@@ -95,13 +106,15 @@ def parser() -> argparse.ArgumentParser:
         ("samples", samples, run_samples), ("pressures", pressures, run_pressures), ("edits", edits, run_edits),
         ("figures", figures, run_figures), ("header", header, run_header), ("promises", promises, run_promises),
         ("bounds", bounds, run_bounds), ("names", names, run_names), ("lines", lines, run_lines),
-        ("bindings", bindings, run_bindings), ("snippets", snippets, run_snippets),
+        ("bindings", bindings, run_bindings), ("believe", believe, run_believe), ("snippets", snippets, run_snippets),
     ):
         about, _, more = module.__doc__.partition("\n\n")
         found[name] = add_command(commands, name, about, "python3 -m tools.check " + name, "\n\n" + more)
         found[name].set_defaults(run=run_it)
     found["samples"].add_argument("--write", action="store_true", help="store what `report` prints")
     found["snippets"].add_argument("--write", action="store_true", help="put the files into the document")
+    found["believe"].add_argument("--list", action="store_true", help="print these definitions by file, with lines")
+    found["believe"].add_argument("--mixed", action="store_true", help="print the files that are to be split")
     found["edits"].add_argument("--logs", action="store_true", help="look at the logs under target/must-fail too")
     found["edits"].add_argument("--try", dest="one", metavar="FILE.edit", help="try this edit alone, by rt dev")
     found["edits"].add_argument("crates", nargs="*", metavar="CRATE", help="the edits of these crates alone")

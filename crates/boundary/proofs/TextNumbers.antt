@@ -11,7 +11,7 @@ use Rattle.sheet.specs.Versions.{versionOf}
 use Rattle.sheet.specs.Bytes.{rowsOf}
 use Rattle.sheet.specs.Check.{numberOf, placeOf}
 use Rattle.report_words.specs.Report.{report}
-use Rattle.inventory.specs.ReportCall.{reportCheck}
+use Rattle.inventory.specs.ReportAnswers.{reportCheck}
 use Rattle.inventory.proofs.CallConditions.{report-judged, number-zero}
 use Rattle.text.specs.Lines.{reportLines, refusalLine}
 use Rattle.report_text.specs.Text.{textOf, reportText, TextCall}

@@ -14,7 +14,7 @@ use Rattle.sheet.proofs.Accepted.{accepted}
 use Rattle.sheet.proofs.Versions.{rows-limit, start-between}
 use Rattle.report_words.specs.Categories.{reportLength}
 use Rattle.report_words.proofs.ReportPlaces.{report-length}
-use Rattle.inventory.specs.ReportCall.{reportCheck}
+use Rattle.inventory.specs.ReportAnswers.{reportCheck}
 use Rattle.inventory.proofs.CallConditions.{report-accepted}
 use Rattle.boundary.specs.SheetExport.{wordsOf, reportWords, WordsCounted}
 

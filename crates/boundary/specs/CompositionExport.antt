@@ -10,7 +10,8 @@ use Rattle.sheet.specs.Check.{numberOf, placeOf}
 use Rattle.sheet.specs.Demands.{Says}
 use Rattle.report_words.specs.Report.{report}
 use Rattle.report_words.specs.Promise.{ReportPromise}
-use Rattle.inventory.specs.ReportCall.{reportCheck, written, reportDemands}
+use Rattle.inventory.specs.ReportCall.{written, reportDemands}
+use Rattle.inventory.specs.ReportAnswers.{reportCheck}
 use Rattle.speciation.specs.Split.{SpeciesPromise}
 use Rattle.species_report.specs.declared.composition.Composition.{Composition}
 use Rattle.species_report.specs.Composition.{composition}

@@ -12,7 +12,8 @@ use Rattle.inventory.specs.declared.FactorAnswer.{FactorAnswer}
 use Rattle.inventory.specs.declared.FactorAnswer.the-variants as answer
 use Rattle.inventory.specs.FactorAnswers.{factorAnswer}
 use Rattle.inventory.specs.FactorBand.{FactorBand, factorDemands}
-use Rattle.inventory.specs.ReportCall.{reportCheck, written, reportDemands}
+use Rattle.inventory.specs.ReportCall.{written, reportDemands}
+use Rattle.inventory.specs.ReportAnswers.{reportCheck}
 use Rattle.boundary.specs.declared.EvpCheck.{EvpCheck}
 use Rattle.boundary.specs.declared.EvpFactor.{EvpFactor}
 

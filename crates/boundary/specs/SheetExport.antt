@@ -9,7 +9,7 @@ use Rattle.sheet.specs.declared.Check.the-variants.{Pass, Refused}
 use Rattle.sheet.specs.Sheet.{sheetCheck}
 use Rattle.sheet.specs.Demands.{Says, demands}
 use Rattle.report_words.specs.Report.{report}
-use Rattle.inventory.specs.ReportCall.{reportCheck}
+use Rattle.inventory.specs.ReportAnswers.{reportCheck}
 use Rattle.boundary.specs.declared.EvpCheck.{EvpCheck}
 use Rattle.boundary.specs.Export.{checkNumbers}
 

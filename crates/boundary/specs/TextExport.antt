@@ -9,7 +9,8 @@ use Rattle.sheet.specs.Bytes.{rowsOf}
 use Rattle.sheet.specs.Check.{numberOf, placeOf}
 use Rattle.sheet.specs.Demands.{Says}
 use Rattle.report_words.specs.Report.{report}
-use Rattle.inventory.specs.ReportCall.{reportCheck, reportDemands}
+use Rattle.inventory.specs.ReportCall.{reportDemands}
+use Rattle.inventory.specs.ReportAnswers.{reportCheck}
 use Rattle.text.specs.Lines.{reportLines, refusalLine}
 use Rattle.report_text.specs.Text.{reportText, TextCall}
 use Rattle.boundary.specs.declared.EvpText.{EvpText}

@@ -2,15 +2,15 @@
 -- Assumes nothing.
 use mathlib.Core.List.{List}
 use mathlib.Core.Logic.{_⊎_, ⊎-elim}
-use mathlib.Core.Path.{_≡_, refl, sym, ap, _∙_}
-use Prim.Native.Nat.{ℕ, _+_, _*_, _≤_}
+use mathlib.Core.Path.{_≡_, refl, ap, _∙_}
+use Prim.Native.Nat.{ℕ, _+_, _*_}
 use native.Mathlib.Omega.{arith}
 use lib.ListN.{length, take}
 use Rattle.sheet.specs.declared.Check.the-variants.{Pass}
 use Rattle.sheet.specs.Bytes.{rowsOf}
 use Rattle.sheet.specs.Demands.{FirstUnmet}
 use Rattle.sheet.proofs.Conditions.{no-zero}
-use Rattle.inventory.specs.ReportCall.{reportCheck, ReportCall}
+use Rattle.inventory.specs.ReportCall.{ReportCall}
 use Rattle.pooling.specs.declared.PoolAnswer.{PoolAnswer}
 use Rattle.pooling.specs.declared.PoolAnswer.the-variants.{Accepted, First, Second, Pooled}
 use Rattle.pooling.specs.Pool.{pool}

@@ -3,23 +3,17 @@
 use mathlib.Core.Bool.{Bool, true, false}
 use mathlib.Core.List.{List, [], _∷_, map}
 use mathlib.Core.Path.{_≡_, refl, sym, ap, ap₂, _∙_}
-use Prim.Native.Nat.{ℕ, _*_, _<_}
+use Prim.Native.Nat.{ℕ}
 use lib.Dec.{eqb}
 use lib.ListN.{length}
 use Rattle.numbers.specs.Lists.{at}
-use Rattle.sheet.specs.declared.Check.{Check}
 use Rattle.sheet.specs.declared.Check.the-variants.{Pass}
 use Rattle.sheet.specs.Check.{numberOf, placeOf}
-use Rattle.sheet.specs.Bytes.{rowsOf}
-use Rattle.sheet.specs.Counts.{countsOf}
-use Rattle.report_words.specs.Report.{wordsOf, report}
 use Rattle.ledger.specs.declared.Call.{Call}
-use Rattle.shared_ledger.specs.declared.RowAnswer.{RowAnswer}
-use Rattle.shared_ledger.specs.declared.TotalsAnswer.{TotalsAnswer}
 use Rattle.shared_ledger.specs.Opening.{sharedCheck, OpenCall}
-use Rattle.shared_ledger.specs.Calls.{mayRead, wordsFrom, rowTold, totalsTold, sharedChangeCheck, sharedRowAnswer, sharedTotalsAnswer}
+use Rattle.shared_ledger.specs.Calls.{rowTold, totalsTold, sharedChangeCheck, sharedRowAnswer, sharedTotalsAnswer}
 use Rattle.shared_ledger.specs.Calls.{SharedChangeCall, SharedRowCall, SharedTotalsCall}
-use Rattle.shared_ledger.specs.Told.{Ask, askerOf, reply, SharedKept}
+use Rattle.shared_ledger.specs.Told.{Ask, askerOf, reply}
 use Rattle.shared_ledger.specs.Told as told
 use Rattle.shared_ledger.specs.Course as rattle
 use Rattle.shared_ledger.proofs.Conditions.{shared-zero}
@@ -31,7 +25,7 @@ use Rattle.boundary.specs.Export.{checkNumbers}
 use Rattle.boundary.specs.Shared.{rowNumbers, totalsNumbers, OpenNumbers, SharedNumbers, RowNumbers, TotalsNumbers}
 use Rattle.boundary.proofs.Numbers.{check-is}
 use Rattle.boundary_courses.specs.SharedCourse.{Reply, ofChange, ofRow, ofTotals, Made, none, changed, rowRead, totalsRead, Course}
-use Rattle.boundary_courses.specs.SharedCourse.{repliesTo, CourseKept, IsolatedTheorem, CourseTheorem}
+use Rattle.boundary_courses.specs.SharedCourse.{repliesTo, IsolatedTheorem, CourseTheorem}
 
 -- the numbers of a reply
 unfoldable numbersOf : told.Reply → Reply

@@ -21,7 +21,8 @@ use Rattle.sheet.proofs.Accepted.{Accepted, accepted}
 use Rattle.inventory.specs.FactorAnswers.{factorCheck}
 use Rattle.inventory.specs.FactorBand.{factorDemands}
 use Rattle.report_words.specs.Categories.{reportLength}
-use Rattle.inventory.specs.ReportCall.{reportCheck, reportDemands}
+use Rattle.inventory.specs.ReportCall.{reportDemands}
+use Rattle.inventory.specs.ReportAnswers.{reportCheck}
 
 -- the test x ≤ y demands y < x
 leb-tests : (x y : ℕ) → Tests (leb x y) (y < x)

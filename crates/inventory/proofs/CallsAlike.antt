@@ -13,7 +13,7 @@ use Rattle.sheet.proofs.Alike.{Alike}
 use Rattle.inventory.specs.FactorAnswers.{factorCheck, unitsAt, factorAnswered, factorAnswer}
 use Rattle.report_words.specs.Report.{wordsOf, rowWords, subtotal, subtotals, grandTotal, report}
 use Rattle.report_words.specs.Categories.{reportLength}
-use Rattle.inventory.specs.ReportCall.{reportCheck}
+use Rattle.inventory.specs.ReportAnswers.{reportCheck}
 use Rattle.inventory.proofs.CallConditions.{factor-accepted}
 
 module _ {s s' : List ℕ} (a : Alike s s') where

@@ -16,7 +16,8 @@ use Rattle.report_words.specs.Years.{filled, reportWord}
 use Rattle.report_words.proofs.Filled.{tab-getD}
 use Rattle.report_words.proofs.ReportPlaces.{report-length}
 use Rattle.report_words.proofs.Promised.{promise}
-use Rattle.inventory.specs.ReportCall.{reportCheck, written, ReportCall}
+use Rattle.inventory.specs.ReportCall.{written, ReportCall}
+use Rattle.inventory.specs.ReportAnswers.{reportCheck}
 use Rattle.inventory.proofs.CallConditions.{report-judged, report-says, number-zero}
 use Rattle.inventory.proofs.Written.{written-first}
 

@@ -2,21 +2,17 @@
 use mathlib.Core.List.{List, _++_}
 use mathlib.Core.Path.{_≡_}
 use Prim.Native.Nat.{ℕ, _≤_}
-use lib.Dec.{ltb}
 use lib.ListN.{length, drop}
 use Rattle.sheet.specs.declared.Check.{Check}
 use Rattle.sheet.specs.declared.Check.the-variants.{Pass, Refused}
-use Rattle.sheet.specs.Check.{refuse, _then_, numberOf, placeOf}
-use Rattle.sheet.specs.Sheet.{sheetCheck}
+use Rattle.sheet.specs.Check.{numberOf, placeOf}
 use Rattle.sheet.specs.Demands.{Demands, demand, _next_, Says, demands}
 use Rattle.report_words.specs.Report.{report}
 use Rattle.report_words.specs.Categories.{reportLength}
 use Rattle.report_words.specs.Promise.{ReportPromise}
+use Rattle.inventory.specs.ReportAnswers.{reportCheck}
 
 -- Call | 22 report buffer short | 0, after every check of the sheet
-unfoldable pub reportCheck : List ℕ → ℕ → Check
-reportCheck s room = sheetCheck s then refuse (ltb room (reportLength s)) 22 0
-
 abbrev pub reportDemands : List ℕ → ℕ → Demands
 reportDemands s room = demands s next demand 22 0 (reportLength s ≤ room)
 

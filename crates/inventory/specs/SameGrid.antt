@@ -11,7 +11,7 @@ use Rattle.sheet.specs.Sheet.{sheetCheck}
 use Rattle.sheet.specs.SameGrid.{GridOf}
 use Rattle.report_words.specs.Report.{report}
 use Rattle.inventory.specs.FactorAnswers.{factorAnswer}
-use Rattle.inventory.specs.ReportCall.{reportCheck}
+use Rattle.inventory.specs.ReportAnswers.{reportCheck}
 
 -- t is accepted, and with every n each season and row of s has the same exact factors and each row the same exact masses; both calls
 -- answer the same of s and of t, with the same words

@@ -12,7 +12,7 @@ ghost use Rattle.sheet.specs.Bytes.{seasonsOf, rowsOf};
 ghost use Rattle.sheet.specs.Sheet.{outside};
 ghost use Rattle.inventory.specs.FactorAnswers.{factorCheck};
 ghost use Rattle.report_words.specs.Categories.{reportLength};
-ghost use Rattle.inventory.specs.ReportCall.{reportCheck};
+ghost use Rattle.inventory.specs.ReportAnswers.{reportCheck};
 
 // The words of a report: six for each row, 24 of subtotals and two of totals.
 fn report_length(s: &[u8]) -> usize

@@ -5,7 +5,8 @@ ghost use mathlib.Core.Path.{_≡_};
 ghost use lib.ListN.{length};
 ghost use Rattle.sheet.specs.declared.Check.the-variants.{Pass};
 ghost use Rattle.report_words.specs.Report.{report};
-ghost use Rattle.inventory.specs.ReportCall.{reportCheck, written};
+ghost use Rattle.inventory.specs.ReportCall.{written};
+ghost use Rattle.inventory.specs.ReportAnswers.{reportCheck};
 
 // The report of an accepted sheet, in a buffer with room for it: the words of the rows and their sums.
 pub fn write_report(s: &[u8], words: &mut [u64])

@@ -6,7 +6,8 @@ use Prim.Native.Nat.{ℕ}
 use lib.ListN.{length}
 use Rattle.sheet.specs.declared.Check.{Check}
 use Rattle.sheet.specs.declared.Check.the-variants.{Pass}
-use Rattle.inventory.specs.ReportCall.{reportCheck, ReportCall}
+use Rattle.inventory.specs.ReportCall.{ReportCall}
+use Rattle.inventory.specs.ReportAnswers.{reportCheck}
 use Rattle.ledger.specs.declared.Call.{Call}
 use Rattle.ledger.specs.Ledger.{ChangeCall, Ledger, answer, after, opened, run, answers}
 use Rattle.ledger.specs.Course.{Made, none, next, CourseTheorem}

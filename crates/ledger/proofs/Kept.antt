@@ -28,7 +28,8 @@ use Rattle.report_words.proofs.Promised.{promise}
 use Rattle.report_words.proofs.ReportPlaces.{report-length, row-word-at}
 use Rattle.report_sums.proofs.OneRow.{RestHolds}
 use Rattle.report_sums.proofs.OneRow.{renewed-is}
-use Rattle.inventory.specs.ReportCall.{reportCheck, written}
+use Rattle.inventory.specs.ReportCall.{written}
+use Rattle.inventory.specs.ReportAnswers.{reportCheck}
 use Rattle.inventory.proofs.CallConditions.{report-accepted, report-sheet}
 use Rattle.inventory.proofs.ReportPromise.{report-written}
 use Rattle.inventory.proofs.Written.{written-first, written-length}

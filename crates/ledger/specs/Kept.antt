@@ -15,7 +15,8 @@ use Rattle.sheet.specs.Counts.{countsOf}
 use Rattle.sheet.specs.Check.{refuse}
 use Rattle.report_words.specs.Report.{report}
 use Rattle.report_words.specs.Promise.{ReportPromise}
-use Rattle.inventory.specs.ReportCall.{reportCheck, written}
+use Rattle.inventory.specs.ReportCall.{written}
+use Rattle.inventory.specs.ReportAnswers.{reportCheck}
 use Rattle.ledger.specs.declared.Call.{Call}
 use Rattle.ledger.specs.Machine.{wrong, step, machine}
 use Rattle.ledger.specs.Ledger.{Ledger, opened, run, answers}

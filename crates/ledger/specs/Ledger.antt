@@ -15,7 +15,8 @@ use Rattle.sheet.specs.Counts.{countsOf, withCount}
 use Rattle.sheet.specs.Check.{refuse, _then_, numberOf, placeOf}
 use Rattle.sheet.specs.Demands.{Demands, demand, _next_, Says}
 use Rattle.report_words.specs.Report.{report}
-use Rattle.inventory.specs.ReportCall.{reportCheck, written, reportDemands}
+use Rattle.inventory.specs.ReportCall.{written, reportDemands}
+use Rattle.inventory.specs.ReportAnswers.{reportCheck}
 use Rattle.report_sums.specs.Renewed.{renewed}
 use Rattle.ledger.specs.declared.Call.{Call}
 use Rattle.ledger.specs.declared.Call.the-variants.{Arrival, Departure}

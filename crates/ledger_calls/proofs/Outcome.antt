@@ -21,7 +21,7 @@ use Rattle.sheet.specs.Check.{refuse, _then_}
 use Rattle.sheet.specs.Sheet.{sheetCheck}
 use Rattle.sheet.proofs.Accepted.{accepted}
 use Rattle.report_words.specs.Categories.{reportLength}
-use Rattle.inventory.specs.ReportCall.{reportCheck}
+use Rattle.inventory.specs.ReportAnswers.{reportCheck}
 use Rattle.inventory.proofs.CallConditions.{report-sheet, report-accepted}
 use Rattle.ledger.specs.declared.Call.{Call}
 use Rattle.ledger.specs.declared.Call.the-variants.{Arrival, Departure}

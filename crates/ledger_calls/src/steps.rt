@@ -24,7 +24,7 @@ ghost use Rattle.sheet.specs.Counts.{countsOf, fourBytes, withCount};
 ghost use Rattle.sheet.specs.Sheet.{sheetCheck};
 ghost use Rattle.ledger.specs.declared.Call.the-variants.{Arrival, Departure};
 ghost use Rattle.ledger.specs.Machine.{rowOf, past, wrong, newCount};
-ghost use Rattle.inventory.specs.ReportCall.{reportCheck};
+ghost use Rattle.inventory.specs.ReportAnswers.{reportCheck};
 ghost use Rattle.ledger.specs.Ledger.{sheetAfter, wordsAfter};
 
 // So many more would be too many together, where the sheet may have many rows.

@@ -13,7 +13,7 @@ use Rattle.exact.specs.declared.Season.{Season}
 use Rattle.exact.specs.declared.Row.{Row}
 use Rattle.exact.specs.Factors.{Factor, F1, F2, F3, F4, F5, F6, F7, factor}
 use Rattle.exact.specs.Masses.{Mechanism, diurnal, soak, running, blend, dayMass, mass}
-use Rattle.factors.specs.Units.{factorUnits, lowMicrograms, highMicrograms}
+use Rattle.factors.specs.Units.{lowMicrograms, highMicrograms}
 use Rattle.masses.specs.Figures.{µg, blended, dayFigure, yearFigure, lowFigure, highFigure}
 use Rattle.masses.specs.AnyCounts.{Every, Shares, Enclosed}
 use Rattle.masses.proofs.Decimals.{decimal-zero, decimal-sum, decimal-product, decimal-places, decimal-times, decimal-rest}

@@ -1,4 +1,4 @@
--- Need not be believed: the sums over the parkings, one end hour after another, as the program adds them up.
+-- Request Two: the sums over the parkings, "one end hour after another", with the rise since each mark carried along. Definitions only.
 use mathlib.Core.List.{List, [], _∷_, _++_}
 use Prim.Native.Nat.{ℕ, zero, suc, _+_}
 use Rattle.numbers.specs.Lists.{at}

@@ -8,24 +8,24 @@ use lib.ListN.{length, take}
 use borrow.Author.Tests.{le-ltb}
 use Rattle.numbers.specs.Lists.{at}
 use Rattle.sheet.specs.declared.Check.{Check}
-use Rattle.sheet.specs.declared.Check.the-variants.{Pass, Refused}
+use Rattle.sheet.specs.declared.Check.the-variants.{Pass}
 use Rattle.sheet.specs.Bytes.{rowsOf}
 use Rattle.sheet.specs.Check.{refuse, _then_}
 use Rattle.sheet.specs.Sheet.{sheetCheck}
 use Rattle.report_words.specs.Report.{report}
 use Rattle.report_words.specs.Categories.{reportLength}
 use Rattle.report_words.proofs.ReportPlaces.{report-length}
-use Rattle.inventory.specs.ReportCall.{reportCheck, ReportCall}
+use Rattle.inventory.specs.ReportCall.{ReportCall}
+use Rattle.inventory.specs.ReportAnswers.{reportCheck}
 use Rattle.inventory.proofs.Written.{written-first}
 use Rattle.pooling.specs.declared.PoolAnswer.{PoolAnswer}
 use Rattle.pooling.specs.declared.PoolAnswer.the-variants.{Accepted, First, Second, Pooled}
-use Rattle.pooling.specs.Pool.{rowsTogether, pool, poolCheck}
+use Rattle.pooling.specs.Pool.{rowsTogether, pool}
 use Rattle.pooling.specs.PoolCall.{checkOf, PoolCall}
-use Rattle.pooling.specs.PooledReport.{RowMoved}
 use Rattle.pooling.specs.PooledCalls.{pooledBytes, PoolCallsTheorem, OrderCallsTheorem}
 use Rattle.pooling.proofs.PoolBytes.{rows-pool, pool-long}
 use Rattle.pooling.proofs.PoolAnswers.{Poolable, poolable}
-use Rattle.pooling.proofs.PoolWritten.{Pools, pools}
+use Rattle.pooling.proofs.PoolWritten.{pools}
 use Rattle.pooling.proofs.PooledReport.{pooled-report, other-order}
 
 -- a word of the report that a call left

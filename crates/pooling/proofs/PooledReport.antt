@@ -17,7 +17,7 @@ use Rattle.sheet.proofs.Local.{Same}
 use Rattle.sheet.proofs.NextVersion.{SheetKept, cells-kept, season-list-kept}
 use Rattle.report_words.specs.Report.{wordsOf, subtotal, grandTotal, report}
 use Rattle.report_words.specs.Categories.{anyClass}
-use Rattle.report_words.specs.Years.{category}
+use Rattle.report_words.specs.Categories.{category}
 use Rattle.report_words.proofs.ReportPlaces.{row-word-at, category-word-at, total-at}
 use Rattle.pooling.specs.Pool.{rowsTogether, pool, sharedBytes}
 use Rattle.pooling.specs.PooledReport.{RowMoved, totalsWord, PoolTheorem, OrderTheorem}

@@ -16,7 +16,8 @@ use Rattle.sheet.specs.Bytes.{rowsOf, rowAt}
 use Rattle.sheet.proofs.Accepted.{Bytes, Accepted}
 use Rattle.report_words.specs.Report.{wordsOf, subtotal, grandTotal}
 use Rattle.report_words.specs.Categories.{counted}
-use Rattle.report_words.specs.Years.{category, filled, reportWord}
+use Rattle.report_words.specs.Years.{filled, reportWord}
+use Rattle.report_words.specs.Categories.{category}
 use Rattle.report_words.proofs.Filled.{first-at, filled-same, filled-run, filled-all, filled-less, filled-again}
 use Rattle.report_words.proofs.ReportPlaces.{row-word-at, category-word-at}
 use Rattle.report_sums.specs.Sums.{bufferSum, sumWord, summed, threeWord, totalled, resummed}

@@ -10,7 +10,8 @@ use Rattle.numbers.specs.Lists.{tab}
 use Rattle.sheet.specs.Bytes.{rowsOf}
 use Rattle.report_words.specs.Report.{subtotal, grandTotal}
 use Rattle.report_words.specs.Categories.{anyClass}
-use Rattle.report_words.specs.Years.{category, filled, reportWord}
+use Rattle.report_words.specs.Years.{filled, reportWord}
+use Rattle.report_words.specs.Categories.{category}
 use Rattle.report_words.proofs.Filled.{filled-run, filled-same, filled-all, first-at}
 use Rattle.report_words.proofs.ReportPlaces.{category-word-at, total-at}
 

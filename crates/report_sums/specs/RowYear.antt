@@ -1,10 +1,8 @@
 -- Need not be believed: one row's figures on the way to its words, for `requires` and proofs.
 use mathlib.Core.List.{List}
-use mathlib.Core.Path.{_≡_}
-use Prim.Native.Nat.{ℕ, _+_, _*_, _≤_, _<_}
-use Rattle.numbers.specs.Lists.{at, sum}
-use Rattle.sheet.specs.Bytes.{rowsOf}
-use Rattle.report_words.specs.Years.{seasonFigure, reportWord}
+use Prim.Native.Nat.{ℕ}
+use Rattle.numbers.specs.Lists.{sum}
+use Rattle.report_words.specs.Years.{seasonFigure}
 
 -- figure m of row i over the first n seasons, of one vehicle
 abbrev pub rowYear : List ℕ → ℕ → ℕ → ℕ → ℕ

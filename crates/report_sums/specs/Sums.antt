@@ -8,7 +8,7 @@ use lib.Seq.{sets}
 use Rattle.numbers.specs.Lists.{tab, at}
 use Rattle.sheet.specs.Bytes.{rowsOf, rowAt}
 use Rattle.report_words.specs.Categories.{counted}
-use Rattle.report_words.specs.Years.{category}
+use Rattle.report_words.specs.Categories.{category}
 
 -- word j of the first n rows that belong to a category, summed
 unfoldable pub bufferSum : List ℕ → List ℕ → (ℕ → Bool) → ℕ → ℕ → ℕ

@@ -11,7 +11,7 @@ ghost use Rattle.sheet.specs.declared.Check.the-variants.{Pass};
 ghost use Rattle.sheet.specs.Bytes.{rowsOf, rowPlace, rowAt};
 ghost use Rattle.sheet.specs.Sheet.{sheetCheck};
 ghost use Rattle.report_words.specs.Categories.{counted};
-ghost use Rattle.report_words.specs.Years.{category};
+ghost use Rattle.report_words.specs.Categories.{category};
 ghost use Rattle.report_sums.specs.Sums.{bufferSum, summed, threeWord, totalled, resummed};
 
 pub mod renewal;

@@ -22,7 +22,7 @@ use Rattle.masses.proofs.MassWidth.{no-vehicles}
 use Rattle.report_words.specs.Report.{wordsOf, rowWords}
 use Rattle.report_words.specs.Categories.{reportLength, car, lightDuty, twoWheeler, anyClass, counted}
 use Rattle.report_words.specs.Report.{subtotal, subtotals, grandTotal, report}
-use Rattle.inventory.specs.ReportCall.{reportCheck}
+use Rattle.inventory.specs.ReportAnswers.{reportCheck}
 use Rattle.text.specs.Ascii.{bytes}
 use Rattle.text.specs.Lines.{reportLines}
 use Rattle.text.proofs.Example.{zeros-printed}

@@ -16,7 +16,8 @@ use Rattle.sheet.proofs.Versions.{start-between}
 use Rattle.report_words.specs.Report.{report}
 use Rattle.report_words.specs.Categories.{reportLength}
 use Rattle.report_words.proofs.ReportPlaces.{report-length}
-use Rattle.inventory.specs.ReportCall.{reportCheck, written, ReportCall}
+use Rattle.inventory.specs.ReportCall.{written, ReportCall}
+use Rattle.inventory.specs.ReportAnswers.{reportCheck}
 use Rattle.inventory.proofs.CallConditions.{report-accepted, report-sheet}
 use Rattle.inventory.proofs.Written.{written-length}
 use Rattle.text.specs.Lines.{reportLines, refusalLine}

@@ -10,7 +10,8 @@ use Rattle.sheet.specs.declared.Check.the-variants.{Pass, Refused}
 use Rattle.sheet.specs.Versions.{versionOf}
 use Rattle.sheet.specs.Bytes.{rowsOf}
 use Rattle.report_words.specs.Report.{report}
-use Rattle.inventory.specs.ReportCall.{reportCheck, ReportCall}
+use Rattle.inventory.specs.ReportCall.{ReportCall}
+use Rattle.inventory.specs.ReportAnswers.{reportCheck}
 use Rattle.text.specs.Lines.{reportLines, refusalLine}
 
 -- "prints `refused N at P`, or all words as below"

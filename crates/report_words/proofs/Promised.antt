@@ -6,18 +6,16 @@ use mathlib.Core.Path.{_≡_, refl, sym, ap, ap₂, _∙_}
 use Prim.Native.Nat.{ℕ, suc, zero, _+_, _*_, _≤_, _<_}
 use native.Mathlib.Omega.{arith}
 use Rattle.numbers.specs.Lists.{at, sum}
-use Rattle.exact.specs.declared.Season.{Season}
 use Rattle.exact.specs.Masses.{diurnal, soak, running}
 use Rattle.sheet.specs.Bytes.{rowsOf, cellsOf, seasonList, rowAt}
 use Rattle.sheet.proofs.Accepted.{Bytes, Accepted}
-use Rattle.masses.specs.Figures.{rowFigures}
 use Rattle.masses.specs.AnyCounts.{Every, InRange}
 use Rattle.masses.proofs.MassWidth.{no-vehicles}
 use Rattle.masses.proofs.AnyCounts.{any-masses}
 use Rattle.report_words.specs.Report.{wordsOf, subtotal, grandTotal, report}
 use Rattle.report_words.specs.Categories.{car, lightDuty, twoWheeler, anyClass, counted}
 use Rattle.report_words.specs.Promise.{RowPromise, rowsSum, categoryWord, SumsPromise, ReportPromise}
-use Rattle.report_words.specs.Years.{category}
+use Rattle.report_words.specs.Categories.{category}
 use Rattle.report_words.proofs.ReportPlaces.{row-word-at, category-word-at, total-at}
 use Rattle.sheet_factors.proofs.AcceptedRange.{cells-least, row-shares, in-range, every-season}
 

@@ -15,7 +15,7 @@ use Rattle.masses.specs.Figures.{rowFigures}
 use Rattle.report_words.specs.Report.{wordsOf, rowWords}
 use Rattle.report_words.specs.Categories.{reportLength, car, lightDuty, twoWheeler, anyClass}
 use Rattle.report_words.specs.Report.{subtotal, subtotals, grandTotal, report}
-use Rattle.report_words.specs.Years.{category}
+use Rattle.report_words.specs.Categories.{category}
 
 -- six words for each row
 rowWords-length : (s : List ℕ) (n : ℕ) → length (rowWords s n) ≡ 6 * n

@@ -12,10 +12,15 @@ use Rattle.exact.specs.declared.Season.{Season}
 use Rattle.sheet.specs.Bytes.{seasonsOf, rowsOf, cellsOf, seasonAt, rowAt}
 use Rattle.sheet.proofs.Accepted.{Bytes, Accepted}
 use Rattle.masses.specs.Day.{dayFigures}
-use Rattle.report_words.specs.Years.{seasonFigure, yearWord, daysAdded, SumsFit, seasonAdded, filled}
+use Rattle.report_words.specs.Years.{seasonFigure, yearWord, daysAdded, SumsFit, filled}
 use Rattle.masses.proofs.MassSizes.{year-fits}
 use Rattle.report_words.proofs.Filled.{filled-run, filled-all, filled-beyond, filled-less, first-at}
 use Rattle.report_words.proofs.YearWords.{year-none, year-more, year-word-most}
+
+-- word k with what its row loses on the days of a season
+abbrev pub seasonAdded : List ℕ → Season → List ℕ → ℕ → ℕ
+seasonAdded s season words k =
+    getD words k 0 + season .days * getD (dayFigures (cellsOf s) season (rowAt s (k / 6))) (k % 6) 0
 
 -- all words of the rows fit 64 bits after a season
 pub record SeasonFits (s : List ℕ) (season : Season) (words : List ℕ) : Type 0 where

@@ -1,7 +1,7 @@
 -- How many words a report has, and which classes its subtotals add up. Definitions only.
 use mathlib.Core.Bool.{Bool, true, false, _&&_}
 use mathlib.Core.List.{List}
-use Prim.Native.Nat.{ℕ, _+_, _*_}
+use Prim.Native.Nat.{ℕ, suc, zero, _+_, _*_}
 use lib.Dec.{leb, eqb}
 use Rattle.sheet.specs.Bytes.{rowsOf}
 
@@ -26,3 +26,10 @@ anyClass class = true
 unfoldable pub counted : Bool → ℕ → ℕ
 counted true word = word
 counted false word = 0
+
+-- the categories in their order: "cars (1 to 3), light-duty (4), two-wheelers (5 to 9)", and all rows
+unfoldable pub category : ℕ → ℕ → Bool
+category zero = car
+category (suc zero) = lightDuty
+category (suc (suc zero)) = twoWheeler
+category (suc (suc (suc c))) = anyClass

@@ -1,7 +1,7 @@
 -- Need not be believed: all words of the report of a sheet as the program computes them. What they are promised to be is in Promise.
 use mathlib.Core.Bool.{Bool}
 use mathlib.Core.List.{List, [], _∷_, _++_}
-use Prim.Native.Nat.{ℕ, suc, zero, _+_, _*_}
+use Prim.Native.Nat.{ℕ, suc, zero, _+_}
 use lib.ListN.{getD}
 use Rattle.numbers.specs.Lists.{tab}
 use Rattle.sheet.specs.Bytes.{rowsOf, cellsOf, seasonList, rowAt}

@@ -1,15 +1,12 @@
 -- Need not be believed: the figures on the way to the words of a report, as the program adds them up season by season.
-use mathlib.Core.Bool.{Bool}
 use mathlib.Core.List.{List, _++_}
 use mathlib.Core.Path.{_≡_}
-use Prim.Native.Nat.{ℕ, suc, zero, _+_, _*_, _/_, _%_, _^_, _≤_, _<_}
+use Prim.Native.Nat.{ℕ, _+_, _*_, _/_, _%_, _^_, _≤_, _<_}
 use lib.ListN.{length, getD, take, drop}
 use Rattle.numbers.specs.Lists.{tab, sum}
-use Rattle.exact.specs.declared.Season.{Season}
 use Rattle.masses.specs.Day.{dayFigures}
 use Rattle.sheet.specs.Bytes.{rowsOf, cellsOf, seasonAt, rowAt}
 use Rattle.report_words.specs.Report.{report}
-use Rattle.report_words.specs.Categories.{car, lightDuty, twoWheeler, anyClass}
 
 -- figure m of row i in season j, over its days
 unfoldable pub seasonFigure : List ℕ → ℕ → ℕ → ℕ → ℕ
@@ -19,11 +16,6 @@ seasonFigure s i m j = (seasonAt s j) .days * getD (dayFigures (cellsOf s) (seas
 unfoldable pub yearWord : List ℕ → ℕ → ℕ → ℕ
 yearWord s n k = sum (seasonFigure s (k / 6) (k % 6)) n
 
--- word k with what its row loses on the days of a season
-abbrev pub seasonAdded : List ℕ → Season → List ℕ → ℕ → ℕ
-seasonAdded s season words k =
-    getD words k 0 + season .days * getD (dayFigures (cellsOf s) season (rowAt s (k / 6))) (k % 6) 0
-
 -- the first n words replaced by those of f
 abbrev pub filled : (ℕ → ℕ) → ℕ → List ℕ → List ℕ
 filled f n old = tab f n ++ drop n old
@@ -31,13 +23,6 @@ filled f n old = tab f n ++ drop n old
 -- word k of the report
 abbrev pub reportWord : List ℕ → ℕ → ℕ
 reportWord s k = getD (report s) k 0
-
--- the categories in their order: "cars (1 to 3), light-duty (4), two-wheelers (5 to 9)", and all rows
-unfoldable pub category : ℕ → ℕ → Bool
-category zero = car
-category (suc zero) = lightDuty
-category (suc (suc zero)) = twoWheeler
-category (suc (suc (suc c))) = anyClass
 
 -- word m of the six from a place on, with a figure of a day for so many days
 abbrev pub daysAdded : List ℕ → ℕ → ℕ → List ℕ → ℕ → ℕ

@@ -20,7 +20,7 @@ use Rattle.sheet.proofs.BeforeRows.{rows, season-list, cells}
 use Rattle.sheet.proofs.Count.{before-rows, row-changed, row-kept}
 use Rattle.sheet.proofs.RowDemands.{withVehicles}
 use Rattle.report_words.specs.Categories.{counted}
-use Rattle.inventory.specs.ReportCall.{reportCheck}
+use Rattle.inventory.specs.ReportAnswers.{reportCheck}
 use Rattle.inventory.proofs.CallConditions.{report-judged, allowed}
 use Rattle.ledger.specs.declared.Call.{Call}
 use Rattle.ledger.specs.declared.Call.the-variants.{Arrival, Departure}

@@ -20,7 +20,7 @@ use Rattle.sheet.proofs.Checks.{Tests, Shows, Judges, judges-refuse, judges-the
 use Rattle.sheet.proofs.Checks.{tests-as, not-tests, eqb-shows, &&-shows, says, then-pass, true-is-not-false}
 use Rattle.sheet.proofs.Conditions.{no-zero}
 use Rattle.report_words.specs.Categories.{reportLength}
-use Rattle.inventory.specs.ReportCall.{reportCheck}
+use Rattle.inventory.specs.ReportAnswers.{reportCheck}
 use Rattle.inventory.proofs.CallConditions.{report-judged, report-sheet, report-accepted}
 use Rattle.ledger.specs.declared.Call.{Call}
 use Rattle.ledger.specs.declared.Call.the-variants.{Arrival, Departure}

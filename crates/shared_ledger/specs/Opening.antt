@@ -15,7 +15,8 @@ use Rattle.sheet.specs.Sheet.{outside}
 use Rattle.report_words.specs.Report.{report}
 use Rattle.report_words.specs.Categories.{counted}
 use Rattle.report_words.specs.Promise.{ReportPromise}
-use Rattle.inventory.specs.ReportCall.{reportCheck, reportDemands, written}
+use Rattle.inventory.specs.ReportCall.{reportDemands, written}
+use Rattle.inventory.specs.ReportAnswers.{reportCheck}
 
 -- "Eight participants", 1 to 8; the marker is 0
 abbrev pub participants : ℕ

@@ -18,7 +18,8 @@ use Rattle.sheet.specs.Versions.{hasManyRows}
 use Rattle.sheet.specs.Counts.{countsOf}
 use Rattle.sheet.proofs.Accepted.{Bytes}
 use Rattle.report_words.specs.Report.{report}
-use Rattle.inventory.specs.ReportCall.{reportCheck, written}
+use Rattle.inventory.specs.ReportCall.{written}
+use Rattle.inventory.specs.ReportAnswers.{reportCheck}
 use Rattle.inventory.proofs.ReportPromise.{report-answer}
 use Rattle.ledger.specs.declared.Call.{Call}
 use Rattle.ledger.specs.declared.Call.the-variants.{Arrival}

@@ -5,13 +5,10 @@ use Prim.Native.Nat.{ℕ, _<_}
 use lib.ListN.{getD}
 use Rattle.bounds.specs.Exponential.{entries}
 use Rattle.sheet.specs.declared.Check.the-variants.{Pass}
-use Rattle.sheet.specs.Range.{RowInRange}
 use Rattle.sheet.specs.Bytes.{rowsOf, cellsOf, rowAt}
 use Rattle.sheet.specs.Sheet.{sheetCheck}
 use Rattle.parking.specs.Grid.{cellsIn, GridReady}
 use Rattle.breakthrough.specs.Curves.{KeptOf}
-use Rattle.row_factors.specs.declared.season.AtSeason.{AtSeason}
-use Rattle.row_factors.specs.Season.{Lent}
 
 -- an accepted sheet, and what is made of it once: the tables of E and the grid
 pub record SheetLent (s tables grid : List ℕ) : Type 0 where

@@ -16,7 +16,8 @@ use Rattle.sheet.proofs.Versions.{start-between}
 use Rattle.report_words.specs.Report.{report}
 use Rattle.report_words.specs.Categories.{reportLength}
 use Rattle.report_words.proofs.ReportPlaces.{report-length, total-at}
-use Rattle.inventory.specs.ReportCall.{reportCheck, ReportCall}
+use Rattle.inventory.specs.ReportCall.{ReportCall}
+use Rattle.inventory.specs.ReportAnswers.{reportCheck}
 use Rattle.inventory.proofs.CallConditions.{report-accepted, report-judged, number-zero}
 use Rattle.inventory.proofs.Written.{written-first, written-length}
 use Rattle.speciation.specs.Split.{speciesMass, speciesMasses, SpeciesPromise}

@@ -8,7 +8,8 @@ use lib.ListN.{length, take}
 use Rattle.sheet.specs.declared.Check.{Check}
 use Rattle.sheet.specs.declared.Check.the-variants.{Pass, Refused}
 use Rattle.sheet.proofs.Versions.{start-between}
-use Rattle.inventory.specs.ReportCall.{reportCheck, ReportCall}
+use Rattle.inventory.specs.ReportCall.{ReportCall}
+use Rattle.inventory.specs.ReportAnswers.{reportCheck}
 use Rattle.inventory.proofs.CallConditions.{report-accepted}
 use Rattle.text.specs.Lines.{refusalLine}
 use Rattle.text.specs.Put.{Room, Put}

@@ -9,7 +9,8 @@ use Rattle.sheet.specs.declared.Check.the-variants.{Pass, Refused}
 use Rattle.sheet.specs.Bytes.{rowsOf}
 use Rattle.sheet.specs.Check.{numberOf}
 use Rattle.report_words.specs.Report.{grandTotal}
-use Rattle.inventory.specs.ReportCall.{reportCheck, ReportCall}
+use Rattle.inventory.specs.ReportCall.{ReportCall}
+use Rattle.inventory.specs.ReportAnswers.{reportCheck}
 use Rattle.speciation.specs.Split.{speciesMasses, SpeciesPromise}
 use Rattle.species_report.specs.declared.composition.Composition.{Composition}
 

@@ -6,7 +6,8 @@ use lib.ListN.{length}
 use Rattle.sheet.specs.declared.Check.{Check}
 use Rattle.sheet.specs.declared.Check.the-variants.{Pass, Refused}
 use Rattle.sheet.specs.Versions.{versionOf}
-use Rattle.inventory.specs.ReportCall.{reportCheck, ReportCall}
+use Rattle.inventory.specs.ReportCall.{ReportCall}
+use Rattle.inventory.specs.ReportAnswers.{reportCheck}
 use Rattle.text.specs.Lines.{refusalLine}
 use Rattle.report_text.specs.Text.{printed}
 use Rattle.species_report.specs.declared.composition.Composition.{Composition}

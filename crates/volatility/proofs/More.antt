@@ -18,7 +18,7 @@ use Rattle.masses.specs.Bands.{MassBand}
 use Rattle.report_words.specs.Report.{report}
 use Rattle.report_words.specs.Promise.{RowPromise}
 use Rattle.report_words.proofs.Promised.{promise}
-use Rattle.inventory.specs.ReportCall.{reportCheck}
+use Rattle.inventory.specs.ReportAnswers.{reportCheck}
 use Rattle.inventory.proofs.CallConditions.{report-judged, report-sheet, number-zero}
 use Rattle.volatility.specs.Pressure.{HigherPressure, OpenRow, lowPlace, highPlace, MassTheorem, WordTheorem, Reported, CallTheorem}
 use Rattle.volatility.proofs.Alike.{rows-same, cells-same, row-alike, all-more}

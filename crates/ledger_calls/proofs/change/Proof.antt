@@ -7,7 +7,7 @@ use lib.ListN.{length}
 use Rattle.sheet.specs.declared.Check.the-variants.{Pass}
 use Rattle.sheet.specs.Versions.{hasManyRows}
 use Rattle.sheet.specs.Counts.{countsOf}
-use Rattle.inventory.specs.ReportCall.{reportCheck}
+use Rattle.inventory.specs.ReportAnswers.{reportCheck}
 use Rattle.inventory.proofs.CallConditions.{report-sheet}
 use Rattle.ledger.specs.Machine.{wrong}
 use Rattle.ledger_calls.proofs.Outcome.{not-open, wrong-call, right-call}

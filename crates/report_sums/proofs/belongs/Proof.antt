@@ -2,7 +2,7 @@
 -- Assumes nothing.
 use mathlib.Core.Path.{refl, sym}
 use Rattle.report_words.specs.Categories.{car, lightDuty, twoWheeler}
-use Rattle.report_words.specs.Years.{category}
+use Rattle.report_words.specs.Categories.{category}
 use Rattle.report_words.proofs.ReportPlaces.{category-rest}
 use Rattle.report_sums.proofs.belongs.Statement.{statement}
 use Rattle.report_sums.proofs.belongs.Tie as tie

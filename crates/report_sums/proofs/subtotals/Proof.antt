@@ -8,7 +8,7 @@ use lib.ListN.{length, length-set}
 use lib.Seq.{sets}
 use Rattle.numbers.specs.Lists.{tab}
 use Rattle.sheet.specs.Bytes.{rowsOf}
-use Rattle.report_words.specs.Years.{category}
+use Rattle.report_words.specs.Categories.{category}
 use Rattle.numbers.proofs.Stores.{run-more}
 use Rattle.sheet.proofs.Places.{parking-there}
 use Rattle.report_sums.specs.Sums.{sumWord, summed}

@@ -5,7 +5,7 @@ use Prim.Native.Nat.{_-_, _%_, _^_, _≤_}
 use borrow.Author.Needs.{needs}
 use native.Mathlib.Omega.{arith}
 use Rattle.sheet.specs.Bytes.{rowsOf}
-use Rattle.report_words.specs.Years.{category}
+use Rattle.report_words.specs.Categories.{category}
 use Rattle.sheet.proofs.Places.{parking-there, row-there}
 use Rattle.report_sums.specs.Sums.{bufferSum}
 use Rattle.report_sums.proofs.BufferSums.{sum-none, sum-more}

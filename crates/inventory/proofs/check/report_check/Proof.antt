@@ -6,7 +6,7 @@ use borrow.Author.Tests.{lt-ltb, le-ltb}
 use native.Mathlib.Omega.{arith}
 use Rattle.sheet.proofs.Stages.{stop, go}
 use Rattle.report_words.specs.Categories.{reportLength}
-use Rattle.inventory.specs.ReportCall.{reportCheck}
+use Rattle.inventory.specs.ReportAnswers.{reportCheck}
 use Rattle.inventory.proofs.CallConditions.{refused, allowed}
 use Rattle.sheet.proofs.Places.{parking-there}
 use Rattle.inventory.proofs.check.report_check.Statement.{statement}

@@ -13,7 +13,8 @@ use Rattle.sheet.proofs.Places.{parking-there, rows-fit, season-there, row-ther
 use Rattle.masses.specs.Day.{dayFigures}
 use Rattle.sheet_factors.proofs.SeasonWork.{SeasonLent}
 use Rattle.sheet_factors.proofs.SeasonWork.{season-lent, use-in-range}
-use Rattle.report_words.specs.Years.{seasonAdded, filled}
+use Rattle.report_words.specs.Years.{filled}
+use Rattle.report_words.proofs.SeasonWords.{seasonAdded}
 use Rattle.report_words.proofs.Filled.{filled-none, filled-all}
 use Rattle.report_words.proofs.SeasonWords.{row-sums-fit, row-stored, season-fits, season-stored}
 use borrow.Author.Needs.{needs}

@@ -1,0 +1,201 @@
+"""The check of what a reader must believe: reading definitions, what they rest on, and the page that names them."""
+
+import tempfile
+import unittest
+from pathlib import Path
+
+from tools.check import believe
+from tools.check import definitions as reader
+from tools.check.definitions import Key
+from tools.command import TOP
+
+TEXT = """-- A file of definitions.
+use Prim.Native.Nat.{ℕ}
+use Rattle.numbers.specs.Fraction.{Fraction, _+ᶠ_, whole}
+
+pub data Kind : Type 0 where
+  small large : Kind
+
+module _ (n : ℕ) where
+  -- a comment
+  unfoldable pub load : Kind → ℕ → ℕ
+  load small m = n
+  load large m =
+      hours m
+
+  pub record Held (x : Fraction) : Type 0 where
+    pub up : ℕ  -- the first
+    pub same : x +ᶠ whole up ≡ x
+
+abbrev pub hours : ℕ → ℕ
+hours m = m
+"""
+
+OWN = reader.Scope({name: Key("c", "F", name) for name in ("hours", "vp", "load", "_next_")},
+                   {name: Key("c", "F", "Kind") for name in ("small", "large")})
+
+
+def named(text: str, hidden: tuple[str, ...] = ()) -> set[str]:
+    scope = reader.scope_of(TEXT, OWN)
+    return {key.name for key in reader.references(text, scope, hidden)}
+
+
+def used(text: str) -> set[str]:
+    """What the last definition of a text names."""
+    *_, each = reader.read_specs("c", "F", text)
+    return {key.name for key in reader.uses(each, reader.scope_of(TEXT, OWN))}
+
+
+class Reading(unittest.TestCase):
+    def test_definitions_have_their_lines_without_comments(self):
+        found = list(reader.read_specs("c", "F", TEXT))
+        self.assertEqual([(each.key.name, len(each.lines)) for each in found],
+                         [("Kind", 2), ("load", 4), ("Held", 3), ("hours", 2)])
+        self.assertEqual(found[0].makes, ("small", "large"))
+        self.assertEqual([each.around for each in found], ["", "(n : ℕ)", "(n : ℕ)", ""])
+
+    def test_an_operator_and_a_constructor_are_names(self):
+        self.assertEqual(named("small next whole 1 +ᶠ x"), {"Kind", "_next_", "whole", "_+ᶠ_"})
+
+    def test_a_field_is_no_name(self):
+        self.assertEqual(named("season .vp"), set())
+        self.assertEqual(named("record { vp = 1; hours = 2 }"), set())
+        self.assertEqual(named("season .vp + vp"), {"vp"})
+
+    def test_a_variable_hides_a_definition(self):
+        self.assertEqual(named("(hours : ℕ) → hours ≡ vp"), {"vp"})
+        self.assertEqual(named("λ hours. hours"), set())
+        self.assertEqual(named("elim c [ hours ↦ hours | large ↦ vp ]"), {"vp", "Kind"})
+        self.assertEqual(named("hours", ("hours",)), set())
+
+    def test_the_value_of_a_let_may_name_its_own_name(self):
+        self.assertEqual(named("let vp = hours in vp"), {"hours"})
+        self.assertEqual(named("let vp = vp n in vp"), {"vp"})
+        self.assertEqual(named("let hours = inner hours in hours"), {"hours"})
+
+    def test_a_pattern_hides_and_a_constructor_does_not(self):
+        self.assertEqual(used("abbrev pub f : ℕ\nf hours = hours\n"), set())
+        self.assertEqual(used("abbrev pub f : ℕ\nf small = vp\n"), {"vp", "Kind"})
+
+    def test_a_record_is_what_its_fields_name(self):
+        text = "pub record R (vp : ℕ) : Type 0 where\n  pub hours : Fraction\n  pub b : load hours vp\n"
+        self.assertEqual(used(text), {"Fraction", "load"})
+
+    def test_a_name_of_two_crates_is_two_definitions(self):
+        short = [key for key in reader.definitions() if key.name == "short"]
+        self.assertEqual(sorted(key.crate for key in short), ["bounds", "thresholds"])
+        scopes = reader.scopes()
+        self.assertEqual(scopes["starting_loads", "Net"].find("short"), Key("thresholds", "Thresholds", "short"))
+        self.assertEqual(scopes["starting_loads", "Steps"].find("short"), Key("bounds", "Short", "short"))
+
+    def test_another_name_for_a_module_is_followed(self):
+        self.assertIn(Key("exact", "Canister", "escape"), reader.graph()[Key("exact", "Factors", "rowEscape")])
+
+    def test_a_name_that_is_not_found_is_told(self):
+        text = ("use Rattle.exact.specs.Day.{temperature, dew}\nuse Rattle.io.specs.Counts.{Counts}\n"
+                "pub use Rattle.exact.specs.Day.{w,\n")
+        self.assertEqual(list(reader.unresolved(text)), ["pub use Rattle.exact.specs.Day.{w,", "dew of exact: Day"])
+
+    def test_a_type_that_the_code_declares_is_followed(self):
+        self.assertIn(Key("exact", reader.DECLARED, "Canister"), reader.graph()[Key("exact", reader.DECLARED, "Row")])
+        self.assertIn(Key("findings", reader.DECLARED, "Site"), reader.declared())
+
+    def test_a_contract_has_what_it_requires_and_ensures(self):
+        code = ('ghost use Rattle.sheet.specs.Bytes.{rowsOf};\nghost use Rattle.sheet.specs.Sheet.{sheetCheck};\n'
+                'pub fn f(s: &[u8]) -> u64\n    requires { ⌜ sheetCheck (now s) ≡ Pass ⌝ }\n'
+                '    ensures { λ r. ⌜ r ≡ rowsOf (now s) ⌝ }\n{\n    1\n}\n\npub fn g() -> u64 {\n    0\n}\n')
+        with tempfile.TemporaryDirectory() as folder:
+            path = Path(folder) / "lib.rt"
+            path.write_text(code, encoding="utf-8")
+            first, second = reader.read_contracts(path)
+        self.assertEqual((first.name, first.requires, {key.name for key in first.needs}), ("f", True, {"sheetCheck"}))
+        self.assertEqual({key.name for key in first.ensures}, {"rowsOf"})
+        self.assertEqual((second.name, second.requires), ("g", False))
+
+
+class Closure(unittest.TestCase):
+    def test_it_follows_names_and_ends_where_it_is_told(self):
+        a, b, c = (Key("c", "F", name) for name in "abc")
+        edges = {a: [b], b: [c]}
+        self.assertEqual(reader.closure([a], edges), {a, b, c})
+        self.assertEqual(reader.closure([a], edges, [b]), {a, b})
+
+    def test_no_demand_rests_on_the_method(self):
+        crates = {key.crate for key in believe.demanded()}
+        self.assertEqual(crates, {"numbers", "bounds", "exact", "sheet", "masses", "report_words", "inventory"})
+        bounds = {key.file for key in believe.demanded() if key.crate == "bounds"}
+        self.assertEqual(bounds, {"Series", "Weights"})
+
+    def test_a_demand_has_what_it_speaks_of(self):
+        names = {which: {key.name for key in believe.demanded(which)} for which in believe.DEMANDS}
+        self.assertLessEqual({"rowDemands", "tripsLimit", "vehiclesBefore", "Check"}, names["1"])
+        self.assertLessEqual({"factor", "startingLoad", "S", "power2·5", "Row"}, names["2"])
+        self.assertLessEqual({"mass", "blend", "twoWheeler", "categoryWord"}, names["3"])
+        self.assertNotIn("mass", names["1"] | names["2"])
+
+    def test_a_root_that_moved_to_another_crate_is_told(self):
+        with self.assertRaises(believe.Missing):
+            believe.find("sheet", "ReportPromise")
+
+
+class Page(unittest.TestCase):
+    def setUp(self):
+        self.text = (TOP / believe.READING).read_text(encoding="utf-8")
+
+    def test_the_page_names_everything(self):
+        self.assertEqual([*believe.naming_faults(self.text), *believe.limit_faults(self.text),
+                          *believe.count_faults(self.text)], [])
+
+    def test_a_name_that_is_left_out_is_found(self):
+        found = list(believe.naming_faults(self.text.replace("`T1` `T2`", "`T1`")))
+        self.assertEqual(found, ["T2 of exact: Factors is not named in a table"])
+
+    def test_a_name_in_the_row_of_another_file_is_none(self):
+        self.assertEqual(believe.named("| exact: Day | `vp` | x |\n| | `hours` | y |\n\n| | `T1` | z |\n"),
+                         {("exact", "Day", "vp"), ("exact", "Day", "hours")})
+
+    def test_a_name_in_the_part_on_the_method_is_none(self):
+        kept, aside = believe.parts("# A\n## 1. Numbers\nx\n## 5. What need not be believed\ny\n## More\nz\n")
+        self.assertEqual((kept, aside), ("# A\n## 1. Numbers\nx\n## More\nz\n", "## 5. What need not be believed\ny\n"))
+
+    def test_a_wrong_limit_is_found(self):
+        found = list(believe.limit_faults(self.text.replace("| `tripsLimit` | 1,200 |", "| `tripsLimit` | 2,000 |")))
+        self.assertEqual(found, ["tripsLimit is 1200, and the page says 2,000"])
+
+    def test_a_wrong_count_is_found(self):
+        faults = list(believe.count_faults(self.text.replace("| all three | | ", "| all three | | 1")))
+        self.assertEqual(len(faults), 1)
+        self.assertEqual(len(list(believe.count_faults(""))), 4)
+
+
+class Files(unittest.TestCase):
+    def test_every_public_call_is_without_requires(self):
+        self.assertEqual(list(believe.call_faults()), [])
+        self.assertIn(("crates/inventory/src/lib.rt", "report"), believe.public_calls())
+        self.assertIn(("crates/evaporation/src/map.rt", "evp_add_cells"), believe.public_calls())
+
+    def test_a_first_line_marks_a_file(self):
+        self.assertTrue(believe.is_marked("-- Need not be believed: the computed mean.\nuse x\n"))
+        self.assertTrue(believe.is_marked("-- For proofs; nothing here has to be believed.\n"))
+        self.assertFalse(believe.is_marked("-- The computed mean.\n-- Need not be believed.\n"))
+
+    def test_an_exception_that_is_not_needed_is_told(self):
+        self.assertEqual(list(believe.against(["a"], ["a"], "is wrong", "LIST")), [])
+        self.assertEqual(list(believe.against(["a"], [], "is wrong", "LIST")), ["a is wrong"])
+        self.assertEqual(list(believe.against([], ["a"], "is wrong", "LIST")),
+                         ["a needs no exception: take it out of LIST in tools/check/believe.py"])
+
+    def test_a_definition_of_the_method_is_told_from_a_statement(self):
+        files = believe.files()
+        self.assertEqual(files["factors", "Units"].believed + files["factors", "Units"].stated, [])
+        self.assertIn("MassesTheorem", files["masses", "AnyCounts"].stated)
+        self.assertIn("temperature", files["exact", "Day"].believed)
+
+    def test_a_definition_for_proofs_alone_is_told_from_one_of_a_contract(self):
+        alone = set(believe.proofs_alone())
+        self.assertIn("text: Decimal Numeral", alone)
+        self.assertNotIn("parking: Grid GridReady", alone)
+
+
+if __name__ == "__main__":
+    unittest.main()
