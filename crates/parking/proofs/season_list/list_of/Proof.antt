@@ -51,7 +51,7 @@ add-counts c =
     let g = l .before .before .pre in
     let t = l .loop-test .taken in
     let inside : c .before .slot .result < 577 = omega (arith, place-below (c .before)) in
-    omega (arith, counted-most (l .before .loop .inv .1) (g .cells-in) t (c .before .slot .result) inside, cell-is _ (l .before .loop .cell) t)
+    omega (arith, counted-most (l .before .loop .inv .1) (g .cells-in) t (c .before .slot .result) inside, cell-is (l .before .before .args .grid .now) (l .before .loop .cell) t)
 
 -- the cell is counted
 loop-again : tie.Need-loop-again Inv-loop μ-loop
@@ -63,7 +63,7 @@ loop-again c =
     let i = l .before .loop .inv in
     let t = l .loop-test .taken in
     let e = entry-inside (s .before .before .before .before) in
-    let count = cell-is _ (l .before .loop .cell) t in (
+    let count = cell-is (l .before .before .args .grid .now) (l .before .loop .cell) t in (
       omega (arith, t),
       counted-next (i .1) t _ e (started a) (placed s) (c .grown .ensures) count,
       set-most (l .before .loop .last) (m .result) (s .slot .result) (rw (i .3) (m .ensures .1)) (i .2) (place-below s),
