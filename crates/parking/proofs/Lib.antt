@@ -7,3 +7,4 @@ pub mod Parts
 pub mod Walked
 pub mod Carried
 pub mod Counted
+pub mod CountedRises

@@ -1,14 +1,19 @@
 -- Need not be believed: the list of a season's parkings that the program adds up for a row with a canister.
-use mathlib.Core.Bool.{false}
+use mathlib.Core.Bool.{false, cond}
 use mathlib.Core.List.{List}
 use mathlib.Core.Path.{_≡_}
 use Prim.Native.Nat.{ℕ, _+_, _*_, _^_, _≤_, _<_}
+use lib.Dec.{eqb}
 use Rattle.numbers.specs.Lists.{at, sum, AllAtMost}
 use Rattle.parking.specs.Grid.{apartOf}
 
 -- what the first n cells give, of a value by the start's distance from 14:00 and by the rise
 abbrev pub byCell : List ℕ → List ℕ → (ℕ → ℕ → ℕ) → ℕ → ℕ
 byCell cells rises f n = sum (λ (cell : ℕ). at cells cell * f (apartOf false cell) (at rises cell)) n
+
+-- the rise of a cell as the list has it: a cell with a count of 0 is left out, like one without rise
+abbrev pub countedRise : ℕ → ℕ → ℕ
+countedRise count rise = cond (eqb count 0) 0 rise
 
 -- In the array stand 577 starts, by their distance from 14:00, as many rises and counts, and how many of them are entries.
 abbrev pub entryCount : List ℕ → ℕ

@@ -1,5 +1,5 @@
 // The parkings that breathe, as a list made once a season: cells that start at one temperature and have one rise are one entry, and cells
-// without rise are none.
+// without rise or with a count of 0 are none.
 use crate::cells::mark_of;
 use bounds::hours::apart;
 ghost use mathlib.Core.Bool.{cond, _&&_};
@@ -10,7 +10,7 @@ ghost use lib.Dec.{eqb};
 ghost use lib.ListN.{length};
 ghost use Rattle.numbers.specs.Lists.{at};
 ghost use Rattle.parking.specs.Grid.{cellsIn, GridReady};
-ghost use Rattle.parking.specs.SeasonList.{ListReady};
+ghost use Rattle.parking.specs.SeasonList.{countedRise, ListReady};
 
 // In the array stand the starts of the entries, by their distance from 14:00, the rises and the counts, and how many entries there are.
 pub const RISES: usize = 577;
@@ -19,7 +19,7 @@ pub const COUNTS: usize = 1154;
 
 pub const LENGTH: usize = 1731;
 
-// Where cells without rise are counted: no entry stands there.
+// Where cells that are no entries are counted: no entry stands there.
 const ASIDE: usize = 576;
 
 // The entry has this start and this rise.
@@ -28,6 +28,13 @@ fn same(starts: &[u64; 577], rises: &[u64; 577], entry: usize, start: usize, ris
     ensures { λ r. ⌜ r ≡ (eqb (at (now (starts .entry)) entry) start && eqb (at (now (rises .entry)) entry) rise) ⌝ }
 {
     (starts[entry] == start as u64) & (rises[entry] == rise)
+}
+
+// The rise of a cell as the list has it: 0 where the cell counts nothing, so that the cell is no entry.
+fn counted_rise(count: u64, rise: u64) -> u64
+    ensures { λ r. ⌜ r ≡ countedRise count rise ⌝ }
+{
+    if count == 0 { 0 } else { rise }
 }
 
 // Where a cell is counted: aside, at an entry like it, or at a new one.
@@ -101,13 +108,14 @@ pub fn list_of(grid: &[u64; 627], rises: &[u64; 576]) -> [u64; 1732]
     while cell < 576 {
         let mark = mark_of(cell, false);
         let start = apart(mark);
-        let rise = rises[cell];
+        let count = grid[cell];
+        let rise = counted_rise(count, rises[cell]);
         let entry = last[mark];
         let found = same(&starts, &values, entry, start, rise);
         let place = slot(rise, found, entry, len);
         starts[place] = start as u64;
         values[place] = rise;
-        counts[place] += grid[cell];
+        counts[place] += count;
         last[mark] = place;
         len = grown(place, len);
         cell += 1;
