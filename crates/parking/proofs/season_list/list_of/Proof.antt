@@ -73,7 +73,8 @@ add-counts c =
     let g = l .before .before .pre in
     let t = l .loop-test .taken in
     let inside : c .slot .result < 577 = omega (arith, place-below c) in
-    omega (arith, counted-most (l .before .loop .inv .1) (g .cells-in) t (c .slot .result) inside, cell-is (l .before .before .args .grid .now) (l .before .loop .cell) t)
+    let count = cell-is (l .before .before .args .grid .now) (l .before .loop .cell) t in
+    omega (arith, counted-most (l .before .loop .inv .1) (g .cells-in) t (c .slot .result) inside, count)
 
 -- the cell is counted
 loop-again : tie.Need-loop-again Inv-loop μ-loop
