@@ -47,7 +47,8 @@ change-of : {s owners w after words : List ℕ} {who : ℕ} {call : Call} {r : E
     → SharedChangeCall s owners w who call after words (sharedChangeCheck s owners (length w) who call)
 change-of a = record { answer-is = refl; sheet-is = a .sheet-is; words-are = a .words-are; says = rw (a .answer-is ∙ check-is _) at (a .says) }
 
-row-of : {s owners w : List ℕ} {who i : ℕ} {r : EvpRow} → RowNumbers s owners w who i r → SharedRowCall s owners w who i (sharedRowAnswer s owners w who i)
+row-of : {s owners w : List ℕ} {who i : ℕ} {r : EvpRow} → RowNumbers s owners w who i r
+    → SharedRowCall s owners w who i (sharedRowAnswer s owners w who i)
 unfolding rowNumbers
 row-of a = record { answer-is = refl; says = rw (a .answer-is) at (a .says) }
 
@@ -100,7 +101,8 @@ course-of {s} {owners} {w} c = record {
 }
 
 -- the numbers of the replies to one of the callers
-numbers-to : (who : ℕ) (asks : List Ask) (inside : List told.Reply) → repliesTo who asks (map numbersOf inside) ≡ map numbersOf (rattle.repliesTo who asks inside)
+numbers-to : (who : ℕ) (asks : List Ask) (inside : List told.Reply)
+    → repliesTo who asks (map numbersOf inside) ≡ map numbersOf (rattle.repliesTo who asks inside)
 unfolding repliesTo rattle.repliesTo
 numbers-to who [] inside = refl
 numbers-to who (ask ∷ asks) [] = refl
@@ -118,7 +120,8 @@ replies-are {asks = asks} who c = ap (repliesTo who asks) (made-of (c .made) .nu
 pub isolated-numbers : IsolatedTheorem
 isolated-numbers who some s owners w t others v bytes bytes' same asks instead replies answers s' w' t' v' first second made =
     replies-are who first ∙
-    ap (map numbersOf) (isolated who some s owners w t others v bytes bytes' same asks instead _ _ s' w' t' v' (course-of first) (course-of second) made) ∙
+    ap (map numbersOf)
+    (isolated who some s owners w t others v bytes bytes' same asks instead _ _ s' w' t' v' (course-of first) (course-of second) made) ∙
     sym (replies-are who second)
 
 -- what is read: the answer of a reply that is known

@@ -21,7 +21,8 @@ pub record PooledCalls (a b out : List ℕ) (bytes : ℕ) : Type 0 where
       → PooledWords a b first second both
 
 abbrev pub PoolCallsTheorem : Type 0
-PoolCallsTheorem = (a b old out : List ℕ) (answer : EvpPool) → PoolNumbers a b old out answer → answer .number ≡ 0 → PooledCalls a b out (answer .bytes)
+PoolCallsTheorem = (a b old out : List ℕ) (answer : EvpPool) → PoolNumbers a b old out answer → answer .number ≡ 0
+    → PooledCalls a b out (answer .bytes)
 
 -- "Pooling those in the other order changes only where rows stand": `evp_pool` returns number 0 too, in a buffer of the same length
 pub record OrderCalls (a b out out' : List ℕ) (bytes : ℕ) (answer' : EvpPool) : Type 0 where

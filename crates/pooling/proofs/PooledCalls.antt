@@ -89,7 +89,8 @@ order-calls a b old out old' out' answer answer' call e other same =
       accepted = f;
       words = λ w both w' turned r r'. record {
         first-rows = λ i k l m.
-            pooled-word other f (6 * (rowsOf b + i) + k) r' (omega arith) ∙ o .first i l .words k m ∙ sym (pooled-word call e (6 * i + k) r (omega arith));
+            pooled-word other f (6 * (rowsOf b + i) + k) r' (omega arith) ∙ o .first i l .words k m ∙
+            sym (pooled-word call e (6 * i + k) r (omega arith));
         second-rows = λ i k l m.
             pooled-word other f (6 * i + k) r' (omega arith) ∙ o .second i l .words k m ∙
             sym (pooled-word call e (6 * (rowsOf a + i) + k) r (omega arith));

@@ -28,7 +28,8 @@ pub record PooledWords (a b first second both : List ℕ) : Type 0 where
 -- two report calls on the sheets that pass.
 pub record PooledCalls (a b out : List ℕ) : Type 0 where
   pub accepted : (w both : List ℕ) (r : Check) → ReportCall (pooledBytes a b out) w both r → 6 * rowsTogether a b + 26 ≤ length w → r ≡ Pass
-  pub words : (u first v second w both : List ℕ) → ReportCall a u first Pass → ReportCall b v second Pass → ReportCall (pooledBytes a b out) w both Pass
+  pub words : (u first v second w both : List ℕ) → ReportCall a u first Pass → ReportCall b v second Pass
+      → ReportCall (pooledBytes a b out) w both Pass
       → PooledWords a b first second both
 
 abbrev pub PoolCallsTheorem : Type 0
