@@ -25,7 +25,7 @@ pub record RowsKept (s kept : List ℕ) : Type 0 where
   pub kept-of : (i : ℕ) → i < rowsOf s → KeptOf (rowAt s i) (getD kept i 0)
 
 -- with one of its seasons, for all its rows
-pub record SeasonLent (s tables grid day : List ℕ) (given : AtSeason) : Type 0 where
+pub record SeasonLent (s tables grid : List ℕ) (given : AtSeason) : Type 0 where
   pub sheet : SheetLent s tables grid
-  pub lent : Lent tables grid day given
+  pub lent : Lent tables grid given
   pub rows-in : (i : ℕ) → i < rowsOf s → RowInRange (given .season) (rowAt s i)
