@@ -41,12 +41,7 @@ pub record CurveReady (c : Curve) : Type 0 where
 pub record CurvesReady (c : Curves) : Type 0 where
   pub ready : (d : ℕ) → d < 25 → CurveReady (curveAt c d)
 
--- the mean over a raise at the end, or the start, of a parking, of raises by distance that stand from a place of a season's day on
-abbrev pub raiseThrough : List ℕ → Bool → List ℕ → ℕ → Curves → ℕ
-raiseThrough cells ends day place c =
-    meanUnits cells (λ (cell : ℕ). through (curveAt c (apartOf ends cell)) (at day (place + apartOf ends cell)))
-
--- where they stand, and how large they are
-pub record RaisesFit (day : List ℕ) (place : ℕ) : Type 0 where
-  pub there : place ≤ 225
-  pub raises-most : (d : ℕ) → d < 25 → at day (place + d) ≤ 56 * 2 ^ 40
+-- the mean over a raise at the end, or the start, of a parking, of raises by distance
+abbrev pub raiseThrough : List ℕ → Bool → List ℕ → Curves → ℕ
+raiseThrough cells ends raises c =
+    meanUnits cells (λ (cell : ℕ). through (curveAt c (apartOf ends cell)) (at raises (apartOf ends cell)))

@@ -10,9 +10,10 @@ use parking::season_list::RISES;
 ghost use mathlib.Core.Path.{_≡_};
 ghost use Prim.Native.Nat.{ℕ, _*_, _/_, _^_};
 ghost use Rattle.bounds.specs.Exponential.{entries};
+ghost use Rattle.numbers.specs.Lists.{AllAtMost};
 ghost use Rattle.parking.specs.Grid.{cellsIn, GridReady};
 ghost use Rattle.parking.specs.SeasonList.{byEntry, ListFits};
-ghost use Rattle.breakthrough.specs.Through.{CurvesReady, curveAt, through, RaisesFit, raiseThrough};
+ghost use Rattle.breakthrough.specs.Through.{CurvesReady, curveAt, through, raiseThrough};
 
 // From units of 2^-40 g to units of 2^-28 g.
 const CUT: u64 = 4096;
@@ -42,17 +43,16 @@ pub fn through_list(tables: &[u64; 1907], list: &[u64; 1732], c: Curves) -> u64
 }
 
 // Of the rise when the temperature at the end, or the start, of each parking is raised, the mean in units of 2^-28 g. The raises stand by
-// distance from a place of the day on.
+// distance from 14:00.
 pub fn through_raises(
     tables: &[u64; 1907],
     grid: &[u64; 627],
-    day: &[u64; 250],
     ends: bool,
-    place: usize,
+    raises: &[u64; 25],
     c: Curves,
 ) -> u64
-    requires { ⌜ (now tables ≡ entries) × GridReady (now grid) × CurvesReady c × RaisesFit (now day) place ⌝ }
-    ensures { λ r. ⌜ r ≡ raiseThrough (cellsIn (now (grid .entry))) ends (now (day .entry)) place c ⌝ }
+    requires { ⌜ (now tables ≡ entries) × GridReady (now grid) × CurvesReady c × AllAtMost (56 * 2 ^ 40) (now raises) ⌝ }
+    ensures { λ r. ⌜ r ≡ raiseThrough (cellsIn (now (grid .entry))) ends (now (raises .entry)) c ⌝ }
 {
     let first = apart_place(ends);
     let mut sum: u64 = 0;
@@ -66,7 +66,7 @@ pub fn through_raises(
             first: c.firsts[d],
             gain: c.gain,
         };
-        sum += grid[first + d] * (through(tables, curve, day[place + d]) / CUT);
+        sum += grid[first + d] * (through(tables, curve, raises[d]) / CUT);
         d += 1;
     }
     sum / grid[SUM]

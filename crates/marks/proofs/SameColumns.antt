@@ -49,6 +49,10 @@ module _ (θ : ℕ → ℕ) (few : List ℕ) (there : (k : ℕ) → k < 48 → a
         = rw g (getD-tab (λ (d : ℕ). heat (at few d)) 25 (apart k) (omega (arith, apart-most k))) in
         first ∙ ap heat (there k h)
 
+    -- E(0.0716·T) at the marks
+    pub heats-are : {all : List ℕ} → all ≡ tab (λ (i : ℕ). at heats (apart i)) 48 → all ≡ tab (λ (i : ℕ). heat (θ i)) 48
+    heats-are e = e ∙ tab-ext 48 heat-at
+
     -- the rises from each mark to the next
     pub steps-are : {all : List ℕ} → all ≡ tab (λ (i : ℕ). at heats (apart i)) 48
         → tab (λ (i : ℕ). at all ((i + 1) % 48) - at all i) 48 ≡ tab (stepAt θ) 48

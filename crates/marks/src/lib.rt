@@ -20,10 +20,17 @@ ghost use Rattle.sheet.specs.Range.{warmth, warmthLimit, markWarmth, SeasonInRa
 ghost use Rattle.marks.specs.AtMarks.{AtMarks};
 ghost use Rattle.marks.specs.Marks.{heat, raisedError, pressureFactor, bracketUnits};
 
-// What a season needs at its marks 0 to 47.
+// A season at its marks 0 to 47.
 pub struct Marks {
-    // T, in units of 10^-10 °C above -30 °C.
-    pub warmth: [u64; 48],
+    // The temperature T, in units of 10^-10 °C above -30 °C.
+    pub temperature: [u64; 48],
+    // A lower bound of E(0.0716 T), in units of 2^-40.
+    pub exponential: [u64; 48],
+}
+
+// What is computed from the temperatures at the marks 0 to 47.
+pub struct MarkValues {
+    pub marks: Marks,
     // The rise of E(0.0716 T) to the next mark, in units of 2^-40.
     pub step: [u64; 48],
     // Permeation in grams per hour, in units of 2^-40: at T, at T + 11 for the hot soak, and at T + 15 for running.
@@ -226,17 +233,22 @@ fn mark_raises(tables: &[u64; 1907], warmths: [u64; 25], heats: [u64; 25], raise
 
 // The values of a season at its marks, each made once for the marks of one temperature. The tables are those that `tables` of `bounds`
 // gives.
-pub fn at_marks(tables: &[u64; 1907], season: Season) -> Marks
+pub fn at_marks(tables: &[u64; 1907], season: Season) -> MarkValues
     requires { ⌜ (now tables ≡ entries) × SeasonInRange season ⌝ }
     ensures { λ r. ⌜ AtMarks season r ⌝ }
 {
-    let warmth = season_temperatures(season);
-    let few = by_distance(&warmth);
+    let temperature = season_temperatures(season);
+    let few = by_distance(&temperature);
     let heat = heats(tables, few);
-    let step = steps(by_mark(&heat));
+    let exponential = by_mark(&heat);
+    let step = steps(exponential);
     let pressure = pressure_factor(tables, season.vp);
-    Marks {
-        warmth,
+    let marks = Marks {
+        temperature,
+        exponential,
+    };
+    MarkValues {
+        marks,
         step,
         rate: mark_rates(pressure, few, 0),
         soak: mark_rates(pressure, few, 110 * TENTH),

@@ -79,14 +79,13 @@ pub fn row_figures(
     tables: &[u64; 1907],
     grid: &[u64; 627],
     list: &[u64; 1732],
-    day: &[u64; 250],
     at: AtSeason,
     row: Row,
     kept: u64,
 ) -> [u64; 6]
-    requires { ⌜ Lent (now tables) (now grid) (now day) at × RowInRange (at .season) row × UseInRange row
+    requires { ⌜ Lent (now tables) (now grid) at × RowInRange (at .season) row × UseInRange row
         × ListFor (now grid) (now list) (at .season) row × KeptOf row kept ⌝ }
     ensures { λ r. ⌜ r ≡ dayFigures (cellsIn (now (grid .entry))) (at .season) row ⌝ }
 {
-    six_figures(row_units(tables, grid, list, day, at, row, kept), row)
+    six_figures(row_units(tables, grid, list, at, row, kept), row)
 }

@@ -57,21 +57,12 @@ fn add_season(
     ensures { λ _. ⌜ now (words .exit) ≡ filled (yearWord (now (s .entry)) (j + 1)) (6 * rowsOf (now (s .entry))) (now (words .entry)) ⌝ }
 {
     let prepared = prepare(tables, grid, season_at(s, j), true);
-    let day = prepared.day;
     let at = prepared.at;
     let season = at.season;
     let rows = rows_of(s);
     let mut i: usize = 0;
     while i < rows {
-        let figures = row_figures(
-            tables,
-            grid,
-            &prepared.list,
-            &day,
-            at,
-            row_at(s, i),
-            kept[i],
-        );
+        let figures = row_figures(tables, grid, &prepared.list, at, row_at(s, i), kept[i]);
         add_days(words, 6 * i, season.days, figures);
         i += 1;
     }

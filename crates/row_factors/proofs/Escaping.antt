@@ -41,11 +41,12 @@ use Rattle.parking.proofs.Tally.{markOf-below, apartOf-below}
 use Rattle.parking.proofs.Weighted.{mean-ext, mean-below, cells-mean}
 use Rattle.breakthrough.specs.declared.curves.Curves.{Curves}
 use Rattle.breakthrough.specs.Curves.{FitReady, basesOf, growthsOf, startsBy, CurvesBy, CurvesOf}
-use Rattle.breakthrough.specs.Through.{CurvesReady, curveAt, through, RaisesFit, raiseThrough}
+use Rattle.breakthrough.specs.Through.{CurvesReady, curveAt, through, raiseThrough}
 use Rattle.breakthrough.proofs.Fitted.{fit-ready, curves-of, curves-ready, through-is, through-none, through-alike}
 use Rattle.row_factors.specs.declared.season.AtSeason.{AtSeason}
+use Rattle.row_factors.specs.declared.season.Day.{Day}
 use Rattle.row_factors.specs.declared.escapes.Escapes.{Escapes}
-use Rattle.row_factors.specs.Season.{meanAt, risesOf, growthPlace, RaisedAt, DayReady, RowLent}
+use Rattle.row_factors.specs.Season.{meanAt, risesOf, growthIn, dayGrowths, dayRaises, DayReady, RowLent}
 use Rattle.row_factors.specs.Seven.{parkingThrough, parkingEscape, VapourOf, CarEscapes, TwoWheelerEscapes}
 
 module _ (season : Season) (row : Row) (counts : List ℕ) where
@@ -141,13 +142,17 @@ module _ {season : Season} {row : Row} {c : Curves} (f : CurvesOf season row c) 
       escape-through season row cells (row .canister) p startOf (parkingRise season)
 
   -- over a raise by so many tenths of °C
-  raise-escape : (ends : Bool) (k : ℕ) (day : List ℕ) (place : ℕ) → RaisedAt season k day place
-      → raiseThrough cells ends day place c ≡ escapeOverUnits season row cells (markOf ends) (tenths k)
+  raise-escape : (ends : Bool) (k : ℕ) {raises : List ℕ} → raises ≡ dayRaises season k
+      → raiseThrough cells ends raises c ≡ escapeOverUnits season row cells (markOf ends) (tenths k)
   unfolding escapeOverUnits
-  raise-escape ends k day place e =
+  raise-escape ends k e =
       mean-ext cells
       (λ cell.
-      rw (e (apartOf ends cell) (apartOf-below ends cell), raises-alike season k (markOf ends cell) (markOf-below ends cell))
+      rw (
+        e,
+        getD-tab (λ (d : ℕ). raisesBy season k (ahead d)) 25 (apartOf ends cell) (apartOf-below ends cell),
+        raises-alike season k (markOf ends cell) (markOf-below ends cell),
+      )
       (through-from ends cell _)) ∙
       escape-through season row cells (row .canister) p (markOf ends) (λ (cell : ℕ). raisesBy season k (markOf ends cell))
 
@@ -164,31 +169,34 @@ five-most {a} {b} {c} {d} {e} {bound} p q r s t = record { at-most = each }
     each (suc (suc (suc (suc (suc k))))) = omega arith
 
 -- A row with a canister: a and 2·b·s are those of the day.
-module _ {tables grid list day bases growths : List ℕ} {given : AtSeason} {row : Row} {vapour kept place : ℕ}
-    (q : RowLent tables grid list day given row kept × (0 < halves (row .canister))) (there : place ≡ growthPlace (row .canister))
-    (eb : bases ≡ tab (λ (d : ℕ). at day (0 + d)) 25) (eg : growths ≡ tab (λ (d : ℕ). at day (place + d)) 25)
+growth-is : {season : Season} {day : Day} → DayReady season day → (c : Canister) → 0 < halves c → growthIn day c ≡ dayGrowths season c
+unfolding growthIn halves
+growth-is r None p = absurd (omega arith)
+growth-is r Large p = r .large-is
+growth-is r Medium p = r .medium-is
+growth-is r Small p = r .small-is
+
+module _ {tables grid list growths : List ℕ} {given : AtSeason} {row : Row} {vapour kept : ℕ}
+    (q : RowLent tables grid list given row kept × (0 < halves (row .canister))) (g : growths ≡ growthIn (given .day) (row .canister))
     (v : vapour ≡ gain (given .season) row) where
-  bases-known : bases ≡ tab (basesOf (given .season) row) 25
-  bases-known = eb ∙ tab-ext 25 (λ d h. ap (at day) {x = 0 + d} {y = d} (omega arith) ∙ q .0 .lent .day-ready .bases-are d h)
-
   growths-known : growths ≡ tab (growthsOf (given .season) row) 25
-  growths-known = eg ∙ tab-ext 25 (λ d h. rw there (q .0 .lent .day-ready .growths-are (row .canister) (q .1) d h))
+  growths-known = g ∙ growth-is (q .0 .lent .day-ready) (row .canister) (q .1)
 
-  pub fit-needs : (tables ≡ entries) × FitReady row bases growths vapour kept
+  pub fit-needs : (tables ≡ entries) × FitReady row (given .day .base) growths vapour kept
   fit-needs = (
     q .0 .lent .tables-are,
-    fit-ready (q .0 .lent .day-ready .season-in) (q .0 .row-in) (q .1) bases-known growths-known v (q .0 .kept-of),
+    fit-ready (q .0 .lent .day-ready .season-in) (q .0 .row-in) (q .1) (q .0 .lent .day-ready .base-is) growths-known v (q .0 .kept-of),
   )
 
   pub fit-right : {c : Curves}
-      → CurvesBy (at bases) (at growths) (startsBy row bases growths) (tenthGrams (row .saturation)) vapour (lossError row) c
+      → CurvesBy (at (given .day .base)) (at growths) (startsBy row (given .day .base) growths) (tenthGrams (row .saturation)) vapour (lossError row) c
       → CurvesOf (given .season) row c
-  fit-right by = curves-of (given .season) row bases-known growths-known v by
+  fit-right by = curves-of (given .season) row (q .0 .lent .day-ready .base-is) growths-known v by
 
 -- A row with a canister, and what is lent to its functions: what they need, and that each mean is its escape.
-module _ {tables grid list day : List ℕ} {given : AtSeason} {row : Row} {kept : ℕ}
-    (q : RowLent tables grid list day given row kept × (0 < halves (row .canister))) {c : Curves} (f : CurvesOf (given .season) row c) where
-  its-day : DayReady (given .season) day
+module _ {tables grid list : List ℕ} {given : AtSeason} {row : Row} {kept : ℕ}
+    (q : RowLent tables grid list given row kept × (0 < halves (row .canister))) {c : Curves} (f : CurvesOf (given .season) row c) where
+  its-day : DayReady (given .season) (given .day)
   its-day = q .0 .lent .day-ready
 
   fitted : CurvesReady c
@@ -216,22 +224,22 @@ module _ {tables grid list day : List ℕ} {given : AtSeason} {row : Row} {kept 
       (q .0 .list-for .ready (q .1) .sum-is (λ (start : ℕ) (rise : ℕ). through (curveAt c start) rise / 2 ^ 12) still) ∙
       parking-escape f (q .0 .row-in .load-most) (q .1) _ (q .0 .lent .grid-ready .cells-in .length-is)
 
-  -- over a raise, which stands from a place of the day on
-  module _ (k place : ℕ) (pick : DayReady (given .season) day → RaisedAt (given .season) k day place) where
-    pub raise-needs : k ≤ 60 → place ≤ 225 → (tables ≡ entries) × GridReady grid × CurvesReady c × RaisesFit day place
-    raise-needs h there = (
+  -- over a raise
+  module _ (k : ℕ) {raises : List ℕ} (known : raises ≡ dayRaises (given .season) k) where
+    pub raise-needs : k ≤ 60 → (tables ≡ entries) × GridReady grid × CurvesReady c × AllAtMost (56 * 2 ^ 40) raises
+    raise-needs h = (
       q .0 .lent .tables-are,
       q .0 .lent .grid-ready,
       fitted,
-      record { there = there; raises-most = λ d l. rw (pick its-day d l) (raise-mark-most (its-day .season-in) k (ahead d) h) },
+      tab-at-most _ 25 known (λ d _. raise-mark-most (its-day .season-in) k (ahead d) h),
     )
 
-    pub raise-right : (ends : Bool) {x : ℕ} → x ≡ raiseThrough (cellsIn grid) ends day place c
+    pub raise-right : (ends : Bool) {x : ℕ} → x ≡ raiseThrough (cellsIn grid) ends raises c
         → x ≡ escapeOverUnits (given .season) row (cellsIn grid) (markOf ends) (tenths k)
-    raise-right ends e = e ∙ raise-escape f (q .0 .row-in .load-most) (q .1) _ ends k day place (pick its-day)
+    raise-right ends e = e ∙ raise-escape f (q .0 .row-in .load-most) (q .1) _ ends k known
 
 -- A row without canister, and what is lent to its functions: how large the mean rises are, and that the vapour of each is its escape.
-module _ {tables grid list day : List ℕ} {given : AtSeason} {row : Row} {vapour kept : ℕ} (r : RowLent tables grid list day given row kept)
+module _ {tables grid list : List ℕ} {given : AtSeason} {row : Row} {vapour kept : ℕ} (r : RowLent tables grid list given row kept)
     (v : vapour ≡ gain (given .season) row) where
   season-ok : SeasonInRange (given .season)
   season-ok = r .lent .day-ready .season-in

@@ -1,8 +1,8 @@
 -- Need not be believed: what the program computes once for all rows of a season.
 use mathlib.Core.List.{List}
 use mathlib.Core.Path.{_≡_}
-use Prim.Native.Nat.{ℕ, _+_, _/_, _<_}
-use Rattle.numbers.specs.Lists.{tab, at}
+use Prim.Native.Nat.{ℕ, _/_, _<_}
+use Rattle.numbers.specs.Lists.{tab}
 use Rattle.bounds.specs.Exponential.{entries}
 use Rattle.bounds.specs.Short.{binary}
 use Rattle.bounds.specs.Ahead.{ahead}
@@ -10,9 +10,9 @@ use Rattle.exact.specs.declared.Canister.{Canister}
 use Rattle.exact.specs.declared.Canister.the-variants.{None, Small, Medium, Large}
 use Rattle.exact.specs.declared.Season.{Season}
 use Rattle.exact.specs.declared.Row.{Row}
-use Rattle.marks.specs.declared.Marks.{Marks}
+use Rattle.marks.specs.declared.MarkValues.{MarkValues}
 use Rattle.sheet.specs.Range.{SeasonInRange, RowInRange, markWarmth, halves}
-use Rattle.marks.specs.AtMarks.{AtMarks, raisesBy, ratesAt}
+use Rattle.marks.specs.AtMarks.{MarksOf, AtMarks, raisesBy, ratesAt}
 use Rattle.factors.specs.Escape.{base, growth}
 use Rattle.factors.specs.Means.{meanUnits}
 use Rattle.factors.specs.Units.{startOf, endOf, parkingRise, parkingRates}
@@ -21,6 +21,7 @@ use Rattle.parking.specs.SeasonList.{ListReady}
 use Rattle.breakthrough.specs.Curves.{KeptOf}
 use Rattle.row_factors.specs.declared.season.Means.{Means}
 use Rattle.row_factors.specs.declared.season.AtSeason.{AtSeason}
+use Rattle.row_factors.specs.declared.season.Day.{Day}
 
 -- the mean of a value of the marks that the cells name
 abbrev pub meanAt : List ℕ → (ℕ → ℕ) → (ℕ → ℕ) → ℕ
@@ -40,47 +41,53 @@ pub record MeansOf (season : Season) (counts : List ℕ) (m : Means) : Type 0 wh
   pub start60-is : m .start60 ≡ meanAt counts startOf (raisesBy season 60)
 
 -- a season in range, and its values at the marks
-pub record MarksReady (season : Season) (marks : Marks) : Type 0 where
+pub record MarksReady (season : Season) (values : MarkValues) : Type 0 where
   pub season-in : SeasonInRange season
-  pub marks-are : AtMarks season marks
+  pub marks-are : AtMarks season values
 
 -- the rises of its parkings
 abbrev pub risesOf : Season → List ℕ
 risesOf season = tab (parkingRise season) 576
 
--- Its day, by distance from 14:00. In the array stand, 25 numbers each, a and 2·b·s of the three canisters, in units of 2⁻⁴⁴, and the
--- rises of E under each of six raises.
-unfoldable pub growthPlace : Canister → ℕ
-growthPlace None = 0
-growthPlace Large = 25
-growthPlace Medium = 50
-growthPlace Small = 75
+-- Its day: what its rows read at its 25 temperatures, by distance from 14:00.
+-- a, and 2·b·s of a canister, in units of 2⁻⁴⁴
+abbrev pub dayBases : Season → List ℕ
+dayBases season = tab (λ (d : ℕ). binary (base (season .vp) (markWarmth season (ahead d)))) 25
 
-abbrev pub RaisedAt : Season → ℕ → List ℕ → ℕ → Type 0
-RaisedAt season k day place = (d : ℕ) → d < 25 → at day (place + d) ≡ raisesBy season k (ahead d)
+abbrev pub dayGrowths : Season → Canister → List ℕ
+dayGrowths season c = tab (λ (d : ℕ). binary (growth c (season .vp) (markWarmth season (ahead d)))) 25
 
-pub record DayReady (season : Season) (day : List ℕ) : Type 0 where
+-- the rises of E under a raise
+abbrev pub dayRaises : Season → ℕ → List ℕ
+dayRaises season k = tab (λ (d : ℕ). raisesBy season k (ahead d)) 25
+
+pub record DayReady (season : Season) (day : Day) : Type 0 where
   pub season-in : SeasonInRange season
-  pub bases-are : (d : ℕ) → d < 25 → at day d ≡ binary (base (season .vp) (markWarmth season (ahead d)))
-  pub growths-are : (c : Canister) → 0 < halves c → (d : ℕ) → d < 25
-      → at day (growthPlace c + d) ≡ binary (growth c (season .vp) (markWarmth season (ahead d)))
-  pub raise10-are : RaisedAt season 10 day 100
-  pub raise15-are : RaisedAt season 15 day 125
-  pub raise25-are : RaisedAt season 25 day 150
-  pub raise35-are : RaisedAt season 35 day 175
-  pub raise45-are : RaisedAt season 45 day 200
-  pub raise60-are : RaisedAt season 60 day 225
+  pub base-is : day .base ≡ dayBases season
+  pub large-is : day .large ≡ dayGrowths season Large
+  pub medium-is : day .medium ≡ dayGrowths season Medium
+  pub small-is : day .small ≡ dayGrowths season Small
+  pub raise10-is : day .raise10 ≡ dayRaises season 10
+  pub raise15-is : day .raise15 ≡ dayRaises season 15
+  pub raise25-is : day .raise25 ≡ dayRaises season 25
+  pub raise35-is : day .raise35 ≡ dayRaises season 35
+  pub raise45-is : day .raise45 ≡ dayRaises season 45
+  pub raise60-is : day .raise60 ≡ dayRaises season 60
 
--- the season and its means
-pub record AtSeasonOf (season : Season) (counts : List ℕ) (given : AtSeason) : Type 0 where
-  pub season-is : given .season ≡ season
-  pub means-are : MeansOf season counts (given .means)
+-- 2·b·s of a canister; without one there is none, and nothing asks for it
+unfoldable pub growthIn : Day → Canister → List ℕ
+growthIn day None = day .base
+growthIn day Large = day .large
+growthIn day Medium = day .medium
+growthIn day Small = day .small
 
--- what is lent to the functions of every row: the tables of E, the grid and the day; and what its season gives besides
-pub record Lent (tables grid day : List ℕ) (given : AtSeason) : Type 0 where
+-- what the functions of every row are passed: the tables of E and the grid; and the season with its 48 temperatures and their exponential
+-- bounds, its day and its means
+pub record Lent (tables grid : List ℕ) (given : AtSeason) : Type 0 where
   pub tables-are : tables ≡ entries
   pub grid-ready : GridReady grid
-  pub day-ready : DayReady (given .season) day
+  pub marks-of : MarksOf (given .season) (given .marks)
+  pub day-ready : DayReady (given .season) (given .day)
   pub means-are : MeansOf (given .season) (cellsIn grid) (given .means)
 
 -- the list of a season's parkings, which a row with a canister needs
@@ -88,8 +95,8 @@ pub record ListFor (grid list : List ℕ) (season : Season) (row : Row) : Type 0
   pub ready : 0 < halves (row .canister) → ListReady (cellsIn grid) (risesOf season) list
 
 -- with a row in range, and what its canister keeps of its load
-pub record RowLent (tables grid list day : List ℕ) (given : AtSeason) (row : Row) (kept : ℕ) : Type 0 where
-  pub lent : Lent tables grid day given
+pub record RowLent (tables grid list : List ℕ) (given : AtSeason) (row : Row) (kept : ℕ) : Type 0 where
+  pub lent : Lent tables grid given
   pub row-in : RowInRange (given .season) row
   pub list-for : ListFor grid list (given .season) row
   pub kept-of : KeptOf row kept

@@ -1,14 +1,6 @@
 // What escapes on average from a row's tank in a season, with a canister and without, in units of 2^-28 g.
 use crate::season::AtSeason;
-use crate::season::LARGE;
-use crate::season::MEDIUM;
-use crate::season::RAISE_10;
-use crate::season::RAISE_15;
-use crate::season::RAISE_25;
-use crate::season::RAISE_35;
-use crate::season::RAISE_45;
-use crate::season::RAISE_60;
-use crate::season::SMALL;
+use crate::season::Day;
 use bounds::exp::ZERO;
 use bounds::exp::exponential;
 use bounds::fixed::mul_shift;
@@ -22,8 +14,8 @@ use exact::Season;
 use fields::classes::halves;
 use parking::grid::SUM;
 ghost use mathlib.Core.Path.{_≡_};
-ghost use Prim.Native.Nat.{ℕ, _+_, _*_, _^_, _<_, _≤_};
-ghost use Rattle.numbers.specs.Lists.{tab, at, AllAtMost};
+ghost use Prim.Native.Nat.{_*_, _^_, _<_, _≤_};
+ghost use Rattle.numbers.specs.Lists.{at, AllAtMost};
 ghost use Rattle.bounds.specs.Exponential.{entries};
 ghost use Rattle.sheet.specs.Range.{SeasonInRange, RowInRange, halves};
 ghost use Rattle.factors.specs.Units.{gain};
@@ -31,7 +23,7 @@ ghost use Rattle.parking.specs.Grid.{cellsIn, sumPlace, GridReady};
 ghost use Rattle.parking.specs.SeasonList.{ListFits};
 ghost use Rattle.breakthrough.specs.Curves.{CurvesOf};
 ghost use Rattle.breakthrough.specs.Through.{CurvesReady};
-ghost use Rattle.row_factors.specs.Season.{growthPlace, RowLent};
+ghost use Rattle.row_factors.specs.Season.{growthIn, RowLent};
 ghost use Rattle.row_factors.specs.Seven.{parkingThrough, VapourOf, CarEscapes, TwoWheelerEscapes};
 
 // In a parking, over the lesser raise of a soak and of a trip, and over the greater.
@@ -76,29 +68,15 @@ fn parking_through(tables: &[u64; 1907], grid: &[u64; 627], list: &[u64; 1732], 
     through_list(tables, list, c) / grid[SUM]
 }
 
-// The 25 numbers of the day that start at a place.
-fn part(day: &[u64; 250], place: usize) -> [u64; 25]
-    requires { ⌜ place ≤ 225 ⌝ }
-    ensures { λ r. ⌜ r ≡ tab (λ (d : ℕ). at (now (day .entry)) (place + d)) 25 ⌝ }
-{
-    let mut out = [0u64; 25];
-    let mut d: usize = 0;
-    while d < 25 {
-        out[d] = day[place + d];
-        d += 1;
-    }
-    out
-}
-
-// Where 2 b s of a canister stands in the day.
-fn growth_place(canister: Canister) -> usize
-    ensures { λ r. ⌜ (r ≡ growthPlace canister) × (r ≤ 75) ⌝ }
+// 2 b s of a canister at the temperatures of the day.
+fn growth_of(day: Day, canister: Canister) -> [u64; 25]
+    ensures { λ r. ⌜ r ≡ growthIn day canister ⌝ }
 {
     match canister {
-        Canister::None => 0,
-        Canister::Large => LARGE,
-        Canister::Medium => MEDIUM,
-        Canister::Small => SMALL,
+        Canister::None => day.base,
+        Canister::Large => day.large,
+        Canister::Medium => day.medium,
+        Canister::Small => day.small,
     }
 }
 
@@ -107,19 +85,17 @@ fn fitted(
     tables: &[u64; 1907],
     grid: &[u64; 627],
     list: &[u64; 1732],
-    day: &[u64; 250],
     at: AtSeason,
     row: Row,
     kept: u64,
 ) -> Curves
-    requires { ⌜ RowLent (now tables) (now grid) (now list) (now day) at row kept × (0 < halves (row .canister)) ⌝ }
+    requires { ⌜ RowLent (now tables) (now grid) (now list) at row kept × (0 < halves (row .canister)) ⌝ }
     ensures { λ r. ⌜ CurvesOf (at .season) row r ⌝ }
 {
     let canister = row.canister;
-    let bases = part(day, 0);
-    let growths = part(day, growth_place(canister));
+    let growths = growth_of(at.day, canister);
     let vapour = gain(tables, at.season, row);
-    fit(tables, &bases, &growths, row, vapour, kept)
+    fit(tables, &at.day.base, &growths, row, vapour, kept)
 }
 
 // A car with canister, from which nothing escapes on a trip.
@@ -127,19 +103,18 @@ fn canister_car(
     tables: &[u64; 1907],
     grid: &[u64; 627],
     list: &[u64; 1732],
-    day: &[u64; 250],
     at: AtSeason,
     row: Row,
     kept: u64,
 ) -> Escapes
-    requires { ⌜ RowLent (now tables) (now grid) (now list) (now day) at row kept × (0 < halves (row .canister)) ⌝ }
+    requires { ⌜ RowLent (now tables) (now grid) (now list) at row kept × (0 < halves (row .canister)) ⌝ }
     ensures { λ r. ⌜ CarEscapes (at .season) row (cellsIn (now (grid .entry))) r ⌝ }
 {
-    let c = fitted(tables, grid, list, day, at, row, kept);
+    let c = fitted(tables, grid, list, at, row, kept);
     Escapes {
         parking: parking_through(tables, grid, list, c),
-        soak: through_raises(tables, grid, day, false, RAISE_45, c),
-        hotsoak: through_raises(tables, grid, day, false, RAISE_60, c),
+        soak: through_raises(tables, grid, false, &at.day.raise45, c),
+        hotsoak: through_raises(tables, grid, false, &at.day.raise60, c),
         trip: 0,
         hottrip: 0,
     }
@@ -150,21 +125,20 @@ fn canister_two_wheeler(
     tables: &[u64; 1907],
     grid: &[u64; 627],
     list: &[u64; 1732],
-    day: &[u64; 250],
     at: AtSeason,
     row: Row,
     kept: u64,
 ) -> Escapes
-    requires { ⌜ RowLent (now tables) (now grid) (now list) (now day) at row kept × (0 < halves (row .canister)) ⌝ }
+    requires { ⌜ RowLent (now tables) (now grid) (now list) at row kept × (0 < halves (row .canister)) ⌝ }
     ensures { λ r. ⌜ TwoWheelerEscapes (at .season) row (cellsIn (now (grid .entry))) r ⌝ }
 {
-    let c = fitted(tables, grid, list, day, at, row, kept);
+    let c = fitted(tables, grid, list, at, row, kept);
     Escapes {
         parking: parking_through(tables, grid, list, c),
-        soak: through_raises(tables, grid, day, false, RAISE_15, c),
-        hotsoak: through_raises(tables, grid, day, false, RAISE_35, c),
-        trip: through_raises(tables, grid, day, true, RAISE_10, c),
-        hottrip: through_raises(tables, grid, day, true, RAISE_25, c),
+        soak: through_raises(tables, grid, false, &at.day.raise15, c),
+        hotsoak: through_raises(tables, grid, false, &at.day.raise35, c),
+        trip: through_raises(tables, grid, true, &at.day.raise10, c),
+        hottrip: through_raises(tables, grid, true, &at.day.raise25, c),
     }
 }
 
@@ -173,12 +147,11 @@ pub fn car(
     tables: &[u64; 1907],
     grid: &[u64; 627],
     list: &[u64; 1732],
-    day: &[u64; 250],
     at: AtSeason,
     row: Row,
     kept: u64,
 ) -> Escapes
-    requires { ⌜ RowLent (now tables) (now grid) (now list) (now day) at row kept ⌝ }
+    requires { ⌜ RowLent (now tables) (now grid) (now list) at row kept ⌝ }
     ensures { λ r. ⌜ CarEscapes (at .season) row (cellsIn (now (grid .entry))) r ⌝ }
 {
     let canister = row.canister;
@@ -187,7 +160,7 @@ pub fn car(
         let m = at.means;
         open_escapes(vapour, [m.rise, m.start45, m.start60, m.end10, m.end50])
     } else {
-        canister_car(tables, grid, list, day, at, row, kept)
+        canister_car(tables, grid, list, at, row, kept)
     }
 }
 
@@ -196,12 +169,11 @@ pub fn two_wheeler(
     tables: &[u64; 1907],
     grid: &[u64; 627],
     list: &[u64; 1732],
-    day: &[u64; 250],
     at: AtSeason,
     row: Row,
     kept: u64,
 ) -> Escapes
-    requires { ⌜ RowLent (now tables) (now grid) (now list) (now day) at row kept ⌝ }
+    requires { ⌜ RowLent (now tables) (now grid) (now list) at row kept ⌝ }
     ensures { λ r. ⌜ TwoWheelerEscapes (at .season) row (cellsIn (now (grid .entry))) r ⌝ }
 {
     let canister = row.canister;
@@ -210,6 +182,6 @@ pub fn two_wheeler(
         let m = at.means;
         open_escapes(vapour, [m.rise, m.start15, m.start35, m.end10, m.end25])
     } else {
-        canister_two_wheeler(tables, grid, list, day, at, row, kept)
+        canister_two_wheeler(tables, grid, list, at, row, kept)
     }
 }

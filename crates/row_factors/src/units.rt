@@ -51,21 +51,20 @@ pub fn row_units(
     tables: &[u64; 1907],
     grid: &[u64; 627],
     list: &[u64; 1732],
-    day: &[u64; 250],
     at: AtSeason,
     row: Row,
     kept: u64,
 ) -> [u64; 7]
-    requires { ⌜ Lent (now tables) (now grid) (now day) at × RowInRange (at .season) row × ListFor (now grid) (now list) (at .season) row
+    requires { ⌜ Lent (now tables) (now grid) at × RowInRange (at .season) row × ListFor (now grid) (now list) (at .season) row
         × KeptOf row kept ⌝ }
     ensures { λ r. ⌜ r ≡ sevenUnits (at .season) row (cellsIn (now (grid .entry))) ⌝ }
 {
     let means = at.means;
     if row.class < 5 {
-        let e = car(tables, grid, list, day, at, row, kept);
+        let e = car(tables, grid, list, at, row, kept);
         car_units(e, means, row.minutes)
     } else {
-        let e = two_wheeler(tables, grid, list, day, at, row, kept);
+        let e = two_wheeler(tables, grid, list, at, row, kept);
         two_wheeler_units(e, means)
     }
 }

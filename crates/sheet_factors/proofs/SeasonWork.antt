@@ -19,9 +19,9 @@ use Rattle.masses.specs.Day.{UseInRange}
 use Rattle.sheet_factors.specs.Lent.{SheetLent}
 
 -- what is computed once of an accepted sheet and one of its seasons, for all its rows
-pub record SeasonLent (s tables grid day : List ℕ) (given : AtSeason) : Type 0 where
+pub record SeasonLent (s tables grid : List ℕ) (given : AtSeason) : Type 0 where
   pub sheet : SheetLent s tables grid
-  pub lent : Lent tables grid day given
+  pub lent : Lent tables grid given
   pub rows-in : (i : ℕ) → i < rowsOf s → RowInRange (given .season) (rowAt s i)
 
 -- the shares and trips of row i
@@ -37,8 +37,8 @@ mileage-within {s} a {i} there =
     elim (decLe 3 (versionOf s)) [ yes new ↦ r .mileage new .0 | no old ↦ omega (arith, r .no-mileage (omega arith)) ]
 
 -- season j of the sheet, made ready for its rows
-pub season-lent : {s tables grid day : List ℕ} {given : AtSeason} {j : ℕ} → Bytes s → SheetLent s tables grid → j < seasonsOf s
-    → given .season ≡ seasonAt s j → Lent tables grid day given → SeasonLent s tables grid day given
+pub season-lent : {s tables grid : List ℕ} {given : AtSeason} {j : ℕ} → Bytes s → SheetLent s tables grid → j < seasonsOf s
+    → given .season ≡ seasonAt s j → Lent tables grid given → SeasonLent s tables grid given
 season-lent {s} bytes l there e lent =
     record { sheet = l; lent = lent; rows-in = λ i row. rw e (row-in-range bytes (accepted s (l .passes)) row there) }
 

@@ -33,8 +33,7 @@ pub fn units_with(
     let row = row_at(s, row);
     let canister = row.canister;
     let prepared = prepare(tables, grid, season_at(s, season), 0 < halves(canister));
-    let day = prepared.day;
-    row_units(tables, grid, &prepared.list, &day, prepared.at, row, kept)
+    row_units(tables, grid, &prepared.list, prepared.at, row, kept)
 }
 
 // The same from the sheet alone.

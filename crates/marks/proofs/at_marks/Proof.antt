@@ -9,7 +9,7 @@ use Rattle.numbers.specs.Lists.{AllAtMost}
 use Rattle.bounds.specs.Exponential.{entries}
 use Rattle.sheet.specs.Range.{markWarmth}
 use Rattle.marks.specs.Marks.{tenths}
-use Rattle.marks.proofs.SameColumns.{few-at, few-most, steps-are, rates-are, raises-are}
+use Rattle.marks.proofs.SameColumns.{few-at, few-most, heats-are, steps-are, rates-are, raises-are}
 use Rattle.marks.proofs.at_marks.Statement.{statement}
 use Rattle.marks.proofs.at_marks.Tie as tie
 
@@ -46,7 +46,10 @@ returns c =
     let f = p .pressure-factor .ensures .0 in
     let θ : ℕ → ℕ = markWarmth season in
     record {
-      warmth-is = warmed (h .before) .season-temperatures .ensures .0;
+      marks-of = record {
+        temperature-is = warmed (h .before) .season-temperatures .ensures .0;
+        exponential-is = heats-are θ few there g (p .before .before .by-mark .ensures);
+      };
       step-is = p .before .steps .ensures ∙ steps-are θ few there g (p .before .before .by-mark .ensures);
       rate-is = simp add-zero at (d .before .before .mark-rates .ensures ∙ rates-are θ few there _ _ 0 f);
       soak-is = d .before .mark-rates2 .ensures ∙ rates-are θ few there _ _ (tenths 110) f;

@@ -18,17 +18,17 @@ use Rattle.breakthrough.proofs.losses.through_raises.Statement.{stateme
 use Rattle.breakthrough.proofs.losses.through_raises.Tie as tie
 
 -- what breaks through at a distance, and what it adds
-abbrev value : List ℕ → ℕ → Curves → ℕ → ℕ
-value day place c d = through (curveAt c d) (at day (place + d))
+abbrev value : List ℕ → Curves → ℕ → ℕ
+value raises c d = through (curveAt c d) (at raises d)
 
-abbrev part : List ℕ → Bool → List ℕ → ℕ → Curves → ℕ → ℕ
-part grid ends day place c d = at grid (apartPlace ends + d) * (value day place c d / 2 ^ 12)
+abbrev part : List ℕ → Bool → List ℕ → Curves → ℕ → ℕ
+part grid ends raises c d = at grid (apartPlace ends + d) * (value raises c d / 2 ^ 12)
 
 abbrev Inv-loop : tie.InvT-loop
-Inv-loop tables grid day ends place c first sum₀ d₀ sum d = (d ≤ 25) × (sum ≡ lists.sum (part grid ends day place c) d)
+Inv-loop tables grid ends raises c first sum₀ d₀ sum d = (d ≤ 25) × (sum ≡ lists.sum (part grid ends raises c) d)
 
 abbrev μ-loop : tie.MeasureT-loop
-μ-loop tables grid day ends place c first sum₀ d₀ sum d = 25 - d
+μ-loop tables grid ends raises c first sum₀ d₀ sum d = 25 - d
 
 -- from what broke through at a distance back to the test of the loop, and to the start
 abbrev inside : tie.After-through Inv-loop μ-loop → tie.In-loop Inv-loop μ-loop
@@ -42,14 +42,14 @@ through-requires c κs =
     let i = c .before .before .before .before .before .before .before in
     let p = start i .pre in
     let d = i .before .loop .d in
-    (p .0, p .2 .ready d (omega arith), omega (arith, p .3 .raises-most d (omega arith)))
+    (p .0, p .2 .ready d (omega arith), omega (arith, p .3 .at-most d))
 
 -- what the distance adds is its part
 added : (c : tie.After-through Inv-loop μ-loop)
     → let i = inside c in
     let a = start i .args in
     at (a .grid .now) (i .before .before .apart-place .result + i .before .loop .d) * (c .through .result / 2 ^ 12)
-    ≡ part (a .grid .now) (a .ends) (a .day .now) (a .place) (a .t6) (i .before .loop .d)
+    ≡ part (a .grid .now) (a .ends) (a .raises .now) (a .t5) (i .before .loop .d)
 added c =
     let i = inside c in
     ap₂ (λ (first x : ℕ). at (start i .args .grid .now) (first + i .before .loop .d) * (x / 2 ^ 12))
@@ -65,8 +65,8 @@ fits c =
     let s = start i in
     let a = s .args in
     let p = s .pre in
-    let all = distance-fits (p .1) (a .ends) (value (a .day .now) (a .place) (a .t6))
-    (λ d h. through-most _ _ (p .2 .ready d h) (omega (arith, p .3 .raises-most d h))) in
+    let all = distance-fits (p .1) (a .ends) (value (a .raises .now) (a .t5))
+    (λ d h. through-most _ _ (p .2 .ready d h) (omega (arith, p .3 .at-most d))) in
     sum-fits _ (i .loop-test .taken) all (i .before .loop .inv .1) (added c)
 
 returns : tie.Need-returns Inv-loop μ-loop
@@ -75,7 +75,7 @@ returns c =
     let s = c .before .before .before .before in
     let a = s .args in
     let all = sum-all _ (l .d) 25 (l .inv .1) (omega arith) (omega arith) in
-    distance-mean (s .pre .1) (a .ends) (value (a .day .now) (a .place) (a .t6)) all
+    distance-mean (s .pre .1) (a .ends) (value (a .raises .now) (a .t5)) all
 
 pub through-raises-spec : {M : Type 1} → statement M
 through-raises-spec =
@@ -88,9 +88,7 @@ through-raises-spec =
     (λ c. search needs) (λ c. search needs) (λ c. search needs) (λ c. search needs) (λ c. search needs) (λ c. search needs)
     (λ c. search needs) (λ c. search needs) (λ c. search needs) (λ c. search needs) (λ c. search needs) (λ c. search needs)
     (λ c. search needs)
-    (λ c. omega (arith, start (c .before .before .before .before .before .before) .pre .3 .there))
-    (λ c. omega (arith, start (c .before .before .before .before .before .before) .pre .3 .there))
-    (λ c. omega (arith, start (c .before .before .before .before .before .before) .pre .3 .there))
+    (λ c. search needs) (λ c. search needs)
     through-requires
     (λ c. omega (arith, fits c))
     (λ c. omega (arith, fits c))

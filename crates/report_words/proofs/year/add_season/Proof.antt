@@ -22,21 +22,21 @@ use Rattle.report_words.proofs.year.add_season.Statement.{statement}
 use Rattle.report_words.proofs.year.add_season.Tie as tie
 
 abbrev Inv-loop : tie.InvT-loop
-Inv-loop tables grid kept s j words₀ prepared day at season rows i₀ words i =
+Inv-loop tables grid kept s j words₀ prepared at season rows i₀ words i =
     (i ≤ rows) × (length words ≡ length words₀) × (words ≡ filled (seasonAdded s (at .season) words₀) (6 * i) words₀)
 
 abbrev μ-loop : tie.MeasureT-loop
-μ-loop tables grid kept s j words₀ prepared day at season rows i₀ words i = rows - i
+μ-loop tables grid kept s j words₀ prepared at season rows i₀ words i = rows - i
 
 -- from inside the loop back to before it, from there to where the season was made ready, and to the start
 abbrev inside : tie.After-row-at Inv-loop μ-loop → tie.In-loop Inv-loop μ-loop
-inside c = c .before .before .before .before
+inside c = c .before .before .before
 
 abbrev ahead : tie.In-loop Inv-loop μ-loop → tie.After-rows-of Inv-loop μ-loop
 ahead c = c .before .before
 
 abbrev made : tie.After-rows-of Inv-loop μ-loop → tie.After-prepare Inv-loop μ-loop
-made c = c .before .before .before .before
+made c = c .before .before .before
 
 abbrev start : tie.After-prepare Inv-loop μ-loop → tie.Start Inv-loop μ-loop
 start c = c .before .before .before .before
@@ -57,7 +57,7 @@ season-is : (c : tie.After-prepare Inv-loop μ-loop)
 season-is c = rw (c .before .season-at .ensures .0) at (c .prepare .ensures .0)
 
 ready : (c : tie.After-prepare Inv-loop μ-loop)
-    → let x = start c .args in SeasonLent (x .s .now) (x .tables .now) (x .grid .now) (c .prepare .result .day) (c .prepare .result .at)
+    → let x = start c .args in SeasonLent (x .s .now) (x .tables .now) (x .grid .now) (c .prepare .result .at)
 ready c =
     let p = start c .pre in
     season-lent (bytes (c .before .before)) (p .0) (p .1) (season-is c) (c .prepare .ensures .1)
@@ -148,10 +148,10 @@ add-season-spec =
     μ-loop
     (λ c κs. let p = c .before .before .pre in season-there _ (p .0 .passes) (p .1))
     (λ c κs. let p = c .before .before .before .pre in (p .0 .tables-are, p .0 .grid-ready, in-range c))
-    (λ c κs. omega (arith, parking-there _ (start (c .before .before .before) .pre .0 .passes)))
+    (λ c κs. omega (arith, parking-there _ (start (c .before .before) .pre .0 .passes)))
     (λ c. (search needs, refl, filled-none _ _ ∙ filled-all _ _ _ _ (omega arith) (omega arith)))
-    (λ c κs. let n = ahead (c .before .before .before) in
-    row-there _ (start (made n) .pre .0 .passes) (omega (arith, c .before .before .before .loop-test .taken, n .rows-of .ensures .0)))
+    (λ c κs. let n = ahead (c .before .before) in
+    row-there _ (start (made n) .pre .0 .passes) (omega (arith, c .before .before .loop-test .taken, n .rows-of .ensures .0)))
     (λ c. omega (arith, placed c))
     (λ c. omega (arith, placed c))
     row-figures-requires

@@ -1,5 +1,5 @@
 -- `row_factors::season::prepare` meets its contract: the marks, the rises, the list and the day are those of its season.
-use mathlib.Core.Path.{_≡_}
+use mathlib.Core.Path.{_≡_, refl}
 use Rattle.row_factors.specs.Season.{MarksReady, risesOf}
 use Rattle.row_factors.proofs.Prepared.{steps-most, rises-are}
 use Rattle.row_factors.proofs.season.prepare.Statement.{statement}
@@ -15,18 +15,19 @@ rises-ready c = rises-are (c .before .before .before .at-marks .ensures) (c .ris
 
 returns : tie.Need-returns
 returns c =
-    let d = c .before .before in
+    let a = c .before in
+    let d = a .before .before in
     let k = d .before in
     let w = k .before .before in
     let m = w .before .before .before in
-    let p = m .before .pre in
-    let a = c .at-season .ensures in (
-      a .season-is,
+    let p = m .before .pre in (
+      refl,
       record {
         tables-are = p .0;
         grid-ready = p .1;
-        day-ready = rw (a .season-is) (d .day-of .ensures);
-        means-are = rw (a .season-is) (a .means-are);
+        marks-of = m .at-marks .ensures .marks-of;
+        day-ready = d .day-of .ensures;
+        means-are = a .means-of .ensures;
       },
       λ wanted. rw (← (rises-ready w)) (k .list-where .ensures wanted),
     )

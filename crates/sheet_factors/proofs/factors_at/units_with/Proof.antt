@@ -36,7 +36,7 @@ start c = row c .before .before
 
 -- it is made ready for the rows of the sheet
 ready : (c : tie.After-prepare)
-    → let x = start c .args in SeasonLent (x .s .now) (x .tables .now) (x .grid .now) (c .prepare .result .day) (c .prepare .result .at)
+    → let x = start c .args in SeasonLent (x .s .now) (x .tables .now) (x .grid .now) (c .prepare .result .at)
 ready c =
     let p = start c .pre in
     let same = rw (season c .season-at .ensures .0) at (c .prepare .ensures .0) in
@@ -44,7 +44,7 @@ ready c =
 
 row-units-requires : tie.Need-row-units-requires
 row-units-requires c κs =
-    let d = c .before .before .before .before .before in
+    let d = c .before .before .before in
     let p = start d .pre in
     let same = row d .row-at .ensures .0 in (
       ready d .lent,
@@ -59,7 +59,7 @@ row-units-requires c κs =
 
 returns : tie.Need-returns
 returns c =
-    let d = c .before .before .before .before .before .before in
+    let d = c .before .before .before .before in
     let p = start d .pre in
     let found = row d .row-at .ensures .0 in
     let e = c .row-units .ensures in

@@ -1,13 +1,13 @@
--- `row_factors::season::at_season` meets its contract: each mean is the one of its definition.
+-- `row_factors::season::means_of` meets its contract: each mean is the one of its definition.
 use mathlib.Core.Bool.{true, false}
-use mathlib.Core.Path.{refl, _∙_, ap}
+use mathlib.Core.Path.{_∙_, ap}
 use Prim.Native.Nat.{ℕ, _/_}
 use native.Mathlib.Omega.{arith}
 use Rattle.parking.proofs.Weighted.{mean-tab, mean-ext, mean-marks}
 use Rattle.row_factors.proofs.Escaping.{raises-alike, rates-alike, raise-list-fits, rate-list-most}
 use Rattle.row_factors.proofs.Escaping.{rate-list-fits, rates-plain, rates-in, rises-most}
-use Rattle.row_factors.proofs.season.at_season.Statement.{statement}
-use Rattle.row_factors.proofs.season.at_season.Tie as tie
+use Rattle.row_factors.proofs.season.means_of.Statement.{statement}
+use Rattle.row_factors.proofs.season.means_of.Tie as tie
 
 -- what is known at the start, from after every third mean
 abbrev s0 : tie.After-permeation-mean → tie.Start
@@ -35,24 +35,21 @@ returns c =
     let c1 = c2 .before .before .before in
     let c0 = c1 .before .before .before in
     record {
-      season-is = refl;
-      means-are = record {
-        rise-is = c0 .before .before .before .mean-by-cell .ensures ∙ mean-tab _ _ l (s .pre .2);
-        permeation-is = c0 .permeation-mean .ensures ∙ mean-ext _ (λ cell. ap (λ (x : ℕ). x / 2) (rates-in (p .season-in) (a .rate-is) cell));
-        soak-is = c1 .mean-by-mark .ensures ∙ mean-marks _ false _ (rates-alike _ 110) (a .soak-is);
-        run-is = c2 .mean-by-mark2 .ensures ∙ mean-marks _ true _ (rates-alike _ 150) (a .run-is);
-        end10-is = c3 .mean-by-mark3 .ensures ∙ mean-marks _ true _ (raises-alike _ 10) (a .raise10-is);
-        start15-is = c4 .mean-by-mark4 .ensures ∙ mean-marks _ false _ (raises-alike _ 15) (a .raise15-is);
-        end25-is = c5 .mean-by-mark5 .ensures ∙ mean-marks _ true _ (raises-alike _ 25) (a .raise25-is);
-        start35-is = c6 .mean-by-mark6 .ensures ∙ mean-marks _ false _ (raises-alike _ 35) (a .raise35-is);
-        start45-is = c7 .mean-by-mark7 .ensures ∙ mean-marks _ false _ (raises-alike _ 45) (a .raise45-is);
-        end50-is = c8 .mean-by-mark8 .ensures ∙ mean-marks _ true _ (raises-alike _ 50) (a .raise50-is);
-        start60-is = c .mean-by-mark9 .ensures ∙ mean-marks _ false _ (raises-alike _ 60) (a .raise60-is);
-      };
+      rise-is = c0 .before .before .before .mean-by-cell .ensures ∙ mean-tab _ _ l (s .pre .2);
+      permeation-is = c0 .permeation-mean .ensures ∙ mean-ext _ (λ cell. ap (λ (x : ℕ). x / 2) (rates-in (p .season-in) (a .rate-is) cell));
+      soak-is = c1 .mean-by-mark .ensures ∙ mean-marks _ false _ (rates-alike _ 110) (a .soak-is);
+      run-is = c2 .mean-by-mark2 .ensures ∙ mean-marks _ true _ (rates-alike _ 150) (a .run-is);
+      end10-is = c3 .mean-by-mark3 .ensures ∙ mean-marks _ true _ (raises-alike _ 10) (a .raise10-is);
+      start15-is = c4 .mean-by-mark4 .ensures ∙ mean-marks _ false _ (raises-alike _ 15) (a .raise15-is);
+      end25-is = c5 .mean-by-mark5 .ensures ∙ mean-marks _ true _ (raises-alike _ 25) (a .raise25-is);
+      start35-is = c6 .mean-by-mark6 .ensures ∙ mean-marks _ false _ (raises-alike _ 35) (a .raise35-is);
+      start45-is = c7 .mean-by-mark7 .ensures ∙ mean-marks _ false _ (raises-alike _ 45) (a .raise45-is);
+      end50-is = c8 .mean-by-mark8 .ensures ∙ mean-marks _ true _ (raises-alike _ 50) (a .raise50-is);
+      start60-is = c .mean-by-mark9 .ensures ∙ mean-marks _ false _ (raises-alike _ 60) (a .raise60-is);
     }
 
-pub at-season-spec : {M : Type 1} → statement M
-at-season-spec =
+pub means-of-spec : {M : Type 1} → statement M
+means-of-spec =
     tie.close
     (tie.spec
     (λ c κs. (c .pre .0, record { at-most = λ k. omega (arith, rises-most (c .pre .1 .season-in) (c .pre .2) .at-most k) }))
