@@ -1,10 +1,12 @@
 """Texts and csv files: what they make, what is said of mistakes and doubts, and back again."""
 
 import unittest
+from unittest import mock
 
 from support import CAR, FITTED, GRID_TEXT, LISTS, SAMPLES, SEASONS, TEXT, DeskTestCase, grid, run, sample, samples
 
 from evp import sheet
+from evp.files import InputError
 
 SEASONS_CSV = "days,lowest,highest,vp\n182,-2.0,9.5,90.0\n183,14.5,29.0,60.0\n"
 PARKING_HEADER = "duration,lasting,end_hour,ending\n"
@@ -152,6 +154,13 @@ class TextTest(DeskTestCase):
         found = run("write", self.put("b.txt", TEXT + "zero 1"))
         self.assertEqual(found.out, "%s: 168 bytes, refused 6 at 7: byte 7 is 1, and it must be 0 up to version 3; "
                          "write 0; more than 255 rows need version 4\n" % (self.folder / "b.evp"))
+
+    def test_library_is_asked_first(self):
+        """Where the library gives no answer, no file is left behind that nobody has checked."""
+        path = self.put("a.txt", TEXT)
+        with mock.patch("evp.commands.explain", side_effect=InputError("no answer")):
+            self.assertEqual(run("write", path), (2, "", "evp: no answer\n"))
+        self.assertFalse((self.folder / "a.evp").exists())
 
     def test_text_is_never_overwritten(self):
         path = self.put("a.evp", TEXT)

@@ -60,7 +60,7 @@ def run_snippets(given: argparse.Namespace) -> int:
 
 
 def run_promises(_: argparse.Namespace) -> int:
-    return finish("promises", promises.faults(), "%d sentences of %s point to what is there" % (
+    return finish("promises", promises.faults(), "%d sentences of %s are stated by the laws and contracts they name" % (
         len(list(promises.rows())), promises.PAGE))
 
 

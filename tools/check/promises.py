@@ -14,7 +14,8 @@ contract of `fn` in crates/../file.rt, where the file may be left out after the 
 
 The edits that the page names for what would be no delivery, as crate: edit, edit; crate: .., must be there. The law
 `taken` of crates/program/specs/Reads.antt, by which a read gives the bytes that a program may answer, is cited by the
-crate program alone.
+crate program alone. In docs/LIBRARY.md the contract that is named for a call must be what the exported function
+ensures, and a theorem that is named must be the type of a law.
 """
 
 import re
@@ -22,7 +23,7 @@ from collections.abc import Iterator
 from pathlib import Path
 from typing import NamedTuple
 
-from tools.check import statements
+from tools.check import contracts, statements
 from tools.check.statements import Place, contract, find, imports, law_type, mentioned, reached, read
 from tools.command import TOP
 
@@ -212,4 +213,4 @@ def faults() -> list[str]:
         found += ["%s:%d: %s" % (PAGE, number, what) for what in wrong]
     for number, (_, tried, _) in rows("No delivery"):
         found += ["%s:%d: %s" % (PAGE, number, what) for what in edit_faults(tried)]
-    return found + list(taken_faults())
+    return found + list(taken_faults()) + contracts.faults()

@@ -5,7 +5,7 @@ import unittest
 from pathlib import Path
 from unittest import mock
 
-from tools.check import promises, statements
+from tools.check import contracts, promises, statements
 
 CRATE = {
     "crates/low/specs/Band.antt": """\
@@ -231,6 +231,28 @@ class OfTheProject(unittest.TestCase):
             promises.proof_faults(call, "contract of `reports` in crates/inventory/src/lib.rt", known)))
         self.assertIn("no line before says where factor is", list(
             promises.proof_faults(call, "contract of `factor`", known)))
+
+    def test_the_calls_of_the_library(self):
+        page = (statements.TOP / contracts.PAGE).read_text(encoding="utf-8")
+        self.assertGreater(len(list(contracts.sections(page))), 15)
+        self.assertEqual(contracts.faults(), [])
+
+    def test_the_contract_of_a_call(self):
+        self.assertEqual(list(contracts.contract_faults(["evp_pool"], "so many bytes. Contract `PoolNumbers`.")), [])
+        self.assertEqual(list(contracts.contract_faults(["evp_pool"], "Contract `PoolTheorem`.")), [
+            "evp_pool ensures none of the contracts of its section", "no call of the section ensures PoolTheorem"])
+        self.assertEqual(list(contracts.contract_faults(["evp_pool"], "it pools.")), [
+            "evp_pool ensures none of the contracts of its section"])
+
+    def test_a_theorem_of_several_calls(self):
+        theorem = "theorem `PoolCallsTheorem` in boundary_courses: PooledCalls"
+        self.assertEqual(list(contracts.theorem_faults(theorem)), [])
+        self.assertEqual(list(contracts.theorem_faults(theorem.replace("boundary_courses", "boundary"))), [
+            "crates/boundary/specs/PooledCalls.antt has no PoolCallsTheorem"])
+        self.assertEqual(list(contracts.theorem_faults("theorem `ChangeNumbers` in boundary: Change")), [
+            "no law of crates/boundary/proofs has the type ChangeNumbers"])
+        self.assertEqual(list(contracts.theorem_faults("law `in-no-order` in map_cells/proofs/AnyOrder")), [
+            "crates/map_cells/proofs/AnyOrder.antt has no law in-no-order"])
 
     def test_the_law_of_a_read(self):
         path = Path("crates/report/proofs/main/Proof.antt")
