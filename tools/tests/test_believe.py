@@ -91,7 +91,7 @@ class Reading(unittest.TestCase):
     def test_another_name_for_a_module_is_followed(self):
         self.assertIn(Key("exact", "Canister", "escape"), reader.graph()[Key("exact", "Factors", "rowEscape")])
 
-    def test_a_name_that_is_not_found_is_told(self):
+    def test_a_name_that_is_not_found_is_reported(self):
         text = ("use Rattle.exact.specs.Day.{temperature, dew}\nuse Rattle.io.specs.Counts.{Counts}\n"
                 "pub use Rattle.exact.specs.Day.{w,\n")
         self.assertEqual(list(reader.unresolved(text)), ["pub use Rattle.exact.specs.Day.{w,", "dew of exact: Day"])
@@ -114,7 +114,7 @@ class Reading(unittest.TestCase):
 
 
 class Closure(unittest.TestCase):
-    def test_it_follows_names_and_ends_where_it_is_told(self):
+    def test_it_follows_names_and_ends_where_it_is_reported(self):
         a, b, c = (Key("c", "F", name) for name in "abc")
         edges = {a: [b], b: [c]}
         self.assertEqual(reader.closure([a], edges), {a, b, c})
@@ -133,7 +133,7 @@ class Closure(unittest.TestCase):
         self.assertLessEqual({"mass", "blend", "twoWheeler", "categoryWord"}, names["3"])
         self.assertNotIn("mass", names["1"] | names["2"])
 
-    def test_a_root_that_moved_to_another_crate_is_told(self):
+    def test_a_root_that_moved_to_another_crate_is_reported(self):
         with self.assertRaises(believe.Missing):
             believe.find("sheet", "ReportPromise")
 
@@ -143,8 +143,8 @@ class Page(unittest.TestCase):
         self.text = (TOP / believe.READING).read_text(encoding="utf-8")
 
     def test_the_page_names_everything(self):
-        self.assertEqual([*believe.naming_faults(self.text), *believe.limit_faults(self.text),
-                          *believe.count_faults(self.text)], [])
+        self.assertEqual([*believe.naming_faults(self.text), *believe.promise_faults(self.text),
+                          *believe.limit_faults(self.text), *believe.count_faults(self.text)], [])
 
     def test_a_name_that_is_left_out_is_found(self):
         found = list(believe.naming_faults(self.text.replace("`T1` `T2`", "`T1`")))
@@ -157,6 +157,22 @@ class Page(unittest.TestCase):
     def test_a_name_in_the_part_on_the_method_is_none(self):
         kept, aside = believe.parts("# A\n## 1. Numbers\nx\n## 5. What need not be believed\ny\n## More\nz\n")
         self.assertEqual((kept, aside), ("# A\n## 1. Numbers\nx\n## More\nz\n", "## 5. What need not be believed\ny\n"))
+
+    def test_a_definition_to_believe_is_none_of_the_method(self):
+        row = "| exact: Factors | the start's temperature, `T1` | a law |\n"
+        found = list(believe.naming_faults(self.text.replace("| sheet: Range |", row + "| sheet: Range |")))
+        self.assertEqual(found, ["T1 of exact: Factors is to be believed, and the part on the method names it"])
+
+    def test_a_statement_that_the_page_leaves_out_is_found(self):
+        found = list(believe.promise_faults(self.text.replace("`FourthTheorem`", "")))
+        self.assertEqual(found, ["FourthTheorem of inventory: NextVersion is named in docs/PROMISES.md and not here"])
+
+    def test_a_requires_that_a_function_does_not_have_is_found(self):
+        self.assertEqual(list(believe.requires_faults(self.text)), [])
+        head = "## 5. What need not be believed\n\n| sheet_factors: Lent | `SheetLent` `SeasonLent` | %s |\n"
+        self.assertEqual(list(believe.requires_faults(head % "a `requires` of `units_with`, met in `factors_at`")), [])
+        self.assertEqual(list(believe.requires_faults(head % "`SeasonLent`: in the `requires` of `units_with`")),
+                         ["units_with does not require SeasonLent"])
 
     def test_a_wrong_limit_is_found(self):
         found = list(believe.limit_faults(self.text.replace("| `tripsLimit` | 1,200 |", "| `tripsLimit` | 2,000 |")))
@@ -179,19 +195,19 @@ class Files(unittest.TestCase):
         self.assertTrue(believe.is_marked("-- For proofs; nothing here has to be believed.\n"))
         self.assertFalse(believe.is_marked("-- The computed mean.\n-- Need not be believed.\n"))
 
-    def test_an_exception_that_is_not_needed_is_told(self):
+    def test_an_exception_that_is_not_needed_is_reported(self):
         self.assertEqual(list(believe.against(["a"], ["a"], "is wrong", "LIST")), [])
         self.assertEqual(list(believe.against(["a"], [], "is wrong", "LIST")), ["a is wrong"])
         self.assertEqual(list(believe.against([], ["a"], "is wrong", "LIST")),
                          ["a needs no exception: take it out of LIST in tools/check/believe.py"])
 
-    def test_a_definition_of_the_method_is_told_from_a_statement(self):
+    def test_method_and_statement_are_kept_apart(self):
         files = believe.files()
         self.assertEqual(files["factors", "Units"].believed + files["factors", "Units"].stated, [])
         self.assertIn("MassesTheorem", files["masses", "AnyCounts"].stated)
         self.assertIn("temperature", files["exact", "Day"].believed)
 
-    def test_a_definition_for_proofs_alone_is_told_from_one_of_a_contract(self):
+    def test_a_definition_for_proofs_alone_is_found(self):
         alone = set(believe.proofs_alone())
         self.assertIn("text: Decimal Numeral", alone)
         self.assertNotIn("parking: Grid GridReady", alone)
