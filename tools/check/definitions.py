@@ -133,10 +133,15 @@ class Scope(NamedTuple):
 
 @cache
 def exported(crate: str, file: str) -> Scope:
-    """The names that a file of definitions gives to others."""
+    """The names that a file of definitions gives to others: its own, and those that it passes on by `pub use`."""
     here = [each for key, each in definitions().items() if key[:2] == (crate, file)]
-    return Scope({each.key.name: each.key for each in here},
-                 {name: each.key for each in here for name in each.makes})
+    names = {each.key.name: each.key for each in here}
+    made = {name: each.key for each in here for name in each.makes}
+    path = CRATES / crate / "specs" / (file + ".antt")
+    text = path.read_text(encoding="utf-8") if path.is_file() else ""
+    for name, key, constructor in imported("\n".join(re.findall(r"^(?:unfoldable )?pub use .*", text, re.M))):
+        (made if constructor else names)[name] = key
+    return Scope(names, made)
 
 
 def imported(text: str) -> Iterator[tuple[str, Key, bool]]:

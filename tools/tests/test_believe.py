@@ -2,7 +2,10 @@
 
 import tempfile
 import unittest
+from collections.abc import Iterator
+from contextlib import contextmanager
 from pathlib import Path
+from unittest import mock
 
 from tools.check import believe
 from tools.check import definitions as reader
@@ -33,6 +36,27 @@ hours m = m
 
 OWN = reader.Scope({name: Key("c", "F", name) for name in ("hours", "vp", "load", "_next_")},
                    {name: Key("c", "F", "Kind") for name in ("small", "large")})
+
+
+@contextmanager
+def tree(files: dict[str, str]) -> Iterator[None]:
+    """The reader over these files of definitions in place of those of the repository."""
+    with tempfile.TemporaryDirectory() as folder, mock.patch.object(reader, "CRATES", Path(folder)):
+        for name, text in files.items():
+            path = Path(folder) / (name + ".antt")
+            path.parent.mkdir(parents=True)
+            path.write_text(text, encoding="utf-8")
+        forget()
+        try:
+            yield
+        finally:
+            forget()
+
+
+def forget() -> None:
+    """What was read before is read again."""
+    for each in (reader.definitions, reader.declared, reader.exported, reader.scopes, reader.graph, reader.contracts):
+        each.cache_clear()
 
 
 def named(text: str, hidden: tuple[str, ...] = ()) -> set[str]:
@@ -82,11 +106,20 @@ class Reading(unittest.TestCase):
         self.assertEqual(used(text), {"Fraction", "load"})
 
     def test_a_name_of_two_crates_is_two_definitions(self):
-        short = [key for key in reader.definitions() if key.name == "short"]
-        self.assertEqual(sorted(key.crate for key in short), ["bounds", "thresholds"])
-        scopes = reader.scopes()
-        self.assertEqual(scopes["starting_loads", "Net"].find("short"), Key("thresholds", "Thresholds", "short"))
-        self.assertEqual(scopes["starting_loads", "Steps"].find("short"), Key("bounds", "Short", "short"))
+        with tree({"a/specs/One": "abbrev pub total : ℕ\ntotal = 1\n",
+                   "b/specs/Two": "abbrev pub total : ℕ\ntotal = 2\n",
+                   "c/specs/Use": "use Rattle.a.specs.One.{total}\nabbrev pub f : ℕ\nf = total\n",
+                   "d/specs/Use": "use Rattle.b.specs.Two.{total}\nabbrev pub f : ℕ\nf = total\n"}):
+            graph = reader.graph()
+        self.assertEqual(graph[Key("c", "Use", "f")], {Key("a", "One", "total")})
+        self.assertEqual(graph[Key("d", "Use", "f")], {Key("b", "Two", "total")})
+
+    def test_a_name_that_is_passed_on_is_the_first_one(self):
+        with tree({"a/specs/One": "pub data Kind : Type 0 where\n  small : Kind\n",
+                   "b/specs/Two": "pub use Rattle.a.specs.One.{Kind, small}\n",
+                   "c/specs/Use": "use Rattle.b.specs.Two.{Kind, small}\nabbrev pub f : Kind\nf = small\n"}):
+            graph = reader.graph()
+        self.assertEqual(graph[Key("c", "Use", "f")], {Key("a", "One", "Kind")})
 
     def test_another_name_for_a_module_is_followed(self):
         self.assertIn(Key("exact", "Canister", "escape"), reader.graph()[Key("exact", "Factors", "rowEscape")])
