@@ -308,10 +308,10 @@ def count_faults(text: str) -> Iterator[str]:
     given |= {"all": (int(number), int(lines)) for number, lines in ALL.findall(text)}
     for which in (*DEMANDS, "all"):
         keys = in_specs(demanded() if which == "all" else demanded(which))
-        counted = (len(keys), line_count(keys))
-        if given.get(which) != counted:
+        found = (len(keys), line_count(keys))
+        if given.get(which) != found:
             yield "demand %s rests on %d definitions in %d lines, and the page says %s" % (
-                which, *counted, "%d in %d" % given[which] if which in given else "nothing")
+                which, *found, "%d in %d" % given[which] if which in given else "nothing")
 
 
 def requires_faults(text: str) -> Iterator[str]:
@@ -374,24 +374,36 @@ def faults() -> list[str]:
         return [str(missing)]
 
 
+def by_file(keys: Iterable[Key]) -> Iterator[str]:
+    """A line for each file, with its definitions among these."""
+    found: dict[File, list[Key]] = {}
+    for key in in_specs(keys):
+        found.setdefault((key.crate, key.file), []).append(key)
+    for file, listed in found.items():
+        yield "  %s (%d, %d lines): %s" % (
+            titled(file), len(listed), line_count(listed), " ".join(bare(key.name) for key in listed))
+
+
+def counted(keys: Iterable[Key]) -> str:
+    listed = in_specs(keys)
+    return "%d definitions, %d lines" % (len(listed), line_count(listed))
+
+
 def listing() -> Iterator[str]:
-    """The definitions that the demands rest on, by file, and how many more each request names."""
-    for which in DEMANDS:
-        keys = in_specs(demanded(which))
-        yield "demand %s: %d definitions, %d lines" % (which, len(keys), line_count(keys))
-    believed = in_specs(demanded())
-    yield "all three: %d definitions, %d lines" % (len(believed), line_count(believed))
-    for file, sorts in files().items():
-        if sorts.believed:
-            keys = [Key(*file, name) for name in sorts.believed]
-            yield "  %s (%d, %d lines): %s" % (
-                titled(file), len(keys), line_count(keys), " ".join(map(bare, sorts.believed)))
-    yield "  declared in the code: " + " ".join(sorted(key.name for key in demanded() if key in declared()))
-    ends = found_all(COMPUTED)
+    """The definitions that the demands rest on, by file; then those that each request needs beside them, each
+    definition at the first that needs it."""
+    yield from ("demand %s: %s" % (which, counted(demanded(which))) for which in DEMANDS)
+    believed = demanded()
+    yield "all three: " + counted(believed)
+    yield from by_file(believed)
+    yield "  declared in the code: " + " ".join(sorted(key.name for key in believed if key in declared()))
+    yield "beside these, by heading and request of %s:" % promises.PAGE
+    listed: set[Key] = set()
     for request, roots in requests().items():
-        more = in_specs(closure(roots, graph(), ends) - ends - demanded())
-        yield "%s: %s; with %d definitions more, %d lines" % (
-            request, " ".join(sorted(key.name for key in roots)), len(more), line_count(more))
+        more = closure(roots, graph(), found_all(COMPUTED)) & stated() - believed
+        yield "%s: %s, %s of them above" % (request, counted(more), len(in_specs(more & listed)))
+        yield from by_file(more - listed)
+        listed |= more
 
 
 def mixture() -> Iterator[str]:

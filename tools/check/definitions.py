@@ -161,8 +161,8 @@ def imported(text: str) -> Iterator[tuple[str, Key, bool]]:
             yield from ((alias + "." + bare(name), key, True) for name, key in given.made.items())
         for name in names.split(",") if names else []:
             name, _, called = name.strip().partition(" as ")
-            if key := given.find(name):
-                yield called or name, key, name in given.made and name not in given.names
+            if meant := given.find(name):
+                yield called or name, meant, name in given.made and name not in given.names
 
 
 def unresolved(text: str) -> Iterator[str]:

@@ -55,8 +55,12 @@ def tree(files: dict[str, str]) -> Iterator[None]:
 
 def forget() -> None:
     """What was read before is read again."""
-    for each in (reader.definitions, reader.declared, reader.exported, reader.scopes, reader.graph, reader.contracts):
-        each.cache_clear()
+    reader.definitions.cache_clear()
+    reader.declared.cache_clear()
+    reader.exported.cache_clear()
+    reader.scopes.cache_clear()
+    reader.graph.cache_clear()
+    reader.contracts.cache_clear()
 
 
 def named(text: str, hidden: tuple[str, ...] = ()) -> set[str]:
@@ -215,6 +219,24 @@ class Page(unittest.TestCase):
         faults = list(believe.count_faults(self.text.replace("| all three | | ", "| all three | | 1")))
         self.assertEqual(len(faults), 1)
         self.assertEqual(len(list(believe.count_faults(""))), 4)
+
+
+class Listing(unittest.TestCase):
+    def test_a_definition_is_listed_once(self):
+        lines = [line for line in believe.listing() if line.startswith("  ") and "declared in" not in line]
+        listed = [(line.split(" (")[0].strip(), name) for line in lines for name in line.split("): ")[1].split()]
+        self.assertEqual(len(listed), len(set(listed)))
+        self.assertIn(("exact: Factors", "T1"), listed)
+        self.assertNotIn(("factors: Units", "factorUnits"), listed)
+
+    def test_what_a_request_needs_comes_after_what_the_demands_rest_on(self):
+        lines = list(believe.listing())
+        beside = next(number for number, line in enumerate(lines) if line.startswith("beside these"))
+        self.assertTrue(any("GridTheorem" in line for line in lines[beside:]))
+        self.assertFalse(any("Theorem" in line for line in lines[:beside]))
+
+    def test_a_file_that_mixes_is_listed_with_both_kinds(self):
+        self.assertEqual(len([line for line in believe.mixture() if ": to believe (" in line]), len(believe.MIXED))
 
 
 class Files(unittest.TestCase):
