@@ -215,8 +215,8 @@ def references(text: str, scope: Scope, hidden: Iterable[str] = ()) -> set[Key]:
     text = LET.sub(lambda match: match[1] + " " * len(match[2]), text)
     found = set()
     for match in TOKEN.finditer(text):
-        token = match[0] if match[0] == "." else match[0].rstrip(".")
-        if token.startswith(".") or any(token == name and match.start() >= place for place, name in variables):
+        token = match[0].rstrip(".")  # as in `λ r.`; of a field, .vp, the dot stays, so that it is no name
+        if any(token == name and match.start() >= place for place, name in variables):
             continue
         if key := meaning(token, scope):
             found.add(key)

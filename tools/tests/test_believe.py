@@ -121,9 +121,11 @@ class Reading(unittest.TestCase):
     def test_a_name_that_is_passed_on_is_the_first_one(self):
         with tree({"a/specs/One": "pub data Kind : Type 0 where\n  small : Kind\n",
                    "b/specs/Two": "pub use Rattle.a.specs.One.{Kind, small}\n",
-                   "c/specs/Use": "use Rattle.b.specs.Two.{Kind, small}\nabbrev pub f : Kind\nf = small\n"}):
+                   "c/specs/Use": "use Rattle.b.specs.Two.{Kind, small}\nabbrev pub f : Kind\nf = small\n",
+                   "d/specs/Use": "use Rattle.b.specs.Two.{small}\nabbrev pub f : ℕ\nf small = 1\nf large = large\n"}):
             graph = reader.graph()
         self.assertEqual(graph[Key("c", "Use", "f")], {Key("a", "One", "Kind")})
+        self.assertEqual(graph[Key("d", "Use", "f")], {Key("a", "One", "Kind")})
 
     def test_another_name_for_a_module_is_followed(self):
         self.assertIn(Key("exact", "Canister", "escape"), reader.graph()[Key("exact", "Factors", "rowEscape")])
@@ -191,6 +193,10 @@ class Page(unittest.TestCase):
         self.assertEqual(believe.named("| exact: Day | `vp` | x |\n| | `hours` | y |\n\n| | `T1` | z |\n"),
                          {("exact", "Day", "vp"), ("exact", "Day", "hours")})
 
+    def test_a_row_that_has_another_file_is_found(self):
+        found = list(believe.naming_faults(self.text.replace("| exact: Factors |", "| exact: Masses |")))
+        self.assertIn("T1 of exact: Factors is not named in a table", found)
+
     def test_a_name_in_the_part_on_the_method_is_none(self):
         kept, aside = believe.parts("# A\n## 1. Numbers\nx\n## 5. What need not be believed\ny\n## More\nz\n")
         self.assertEqual((kept, aside), ("# A\n## 1. Numbers\nx\n## More\nz\n", "## 5. What need not be believed\ny\n"))
@@ -244,6 +250,14 @@ class Files(unittest.TestCase):
         self.assertEqual(list(believe.call_faults()), [])
         self.assertIn(("crates/inventory/src/lib.rt", "report"), believe.public_calls())
         self.assertIn(("crates/evaporation/src/map.rt", "evp_add_cells"), believe.public_calls())
+
+    def test_a_public_call_with_requires_is_found(self):
+        file = "crates/sheet/src/lib.rt"
+        known = [reader.Contract(TOP / file, "f", True, frozenset(), frozenset())]
+        with mock.patch.object(believe, "contracts", return_value=known), \
+                mock.patch.object(believe, "public_calls", return_value={(file, "f"), (file, "g")}):
+            self.assertEqual(list(believe.call_faults()), ["%s: the public call f has a `requires`" % file,
+                                                           "%s has no contract of g" % file])
 
     def test_a_first_line_marks_a_file(self):
         self.assertTrue(believe.is_marked("-- Need not be believed: the computed mean.\nuse x\n"))
