@@ -3,12 +3,13 @@
 The three demands of document 01 rest on the definitions that their statements name,
 directly or by others; they are computed from crates/*/specs, not from file names.
 Checked here: docs/READING.md names each of them in a table, in the row of its file,
-with the value of each limit and the number of definitions; a file that no contract
-of a public call and no statement of docs/PROMISES.md needs says in its first line
-"Need not be believed"; no definition serves proofs alone; and no file has both
-definitions to believe and definitions of the method. The exceptions are in the
-constants UNMARKED, MISMARKED, PROOFS_ALONE and MIXED; one that is no longer needed
-is a fault. No public call has a `requires`.
+with the value of each limit and the number of definitions; it names what
+docs/PROMISES.md names, and a function whose `requires` it speaks of has it; a file
+that no contract of a public call and no statement of docs/PROMISES.md needs says in
+its first line "Need not be believed"; no definition serves proofs alone; and no file
+has both definitions to believe and definitions of the method. The exceptions are in
+the constants UNMARKED, MISMARKED, PROOFS_ALONE and MIXED; one that is no longer
+needed is a fault. No public call has a `requires`.
 """
 
 import re
@@ -271,6 +272,13 @@ def naming_faults(text: str) -> Iterator[str]:
             yield "%s of %s is to be believed, and the part on the method names it" % (key.name, titled(key[:2]))
 
 
+def promise_faults(text: str) -> Iterator[str]:
+    """Definitions that docs/PROMISES.md names and the page does not."""
+    for key in sorted({key for keys in requests().values() for key in keys}):
+        if "`%s`" % bare(key.name) not in text:
+            yield "%s of %s is named in %s and not here" % (key.name, titled(key[:2]), promises.PAGE)
+
+
 def limit_faults(text: str) -> Iterator[str]:
     """Limits whose value in the page is not that of the definition."""
     for row in table_rows(text):
@@ -283,14 +291,27 @@ def limit_faults(text: str) -> Iterator[str]:
 
 def count_faults(text: str) -> Iterator[str]:
     """Numbers of definitions and lines in the page's table of the demands that are not those of the files."""
-    told = {which: (int(number), int(lines)) for which, number, lines in COUNTED.findall(text)}
-    told |= {"all": (int(number), int(lines)) for number, lines in ALL.findall(text)}
+    given = {which: (int(number), int(lines)) for which, number, lines in COUNTED.findall(text)}
+    given |= {"all": (int(number), int(lines)) for number, lines in ALL.findall(text)}
     for which in (*DEMANDS, "all"):
         keys = in_specs(demanded() if which == "all" else demanded(which))
-        counted = (len(keys), line_count(keys))
-        if told.get(which) != counted:
+        found = (len(keys), line_count(keys))
+        if given.get(which) != found:
             yield "demand %s rests on %d definitions in %d lines, and the page says %s" % (
-                which, *counted, "%d in %d" % told[which] if which in told else "nothing")
+                which, *found, "%d in %d" % given[which] if which in given else "nothing")
+
+
+def requires_faults(text: str) -> Iterator[str]:
+    """Functions of the part on the method that do not require what its third column says, as in
+    `Name`: in the `requires` of `f` and `g`; without a name before it, one of the second column."""
+    for row in table_rows(parts(text)[1]):
+        for clause in row.said.split(";"):
+            before, _, after = clause.partition("`requires` of")
+            wanted = re.findall(r"`([^`]+)`", before) or row.names
+            for name in re.findall(r"`(\w+)`", after.partition(", met")[0]):
+                needs = {key for each in contracts() if each.name == name for key in each.needs}
+                if not any(key.name in wanted and key[:2] in row.files for key in needs):
+                    yield "%s does not require %s" % (name, " or ".join(wanted))
 
 
 def against(found: Iterable[str], listed: Iterable[str], what: str, constant: str) -> Iterator[str]:
@@ -332,31 +353,44 @@ def faults() -> list[str]:
     """What is wrong with the page and with the files."""
     text = (TOP / READING).read_text(encoding="utf-8")
     try:
-        page = [*naming_faults(text), *limit_faults(text), *count_faults(text)]
+        page = [*naming_faults(text), *promise_faults(text), *limit_faults(text), *count_faults(text),
+                *requires_faults(text)]
         return [*sorted("%s: %s" % (READING, fault) for fault in page), *import_faults(), *call_faults(),
                 *file_faults()]
     except Missing as missing:
         return [str(missing)]
 
 
+def by_file(keys: Iterable[Key]) -> Iterator[str]:
+    """A line for each file, with its definitions among these."""
+    found: dict[File, list[Key]] = {}
+    for key in in_specs(keys):
+        found.setdefault((key.crate, key.file), []).append(key)
+    for file, listed in found.items():
+        yield "  %s (%d, %d lines): %s" % (
+            titled(file), len(listed), line_count(listed), " ".join(bare(key.name) for key in listed))
+
+
+def counted(keys: Iterable[Key]) -> str:
+    listed = in_specs(keys)
+    return "%d definitions, %d lines" % (len(listed), line_count(listed))
+
+
 def listing() -> Iterator[str]:
-    """The definitions that the demands rest on, by file, and how many more each request names."""
-    for which in DEMANDS:
-        keys = in_specs(demanded(which))
-        yield "demand %s: %d definitions, %d lines" % (which, len(keys), line_count(keys))
-    believed = in_specs(demanded())
-    yield "all three: %d definitions, %d lines" % (len(believed), line_count(believed))
-    for file, sorts in files().items():
-        if sorts.believed:
-            keys = [Key(*file, name) for name in sorts.believed]
-            yield "  %s (%d, %d lines): %s" % (
-                titled(file), len(keys), line_count(keys), " ".join(map(bare, sorts.believed)))
-    yield "  declared in the code: " + " ".join(sorted(key.name for key in demanded() if key in declared()))
-    ends = found_all(COMPUTED)
+    """The definitions that the demands rest on, by file; then those that each request needs beside them, each
+    definition at the first that needs it."""
+    yield from ("demand %s: %s" % (which, counted(demanded(which))) for which in DEMANDS)
+    believed = demanded()
+    yield "all three: " + counted(believed)
+    yield from by_file(believed)
+    yield "  declared in the code: " + " ".join(sorted(key.name for key in believed if key in declared()))
+    yield "beside these, by heading and request of %s:" % promises.PAGE
+    listed: set[Key] = set()
     for request, roots in requests().items():
-        more = in_specs(closure(roots, graph(), ends) - ends - demanded())
-        yield "%s: %s; with %d definitions more, %d lines" % (
-            request, " ".join(sorted(key.name for key in roots)), len(more), line_count(more))
+        more = closure(roots, graph(), found_all(COMPUTED)) & stated() - believed
+        yield "%s: %s, %s of them above" % (request, counted(more), len(in_specs(more & listed)))
+        yield from by_file(more - listed)
+        listed |= more
 
 
 def mixture() -> Iterator[str]:

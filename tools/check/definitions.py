@@ -133,10 +133,15 @@ class Scope(NamedTuple):
 
 @cache
 def exported(crate: str, file: str) -> Scope:
-    """The names that a file of definitions gives to others."""
+    """The names that a file of definitions gives to others: its own, and those that it passes on by `pub use`."""
     here = [each for key, each in definitions().items() if key[:2] == (crate, file)]
-    return Scope({each.key.name: each.key for each in here},
-                 {name: each.key for each in here for name in each.makes})
+    names = {each.key.name: each.key for each in here}
+    made = {name: each.key for each in here for name in each.makes}
+    path = CRATES / crate / "specs" / (file + ".antt")
+    text = path.read_text(encoding="utf-8") if path.is_file() else ""
+    for name, key, constructor in imported("\n".join(re.findall(r"^(?:unfoldable )?pub use .*", text, re.M))):
+        (made if constructor else names)[name] = key
+    return Scope(names, made)
 
 
 def imported(text: str) -> Iterator[tuple[str, Key, bool]]:
@@ -156,8 +161,8 @@ def imported(text: str) -> Iterator[tuple[str, Key, bool]]:
             yield from ((alias + "." + bare(name), key, True) for name, key in given.made.items())
         for name in names.split(",") if names else []:
             name, _, called = name.strip().partition(" as ")
-            if key := given.find(name):
-                yield called or name, key, name in given.made and name not in given.names
+            if meant := given.find(name):
+                yield called or name, meant, name in given.made and name not in given.names
 
 
 def unresolved(text: str) -> Iterator[str]:
@@ -210,8 +215,8 @@ def references(text: str, scope: Scope, hidden: Iterable[str] = ()) -> set[Key]:
     text = LET.sub(lambda match: match[1] + " " * len(match[2]), text)
     found = set()
     for match in TOKEN.finditer(text):
-        token = match[0] if match[0] == "." else match[0].rstrip(".")
-        if token.startswith(".") or any(token == name and match.start() >= place for place, name in variables):
+        token = match[0].rstrip(".")  # as in `λ r.`; of a field, .vp, the dot stays, so that it is no name
+        if any(token == name and match.start() >= place for place, name in variables):
             continue
         if key := meaning(token, scope):
             found.add(key)

@@ -2,7 +2,10 @@
 
 import tempfile
 import unittest
+from collections.abc import Iterator
+from contextlib import contextmanager
 from pathlib import Path
+from unittest import mock
 
 from tools.check import believe
 from tools.check import definitions as reader
@@ -33,6 +36,31 @@ hours m = m
 
 OWN = reader.Scope({name: Key("c", "F", name) for name in ("hours", "vp", "load", "_next_")},
                    {name: Key("c", "F", "Kind") for name in ("small", "large")})
+
+
+@contextmanager
+def tree(files: dict[str, str]) -> Iterator[None]:
+    """The reader over these files of definitions in place of those of the repository."""
+    with tempfile.TemporaryDirectory() as folder, mock.patch.object(reader, "CRATES", Path(folder)):
+        for name, text in files.items():
+            path = Path(folder) / (name + ".antt")
+            path.parent.mkdir(parents=True)
+            path.write_text(text, encoding="utf-8")
+        forget()
+        try:
+            yield
+        finally:
+            forget()
+
+
+def forget() -> None:
+    """What was read before is read again."""
+    reader.definitions.cache_clear()
+    reader.declared.cache_clear()
+    reader.exported.cache_clear()
+    reader.scopes.cache_clear()
+    reader.graph.cache_clear()
+    reader.contracts.cache_clear()
 
 
 def named(text: str, hidden: tuple[str, ...] = ()) -> set[str]:
@@ -82,16 +110,27 @@ class Reading(unittest.TestCase):
         self.assertEqual(used(text), {"Fraction", "load"})
 
     def test_a_name_of_two_crates_is_two_definitions(self):
-        short = [key for key in reader.definitions() if key.name == "short"]
-        self.assertEqual(sorted(key.crate for key in short), ["bounds", "thresholds"])
-        scopes = reader.scopes()
-        self.assertEqual(scopes["starting_loads", "Net"].find("short"), Key("thresholds", "Thresholds", "short"))
-        self.assertEqual(scopes["starting_loads", "Steps"].find("short"), Key("bounds", "Short", "short"))
+        with tree({"a/specs/One": "abbrev pub total : ℕ\ntotal = 1\n",
+                   "b/specs/Two": "abbrev pub total : ℕ\ntotal = 2\n",
+                   "c/specs/Use": "use Rattle.a.specs.One.{total}\nabbrev pub f : ℕ\nf = total\n",
+                   "d/specs/Use": "use Rattle.b.specs.Two.{total}\nabbrev pub f : ℕ\nf = total\n"}):
+            graph = reader.graph()
+        self.assertEqual(graph[Key("c", "Use", "f")], {Key("a", "One", "total")})
+        self.assertEqual(graph[Key("d", "Use", "f")], {Key("b", "Two", "total")})
+
+    def test_a_name_that_is_passed_on_is_the_first_one(self):
+        with tree({"a/specs/One": "pub data Kind : Type 0 where\n  small : Kind\n",
+                   "b/specs/Two": "pub use Rattle.a.specs.One.{Kind, small}\n",
+                   "c/specs/Use": "use Rattle.b.specs.Two.{Kind, small}\nabbrev pub f : Kind\nf = small\n",
+                   "d/specs/Use": "use Rattle.b.specs.Two.{small}\nabbrev pub f : ℕ\nf small = 1\nf large = large\n"}):
+            graph = reader.graph()
+        self.assertEqual(graph[Key("c", "Use", "f")], {Key("a", "One", "Kind")})
+        self.assertEqual(graph[Key("d", "Use", "f")], {Key("a", "One", "Kind")})
 
     def test_another_name_for_a_module_is_followed(self):
         self.assertIn(Key("exact", "Canister", "escape"), reader.graph()[Key("exact", "Factors", "rowEscape")])
 
-    def test_a_name_that_is_not_found_is_told(self):
+    def test_a_name_that_is_not_found_is_reported(self):
         text = ("use Rattle.exact.specs.Day.{temperature, dew}\nuse Rattle.io.specs.Counts.{Counts}\n"
                 "pub use Rattle.exact.specs.Day.{w,\n")
         self.assertEqual(list(reader.unresolved(text)), ["pub use Rattle.exact.specs.Day.{w,", "dew of exact: Day"])
@@ -114,7 +153,7 @@ class Reading(unittest.TestCase):
 
 
 class Closure(unittest.TestCase):
-    def test_it_follows_names_and_ends_where_it_is_told(self):
+    def test_it_follows_names_and_ends_where_it_is_reported(self):
         a, b, c = (Key("c", "F", name) for name in "abc")
         edges = {a: [b], b: [c]}
         self.assertEqual(reader.closure([a], edges), {a, b, c})
@@ -133,7 +172,7 @@ class Closure(unittest.TestCase):
         self.assertLessEqual({"mass", "blend", "twoWheeler", "categoryWord"}, names["3"])
         self.assertNotIn("mass", names["1"] | names["2"])
 
-    def test_a_root_that_moved_to_another_crate_is_told(self):
+    def test_a_root_that_moved_to_another_crate_is_reported(self):
         with self.assertRaises(believe.Missing):
             believe.find("sheet", "ReportPromise")
 
@@ -143,8 +182,8 @@ class Page(unittest.TestCase):
         self.text = (TOP / believe.READING).read_text(encoding="utf-8")
 
     def test_the_page_names_everything(self):
-        self.assertEqual([*believe.naming_faults(self.text), *believe.limit_faults(self.text),
-                          *believe.count_faults(self.text)], [])
+        self.assertEqual([*believe.naming_faults(self.text), *believe.promise_faults(self.text),
+                          *believe.limit_faults(self.text), *believe.count_faults(self.text)], [])
 
     def test_a_name_that_is_left_out_is_found(self):
         found = list(believe.naming_faults(self.text.replace("`T1` `T2`", "`T1`")))
@@ -154,9 +193,29 @@ class Page(unittest.TestCase):
         self.assertEqual(believe.named("| exact: Day | `vp` | x |\n| | `hours` | y |\n\n| | `T1` | z |\n"),
                          {("exact", "Day", "vp"), ("exact", "Day", "hours")})
 
+    def test_a_row_that_has_another_file_is_found(self):
+        found = list(believe.naming_faults(self.text.replace("| exact: Factors |", "| exact: Masses |")))
+        self.assertIn("T1 of exact: Factors is not named in a table", found)
+
     def test_a_name_in_the_part_on_the_method_is_none(self):
         kept, aside = believe.parts("# A\n## 1. Numbers\nx\n## 5. What need not be believed\ny\n## More\nz\n")
         self.assertEqual((kept, aside), ("# A\n## 1. Numbers\nx\n## More\nz\n", "## 5. What need not be believed\ny\n"))
+
+    def test_a_definition_to_believe_is_none_of_the_method(self):
+        row = "| exact: Factors | the start's temperature, `T1` | a law |\n"
+        found = list(believe.naming_faults(self.text.replace("| sheet: Range |", row + "| sheet: Range |")))
+        self.assertEqual(found, ["T1 of exact: Factors is to be believed, and the part on the method names it"])
+
+    def test_a_statement_that_the_page_leaves_out_is_found(self):
+        found = list(believe.promise_faults(self.text.replace("`FourthTheorem`", "")))
+        self.assertEqual(found, ["FourthTheorem of inventory: NextVersion is named in docs/PROMISES.md and not here"])
+
+    def test_a_requires_that_a_function_does_not_have_is_found(self):
+        self.assertEqual(list(believe.requires_faults(self.text)), [])
+        head = "## 5. What need not be believed\n\n| sheet_factors: Lent | `SheetLent` `SeasonLent` | %s |\n"
+        self.assertEqual(list(believe.requires_faults(head % "a `requires` of `units_with`, met in `factors_at`")), [])
+        self.assertEqual(list(believe.requires_faults(head % "`SeasonLent`: in the `requires` of `units_with`")),
+                         ["units_with does not require SeasonLent"])
 
     def test_a_wrong_limit_is_found(self):
         found = list(believe.limit_faults(self.text.replace("| `tripsLimit` | 1,200 |", "| `tripsLimit` | 2,000 |")))
@@ -168,30 +227,56 @@ class Page(unittest.TestCase):
         self.assertEqual(len(list(believe.count_faults(""))), 4)
 
 
+class Listing(unittest.TestCase):
+    def test_a_definition_is_listed_once(self):
+        lines = [line for line in believe.listing() if line.startswith("  ") and "declared in" not in line]
+        listed = [(line.split(" (")[0].strip(), name) for line in lines for name in line.split("): ")[1].split()]
+        self.assertEqual(len(listed), len(set(listed)))
+        self.assertIn(("exact: Factors", "T1"), listed)
+        self.assertNotIn(("factors: Units", "factorUnits"), listed)
+
+    def test_what_a_request_needs_comes_after_what_the_demands_rest_on(self):
+        lines = list(believe.listing())
+        beside = next(number for number, line in enumerate(lines) if line.startswith("beside these"))
+        self.assertTrue(any("GridTheorem" in line for line in lines[beside:]))
+        self.assertFalse(any("Theorem" in line for line in lines[:beside]))
+
+    def test_a_file_that_mixes_is_listed_with_both_kinds(self):
+        self.assertEqual(len([line for line in believe.mixture() if ": to believe (" in line]), len(believe.MIXED))
+
+
 class Files(unittest.TestCase):
     def test_every_public_call_is_without_requires(self):
         self.assertEqual(list(believe.call_faults()), [])
         self.assertIn(("crates/inventory/src/lib.rt", "report"), believe.public_calls())
         self.assertIn(("crates/evaporation/src/map.rt", "evp_add_cells"), believe.public_calls())
 
+    def test_a_public_call_with_requires_is_found(self):
+        file = "crates/sheet/src/lib.rt"
+        known = [reader.Contract(TOP / file, "f", True, frozenset(), frozenset())]
+        with mock.patch.object(believe, "contracts", return_value=known), \
+                mock.patch.object(believe, "public_calls", return_value={(file, "f"), (file, "g")}):
+            self.assertEqual(list(believe.call_faults()), ["%s: the public call f has a `requires`" % file,
+                                                           "%s has no contract of g" % file])
+
     def test_a_first_line_marks_a_file(self):
         self.assertTrue(believe.is_marked("-- Need not be believed: the computed mean.\nuse x\n"))
         self.assertTrue(believe.is_marked("-- For proofs; nothing here has to be believed.\n"))
         self.assertFalse(believe.is_marked("-- The computed mean.\n-- Need not be believed.\n"))
 
-    def test_an_exception_that_is_not_needed_is_told(self):
+    def test_an_exception_that_is_not_needed_is_reported(self):
         self.assertEqual(list(believe.against(["a"], ["a"], "is wrong", "LIST")), [])
         self.assertEqual(list(believe.against(["a"], [], "is wrong", "LIST")), ["a is wrong"])
         self.assertEqual(list(believe.against([], ["a"], "is wrong", "LIST")),
                          ["a needs no exception: take it out of LIST in tools/check/believe.py"])
 
-    def test_a_definition_of_the_method_is_told_from_a_statement(self):
+    def test_method_and_statement_are_kept_apart(self):
         files = believe.files()
         self.assertEqual(files["factors", "Units"].believed + files["factors", "Units"].stated, [])
         self.assertIn("MassesTheorem", files["masses", "AnyCounts"].stated)
         self.assertIn("temperature", files["exact", "Day"].believed)
 
-    def test_a_definition_for_proofs_alone_is_told_from_one_of_a_contract(self):
+    def test_a_definition_for_proofs_alone_is_found(self):
         alone = set(believe.proofs_alone())
         self.assertIn("text: Decimal Numeral", alone)
         self.assertNotIn("parking: Grid GridReady", alone)
