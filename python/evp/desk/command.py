@@ -3,6 +3,7 @@
 import secrets
 import signal
 import sys
+import time
 from argparse import Namespace
 from importlib.util import find_spec
 from typing import NamedTuple
@@ -10,9 +11,9 @@ from typing import NamedTuple
 from evp import layout
 from evp.commands import SheetRefused, get_library
 from evp.desk.ledger import MARKER, MOST_DIGITS, PARTICIPANTS, CourseLedger, new_person, open_first
-from evp.desk.store import Opening, Store, create
+from evp.desk.store import Opening, Store, create, files_of
 from evp.explain import call_text, explain
-from evp.files import InputError, read_sheet, read_text, write_file
+from evp.files import InputError, check_target, read_sheet, read_text, write_file
 from evp.layout import FIELDS
 from evp.library import Library, Number, Refusal
 from evp.pages.needs import INSTALL, PACKAGES
@@ -165,6 +166,10 @@ def say_ledger(ledger: CourseLedger, shown: str):
     rows, source = layout.row_count(ledger.opening.sheet), name_shown(ledger.opening.source)
     print("%s: %s of %s, %s" % (shown, counted(rows, "row"), source, (
         "%s played again, and all is as it was" % counted(calls, "call") if calls else "no calls yet")))
+    if ledger.store.had_journal:
+        journal = name_shown(files_of(ledger.store.path)[1])
+        print("%s was left by a server that was killed, and what that had begun is undone. If %s is a copy that\n"
+              "you put back, stop this server, remove %s and put the copy back again." % (journal, shown, journal))
 
 
 # ------------------------------------------------------------------ the command
@@ -209,6 +214,19 @@ def check_given(given: Namespace):
         raise InputError("--owners goes with --new SHEET: rows are dealt out when a ledger is made")
 
 
+class _Replaying:
+    """Says once that calls are played again, where that takes longer than a second."""
+
+    def __init__(self, shown: str):
+        self._shown, self._start, self._is_said = shown, time.monotonic(), False
+
+    def __call__(self, done: int, many: int):
+        if not self._is_said and time.monotonic() - self._start > 1:
+            self._is_said = True
+            print("%s: playing %s again; %s after a second" % (
+                self._shown, counted(many, "call"), apart(done)), file=sys.stderr, flush=True)
+
+
 def open_ledger(library: Library, given: Namespace) -> tuple[CourseLedger, dict[int, str]]:
     """The ledger that is named, made first where that is asked for; and the secrets that are new."""
     made = make(library, given) if given.new is not None else {}
@@ -216,7 +234,7 @@ def open_ledger(library: Library, given: Namespace) -> tuple[CourseLedger, dict[
     try:
         if given.renew is not None:
             made = renew(store, given.renew)
-        return CourseLedger(library, store), made
+        return CourseLedger(library, store, _Replaying(name_shown(given.ledger))), made
     except BaseException:
         store.close()
         raise
@@ -234,12 +252,14 @@ def run(given: Namespace) -> int:
 
 def export(library: Library, given: Namespace) -> int:
     """Writes the sheet as it stands, and serves nothing."""
+    sources = [name for name in (*files_of(given.ledger), given.new, given.owners) if name]
+    check_target(given.export, given.force, sources)  # before a ledger is made or a link changed
     ledger, _ = open_ledger(library, given)
     try:
         data = ledger.read(MARKER).sheet
     finally:
         ledger.close()
-    write_file(given.export, data, given.force)
+    write_file(given.export, data, given.force, sources)
     if given.export != "-":
         print("%s: %d bytes, %s" % (name_shown(given.export), len(data), explain(library, data).line))
     return 0
@@ -258,6 +278,7 @@ def serve(library: Library, given: Namespace) -> int:
         base = base_of(address, port)
         if given.ledger is not None:
             ledger, made = open_ledger(library, given)
+            ledger.store.make_ready()
             say_ledger(ledger, name_shown(given.ledger))
             say_links(ledger, made, base)
         hosts = hosts_of(address, port) | hosts_of(listener.getsockname()[0], port)
