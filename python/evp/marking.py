@@ -156,7 +156,18 @@ def marked(library: Library, data: bytes, digest: str = "") -> Marked:
         return Marked(data, digest, {}, explain(library, data).line)
 
 
+OUTSIDE = "a link that leads out of the folder, and is not followed"
+
+
+def _leads_out(path: Path) -> bool:
+    """Whether a file of a folder is a link to one that is not in it: who hands in a link must not get the marker's
+    own files read."""
+    return path.is_symlink() and not path.resolve().is_relative_to(path.parent.resolve())
+
+
 def _marked_file(library: Library, path: Path) -> Marked:
+    if _leads_out(path):
+        return Marked(b"", "", {}, unread=OUTSIDE)
     try:
         data = read_sheet(path)
         return marked(library, data, digest_of(path, data))
@@ -196,7 +207,8 @@ def marks_of(library: Library, sheets: dict[str, Marked], filings: Iterable[Fili
         marks.append(_mark(library, sheets, filing))
     for name, sheet in sheets.items():
         if name not in filed_for:
-            marks.append(Mark(name, "", "", "", "", "missing", note="nobody filed for this sheet", sha256=sheet.digest))
+            note = "nobody filed for this sheet" + (": " + sheet.unread if sheet.unread else "")
+            marks.append(Mark(name, "", "", "", "", "missing", note=note, sha256=sheet.digest))
     return marks
 
 
