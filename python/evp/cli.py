@@ -160,7 +160,7 @@ def _no_command(top: Parser, words: list[str]) -> int | None:
     """What to say where no command is named, or none that there is; the exit status."""
     if not words:
         _complain("a command is wanted: %s\nevp --help says what each does, evp COMMAND --help how" % (
-            ", ".join(top.commands)))
+            ", ".join(name for name in top.commands if name != desk_command.ALIAS)))
         return 2
     if words[0].startswith("-") or words[0] in top.commands:
         return None

@@ -1,11 +1,10 @@
-"""`evp desk`: makes a ledger where one is wanted, says its links once, and serves."""
+"""`evp serve`: makes a ledger where one is wanted, says its links once, and serves."""
 
 import secrets
 import signal
 import sys
 import time
 from argparse import Namespace
-from importlib.util import find_spec
 from typing import NamedTuple
 
 from evp import layout
@@ -16,11 +15,11 @@ from evp.explain import call_text, explain
 from evp.files import InputError, check_target, read_sheet, read_text, write_file
 from evp.layout import FIELDS
 from evp.library import Library, Number, Refusal
-from evp.pages.needs import INSTALL, PACKAGES
+from evp.pages.needs import PACKAGES, require
 from evp.tables import read_table
 from evp.wording import apart, counted, name_shown, quoted
 
-DEBIAN = "/usr/bin/python3"  # the Python that Debian's packages are for
+ALIAS = "desk"
 SECRET_BYTES = 16  # 128 bits
 MOST_NAME = 40  # signs
 MOST_ROWS = 100  # of a participant, as the library has it
@@ -130,14 +129,6 @@ def renew(store: Store, name: str) -> dict[int, str]:
 # ------------------------------------------------------------------ what is said
 
 
-def require_modules():
-    missing = [name for name in PACKAGES if find_spec(name) is None]
-    if missing:
-        other = "" if sys.executable == DEBIAN else ", and start it with %s" % DEBIAN
-        raise InputError("evp desk needs %s, which this Python (%s) does not have: %s%s" % (
-            " and ".join(missing), sys.executable, INSTALL, other))
-
-
 def address_of(given: Namespace) -> str:
     if given.lan in EVERYWHERE:
         raise InputError("--lan wants one address of this machine, as 192.168.1.5; hostname -I lists them")
@@ -176,11 +167,12 @@ def say_ledger(ledger: CourseLedger, shown: str):
 
 
 def add_parser(add, subparsers):
-    desk = add(subparsers, "desk", run,
-               "serves the desk's pages to browsers of this machine, and the ledger of a course where one is named",
-               "evp desk\nevp desk --ledger course.db --new north.evp --owners owners.csv\n"
-               "evp desk --ledger course.db --lan 192.168.1.5\n"
-               "evp desk --ledger course.db --export north-now.evp", "force")
+    desk = add(subparsers, "serve", run,
+               "serves pages to browsers of this machine, and the ledger of a course where one is named",
+               "evp serve\nevp serve --ledger course.db --new north.evp --owners owners.csv\n"
+               "evp serve --ledger course.db --lan 192.168.1.5\n"
+               "evp serve --ledger course.db --export north-now.evp", "force")
+    subparsers.choices[ALIAS] = desk  # the command's first name, which the help does not list
     desk.add_argument("file", nargs="?", metavar="LEDGER", help="the same as --ledger LEDGER")
     desk.add_argument("--ledger", metavar="FILE", help="the file of a course's ledger")
     desk.add_argument("--new", metavar="SHEET", help="make the ledger from this sheet, and say its nine links once")
@@ -207,7 +199,7 @@ def ledger_of(given: Namespace) -> str | None:
 def check_given(given: Namespace):
     for option, value in (("--new", given.new), ("--renew", given.renew), ("--export", given.export)):
         if value is not None and given.ledger is None:
-            raise InputError("%s wants a ledger: evp desk --ledger FILE %s .." % (option, option))
+            raise InputError("%s wants a ledger: evp serve --ledger FILE %s .." % (option, option))
     if given.patience < 1:
         raise InputError("--patience wants at least 1 second")
     if given.owners is not None and given.new is None:
@@ -246,7 +238,7 @@ def run(given: Namespace) -> int:
     library = get_library()
     if given.export is not None:
         return export(library, given)
-    require_modules()
+    require(*PACKAGES)
     return serve(library, given)
 
 
