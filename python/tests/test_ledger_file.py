@@ -1,4 +1,4 @@
-"""The file of a ledger: damaged, of an older layout, read-only, put back beside another's journal, or no file at all."""
+"""The file of a ledger: damaged, of an older layout, read-only, put back beside another's journal, or no file."""
 
 import contextlib
 import io

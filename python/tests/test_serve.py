@@ -52,8 +52,8 @@ class LauncherTest(DeskTestCase):
             "sudo apt install python3-flask python3-waitress python3-jinja2\n"))
 
     def test_no_debian(self):
-        with mock.patch("evp.pages.needs.DEBIAN", str(self.folder / "none")), \
-                mock.patch("evp.pages.needs.launcher", "evp"), mock.patch("evp.pages.needs.find_spec", return_value=None):
+        with mock.patch.multiple("evp.pages.needs", DEBIAN=str(self.folder / "none"), launcher="evp",
+                                 find_spec=lambda name: None):
             found = run("serve")
         self.assertEqual((found.status, found.err.count("\n")), (2, 1))
         self.assertIn(needs.INSTALL, found.err)
