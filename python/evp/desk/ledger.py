@@ -164,12 +164,13 @@ class CourseLedger:
             if progress is not None and serial % 100 == 0:
                 progress(serial, len(calls))
             if stored.kind not in KINDS or stored.row < 1 or stored.vehicles < 0 or stored.who not in played.made:
-                raise InputError("%s: call %d is none: the file was changed, and nothing is served" % (
-                    name_shown(store.path), serial))
+                raise InputError("%s: call %d is none: the file was changed, and nothing is served%s" % (
+                    name_shown(store.path), serial, store.about_journal()))
             call = played.play(stored.who, Wanted(stored.kind, stored.row, stored.vehicles))
             if call.number != stored.number:
                 raise InputError("%s: call %d was answered with number %d, and played again with %d; "
-                                 "nothing is served" % (name_shown(store.path), serial, stored.number, call.number))
+                                 "nothing is served%s" % (name_shown(store.path), serial, stored.number, call.number,
+                                                          store.about_journal()))
             played.note(stored.who, call)
         _compare(store, digests_of(played.shared))
 
