@@ -160,7 +160,7 @@ def _no_command(top: Parser, words: list[str]) -> int | None:
     """What to say where no command is named, or none that there is; the exit status."""
     if not words:
         _complain("a command is wanted: %s\nevp --help says what each does, evp COMMAND --help how" % (
-            ", ".join(top.commands)))
+            ", ".join(name for name in top.commands if name != desk_command.ALIAS)))
         return 2
     if words[0].startswith("-") or words[0] in top.commands:
         return None
@@ -170,9 +170,10 @@ def _no_command(top: Parser, words: list[str]) -> int | None:
     return 2
 
 
-def _complain(text: str, start: str = "evp: "):
+def _complain(text: str, start: str = "evp: ", more: int = 0):
+    """Says what is wrong, a line each; `more` such lines are counted alone."""
     try:
-        for line in commands.limited(text.split("\n"), "such messages"):
+        for line in commands.limited(text.split("\n"), "such messages", more=more):
             print(start + line, file=sys.stderr, flush=True)
     except OSError:  # nobody can be told, and the exit status tells
         _drop(sys.stderr)
@@ -211,7 +212,9 @@ def _run(top: Parser, words: list[str]) -> int:
     except commands.SheetRefused as refused:
         _complain(str(refused), "")
         return commands.REFUSED
-    except (InputError, MissingCall) as error:
+    except InputError as error:
+        _complain(str(error), more=error.more)
+    except MissingCall as error:
         _complain(str(error))
     except KeyboardInterrupt:  # on a terminal behind ^C, and behind how far it is
         _complain("stopped", "\nevp: " if sys.stderr.isatty() else "evp: ")

@@ -7,14 +7,15 @@ import sys
 import time
 from argparse import Namespace
 from collections.abc import Iterable, Iterator
-from functools import partial
 
 from evp import library as calls
 from evp import marking, show
 from evp.cells import cells_csv, cells_of, read_travel
 from evp.convert import converted
 from evp.explain import Explanation, call_text, explain, looks_like
-from evp.files import FileError, InputError, failed, make_folder, read_sheet, read_text, write_file
+from evp.files import (
+    FileError, InputError, check_target, make_folder, read_sheet, read_text, same_file, write_file,
+)
 from evp.hints import with_hints
 from evp.library import SHEET_BYTES, Library, Refusal, Report
 from evp.making import make_library
@@ -48,12 +49,16 @@ def say(lines: Iterable[str]):
         print(line)
 
 
-def limited(lines: Iterable[str], rest: str, most: int = MOST_LINES) -> list[str]:
-    """No more lines than a screen has."""
-    lines = list(lines)
-    if len(lines) <= most:
-        return lines
-    return [*lines[:most - 1], "%s more %s" % (apart(len(lines) - most + 1), rest)]
+def limited(lines: Iterable[str], rest: str, most: int = MOST_LINES, more: int = 0) -> list[str]:
+    """No more lines than a screen has; `more` are counted besides these."""
+    shown, many = [], more
+    for line in lines:
+        many += 1
+        if len(shown) < most:
+            shown.append(line)
+    if many <= most:
+        return shown
+    return [*shown[:most - 1], "%s more %s" % (apart(many - len(shown[:most - 1])), rest)]
 
 
 def print_json(found: object):
@@ -127,17 +132,6 @@ def _target(source: str, given: str | None, end: str = ".evp") -> str:
     return (os.path.normpath(source) if os.path.isdir(source) else os.path.splitext(source)[0]) + end
 
 
-def _save(target: str, data: bytes, force: bool, *sources: str | os.PathLike):
-    """Writes a file, but never over one that it is made from, under another name or through a link either."""
-    if target != "-" and any(map(partial(_same, target), sources)):
-        raise InputError("%s: this would overwrite what it is made from; -o names another file" % name_shown(target))
-    write_file(target, data, force)
-
-
-def _same(one: str | os.PathLike, other: str | os.PathLike) -> bool:
-    return other != "-" and os.path.exists(one) and os.path.exists(other) and os.path.samefile(one, other)
-
-
 def _tables_in(source: str) -> list[str]:
     """What a sheet is made from: a text, or the tables of a folder."""
     if source == "-" or not os.path.isdir(source):
@@ -152,9 +146,9 @@ def write_sheet(given: Namespace) -> int:
     try:
         data = builder.data()
     except TextError as error:
-        raise InputError(str(error)) from None
+        raise InputError(str(error), error.more) from None
     explanation = explain(library, data)
-    _save(target, data, given.force, *_tables_in(given.source))  # also where it is refused, to be corrected
+    write_file(target, data, given.force, _tables_in(given.source))  # also where it is refused, to be corrected
     for line in limited(doubts(builder), "things to look at"):
         print("evp: note: %s" % line, file=sys.stderr)
     out = sys.stderr if target == "-" else sys.stdout
@@ -187,20 +181,19 @@ def read_back(given: Namespace) -> int:
         tables = folder_of(data, given.semicolon)
     except TextError as error:
         raise InputError("%s: %s" % (name_shown(given.sheet), error)) from None
-    _write_tables(given.csv, tables, given.force)
+    _write_tables(given.csv, tables, given.force, [given.sheet])
     if told_version(data) is not None:
         print("evp: note: these tables make another version; evp write --version %d gives this one back" % (
             told_version(data)), file=sys.stderr)
     return FINE
 
 
-def _write_tables(folder: str, tables: dict[str, str], force: bool):
+def _write_tables(folder: str, tables: dict[str, str], force: bool, sources: Iterable[str] = ()):
     made = make_folder(folder)
-    present = [name for name in tables if (made / name).exists()]
-    if present and not force:
-        raise InputError("%s: there is such a file already; --force writes over it" % name_shown(made / present[0]))
+    for name in tables:  # all of them before the first is written
+        check_target(made / name, force, sources)
     for name, text in tables.items():
-        write_file(made / name, text.encode("utf-8-sig"), force)
+        write_file(made / name, text.encode("utf-8-sig"), force, sources)
         print(name_shown(made / name))
 
 
@@ -215,7 +208,7 @@ def convert(given: Namespace) -> int:
     data, report = read_report(library, given.sheet)
     later, its_report = _later_version(library, given.sheet, data, given.to)
     target = _target(given.sheet, given.output, "-version-%d.evp" % given.to)
-    _save(target, later, given.force, given.sheet)
+    write_file(target, later, given.force, [given.sheet])
     if target != "-":
         same = "the same report" if its_report == report else "the same exact masses, other bands"
         print("%s: %d bytes, version %d, %s" % (name_shown(target), len(later), given.to, same))
@@ -280,9 +273,10 @@ def _check_outputs(given: Namespace):
         raise InputError("two of -o, --json and --page would share standard output")
     if given.page:
         require("jinja2")
-    for target in (given.output, given.page):
-        if target not in (None, "-") and os.path.isfile(target) and not given.force:
-            raise failed(target, FileExistsError())
+    if given.output and given.page and same_file(given.output, given.page):
+        raise InputError("-o and --page name one file")
+    for target in filter(None, (given.output, given.page)):
+        check_target(target, given.force, [given.filed])
 
 
 def _save_marks(given: Namespace, sheets: dict[str, Marked], filed: FiledTable, marks: list[Mark]):
@@ -290,11 +284,11 @@ def _save_marks(given: Namespace, sheets: dict[str, Marked], filed: FiledTable, 
     sources = given.filed, *(os.path.join(given.folder, name) for name in sheets)
     if given.output:
         text = marking.marks_csv(marks, filed.semicolon)
-        _save(given.output, text.encode("utf-8", "surrogateescape"), given.force, *sources)  # names as the folder's
+        write_file(given.output, text.encode("utf-8", "surrogateescape"), given.force, sources)  # names as the folder's
     if given.page:
         from evp.pages.classes import page_class
         html = page_class(sheets, filed.filings, marks, hints=given.hints)
-        _save(given.page, html.encode(), given.force, *sources)
+        write_file(given.page, html.encode(), given.force, sources)
 
 
 def _on_one_screen(summary: Iterable[str], remarks: list[str]) -> list[str]:
@@ -342,7 +336,7 @@ def cells(given: Namespace) -> int:
     travels = read_travel(given.travel, len(report.rows))
     text = cells_csv(cells_of(library, report, travels))
     if given.output:
-        _save(given.output, text.encode(), given.force, given.sheet, given.travel)
+        write_file(given.output, text.encode(), given.force, [given.sheet, given.travel])
     else:
         print(text, end="")
     return FINE
@@ -356,7 +350,7 @@ def pool(given: Namespace) -> int:
         pooled = library.pool(first, second)
     except Refusal as refusal:
         raise SheetRefused(pool_refusal(library, refusal, names, (first, second))) from None
-    _save(given.output, pooled, given.force, *names)
+    write_file(given.output, pooled, given.force, names)
     if given.output != "-":
         print("%s: %d bytes, %s" % (name_shown(given.output), len(pooled), explain(library, pooled).line))
     return FINE

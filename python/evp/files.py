@@ -1,8 +1,13 @@
 """Files that are read and written, with messages for who named them."""
 
+import contextlib
+import errno
 import hashlib
 import os
+import secrets
+import stat
 import sys
+from collections.abc import Iterable
 from pathlib import Path
 
 from evp.library import SHEET_BYTES
@@ -13,7 +18,12 @@ SAVE = "save it as UTF-8, in Excel as \"CSV UTF-8\""
 
 
 class InputError(Exception):
-    """What was named cannot be read or written, or is not understood."""
+    """What was named cannot be read or written, or is not understood: a message, or several, each a line; `more` are
+    those that were counted alone."""
+
+    def __init__(self, message: str, more: int = 0):
+        super().__init__(message)
+        self.more = more
 
 
 class FileError(InputError):
@@ -108,24 +118,135 @@ def _every_second(data: bytes) -> bool:
     return any(not any(one) and other and all(other) for one, other in (halves, halves[::-1]))
 
 
-def write_file(name: str | os.PathLike, data: bytes, force: bool = False):
-    """Writes a file, or standard output for `-`; over one that is there only by force. A new file that cannot be
-    finished is taken away again."""
+# ------------------------------------------------------------------ files that are written
+
+
+def same_file(one: str | os.PathLike, other: str | os.PathLike) -> bool:
+    """Whether two names are of one file: the same path, or the same file through a symbolic or a hard link."""
+    if "-" in (one, other):
+        return one == other
+    try:
+        return os.path.samefile(one, other)
+    except OSError:  # one of them is not there yet
+        return os.path.realpath(one) == os.path.realpath(other)
+    except ValueError:  # a zero byte in a name
+        return False
+
+
+def check_target(target: str | os.PathLike, force: bool, sources: Iterable[str | os.PathLike] = ()):
+    """InputError where a file would be written over one that it is made from, or over any other without force."""
+    if target == "-":
+        return
+    if any(same_file(target, source) for source in sources if source != "-"):
+        raise InputError("%s: this would overwrite what it is made from; name another file" % name_shown(target))
+    if not force and os.path.isfile(target) and _stream(target) is None:
+        raise failed(target, FileExistsError())
+
+
+def write_file(name: str | os.PathLike, data: bytes, force: bool = False,
+               sources: Iterable[str | os.PathLike] = ()):
+    """Writes a file whole or not at all, or standard output for `-`; over one that is there only by force, and never
+    over one of `sources`, from which it is made."""
     if name == "-":
         sys.stdout.buffer.write(data)
         sys.stdout.buffer.flush()
         return
-    begun = False
+    check_target(name, force, sources)
     try:
-        with open(name, "wb" if force else "xb") as file:
-            begun = not force
-            file.write(data)
+        stream = _stream(name)
+        if stream is not None:
+            _write_stream(stream, data)
+        else:
+            _write_whole(name, data, force)
     except FileNotFoundError:
         raise FileError(name, "there is no such folder") from None
+    except ValueError:  # a zero byte in the name
+        raise FileError(name, "this is no name of a file") from None
     except OSError as error:
-        if begun:
-            Path(name).unlink(missing_ok=True)
         raise failed(name, IsADirectoryError() if os.path.isdir(name) else error) from None
+
+
+def _stream(name: str | os.PathLike) -> str | os.PathLike | int | None:
+    """What to open where bytes go through a file and do not stay in it, as through a terminal, /dev/null or a FIFO, or
+    the number of the stream that has the file open already, as /dev/stdout has; None for all others."""
+    try:
+        found = os.stat(name)
+    except (OSError, ValueError):
+        return None
+    if stat.S_ISCHR(found.st_mode) or stat.S_ISFIFO(found.st_mode):
+        return name
+    for descriptor in (1, 2):
+        with contextlib.suppress(OSError):  # it is closed
+            if os.path.samestat(found, os.fstat(descriptor)):
+                return descriptor
+    return None
+
+
+def _write_stream(stream: str | os.PathLike | int, data: bytes):
+    sys.stdout.flush()  # what was printed before comes before
+    with open(os.dup(stream) if isinstance(stream, int) else stream, "wb") as file:
+        file.write(data)
+
+
+def _write_whole(name: str | os.PathLike, data: bytes, force: bool):
+    """Writes under another name in the same folder, and gives the file its name once all of it is on the disk: until
+    then the old file is there, and after a failure too."""
+    target = os.path.realpath(name) if force else os.fspath(name)  # by force a link stays, and its target is new
+    if not force and os.path.lexists(target):
+        raise FileExistsError
+    if os.path.exists(target) and not os.path.isfile(target):
+        raise OSError(errno.EINVAL, "this is a device or a socket, and a file is wanted")
+    folder = os.path.dirname(target)
+    part = os.path.join(folder, ".evp-%s.part" % secrets.token_hex(8))
+    try:
+        with open(part, "xb") as file:
+            _keep_rights(file.fileno(), target)
+            file.write(data)
+            file.flush()
+            os.fsync(file.fileno())
+        if force:
+            os.replace(part, target)
+        else:
+            _name_new(part, target)
+    finally:
+        with contextlib.suppress(OSError):  # it has its name by now, or nothing of it is kept
+            os.unlink(part)
+    _sync_folder(folder or ".")
+
+
+def _keep_rights(descriptor: int, target: str):
+    """Gives a file the rights of the one in whose place it comes; PermissionError where that one is read-only."""
+    try:
+        old = os.stat(target)
+    except FileNotFoundError:
+        return
+    if not os.access(target, os.W_OK):
+        raise PermissionError
+    with contextlib.suppress(PermissionError):  # another user's file that this one may write
+        os.fchown(descriptor, old.st_uid, old.st_gid)
+    os.fchmod(descriptor, stat.S_IMODE(old.st_mode))
+
+
+def _name_new(part: str, target: str):
+    """Gives a file its name where no file has it; FileExistsError where one has, even if it came a moment ago."""
+    try:
+        os.link(part, target)
+        return
+    except FileExistsError:
+        raise
+    except OSError:  # a file system without hard links, as that of a USB stick: take the name first
+        os.close(os.open(target, os.O_CREAT | os.O_EXCL | os.O_WRONLY, 0o666))
+    os.replace(part, target)
+
+
+def _sync_folder(folder: str):
+    """Puts the new name on the disk too; not every file system can."""
+    with contextlib.suppress(OSError):
+        descriptor = os.open(folder, os.O_RDONLY)
+        try:
+            os.fsync(descriptor)
+        finally:
+            os.close(descriptor)
 
 
 def make_folder(name: str | os.PathLike) -> Path:

@@ -5,7 +5,6 @@ import re
 from collections import Counter
 from collections.abc import Callable, Iterable, Iterator
 from fractions import Fraction
-from functools import cache
 from pathlib import Path
 from typing import NamedTuple
 
@@ -16,8 +15,8 @@ from evp.layout import row_count
 from evp.library import GROUPS, MECHANISMS, Band, Filed, Library, Outcome, Refusal
 from evp.masses import POWERS, UNITS, shown
 from evp.sheet.words import TextError
-from evp.tables import Line, Table, read_table, table_text
-from evp.wording import apart, counted, name_shown, quoted, shortened
+from evp.tables import Line, Table, open_table, table_text
+from evp.wording import Messages, apart, counted, name_shown, quoted, shortened
 
 COLUMNS = ["sheet", "row", "mechanism", "mass", "unit"]
 MOST_WORD = 2 ** 64 - 1
@@ -66,34 +65,47 @@ def read_filed(name: str) -> FiledTable:
     return filed_of(read_text(name), name_shown(name))
 
 
-def filed_of(text: str, label: str) -> FiledTable:
-    """The filed masses; InputError with a message for each line that cannot be read."""
-    table = read_table(text, label, COLUMNS, COLUMNS, comments=False)  # a sheet's name may start with #
-    filings, messages, lines = [], [], {}
+def filed_of(text: str, label: str, most: int | None = None) -> FiledTable:
+    """The filed masses, at most so many; InputError that names the first lines that cannot be read, and counts the
+    others."""
+    table = open_table(text, label, COLUMNS, COLUMNS, comments=False)  # a sheet's name may start with #
+    reader, wrong = _FiledReader(table), Messages()
     for line in table.lines:
+        if most is not None and len(reader.filings) + wrong.many >= most:
+            raise InputError("%s: more than %s at once; evp mark takes any number" % (label, counted(most, "line")))
         try:
-            filing = _filing(line, table)
-            key = filing.sheet, filing.figure
-            if key in lines:
-                raise TextError("%s of %s stands in line %d already" % (
-                    filing.figure.name, quoted(filing.sheet), lines[key]))
-            lines[key] = line.number
-            filings.append(filing)
+            reader.take(line)
         except TextError as error:
-            messages.append("%s: line %d: %s" % (label, line.number, error))
-    if messages:
-        raise InputError("\n".join(messages))
-    return FiledTable(filings, table.separator == ";")
+            wrong.add("%s: line %d: %s" % (label, line.number, error))
+    if wrong.many:
+        raise InputError(str(wrong), wrong.more)
+    return FiledTable(reader.filings, table.separator == ";")
 
 
-def _filing(line: Line, table: Table) -> Filing:
-    sheet, row, mechanism, mass, unit = (line.cells.get(name, "") for name in COLUMNS)
-    if not sheet:
-        raise TextError("sheet: the name of the sheet is missing")
-    return Filing(sheet, _figure(row, mechanism), mass, unit, _filed(mass, unit, table))
+class _FiledReader:
+    """The lines that are read so far. Sheets and figures that many lines name are there once."""
+
+    def __init__(self, table: Table):
+        self._table = table
+        self.filings: list[Filing] = []
+        self._names: dict[str, str] = {}
+        self._figures: dict[tuple[str, str], Figure] = {}
+        self._lines: dict[tuple[str, Figure], int] = {}  # where each figure of a sheet is
+
+    def take(self, line: Line):
+        """Adds a line; TextError where it cannot be read, or names a figure again."""
+        name, row, mechanism, mass, unit = (line.cells.get(column, "") for column in COLUMNS)
+        if not name:
+            raise TextError("sheet: the name of the sheet is missing")
+        figure = self._figures.get((row, mechanism)) or _figure(row, mechanism)
+        filed = _filed(mass, unit, self._table)
+        key = self._names.setdefault(name, name), self._figures.setdefault((row, mechanism), figure)
+        if key in self._lines:
+            raise TextError("%s of %s stands in line %d already" % (figure.name, quoted(name), self._lines[key]))
+        self._lines[key] = line.number
+        self.filings.append(Filing(*key, mass, unit, filed))
 
 
-@cache
 def _figure(row: str, mechanism: str) -> Figure:
     if row == TOTAL:
         if mechanism:
@@ -144,7 +156,18 @@ def marked(library: Library, data: bytes, digest: str = "") -> Marked:
         return Marked(data, digest, {}, explain(library, data).line)
 
 
+OUTSIDE = "a link that leads out of the folder, and is not followed"
+
+
+def _leads_out(path: Path) -> bool:
+    """Whether a file of a folder is a link to one that is not in it: who hands in a link must not get the marker's
+    own files read."""
+    return path.is_symlink() and not path.resolve().is_relative_to(path.parent.resolve())
+
+
 def _marked_file(library: Library, path: Path) -> Marked:
+    if _leads_out(path):
+        return Marked(b"", "", {}, unread=OUTSIDE)
     try:
         data = read_sheet(path)
         return marked(library, data, digest_of(path, data))
@@ -184,7 +207,8 @@ def marks_of(library: Library, sheets: dict[str, Marked], filings: Iterable[Fili
         marks.append(_mark(library, sheets, filing))
     for name, sheet in sheets.items():
         if name not in filed_for:
-            marks.append(Mark(name, "", "", "", "", "missing", note="nobody filed for this sheet", sha256=sheet.digest))
+            note = "nobody filed for this sheet" + (": " + sheet.unread if sheet.unread else "")
+            marks.append(Mark(name, "", "", "", "", "missing", note=note, sha256=sheet.digest))
     return marks
 
 

@@ -14,6 +14,9 @@ from evp.files import InputError
 from evp.wording import quoted
 
 NOTE = "note"  # a column for remarks, which is not read
+FORMULA = re.compile("'*[=+@\\t\\r\\n-]")  # what a spreadsheet may run, with the apostrophes that keep it from that
+NUMBER = re.compile("[+-][0-9]+(?:[.,][0-9]+)?")
+QUOTED = re.compile('["\\t\\r\\n]|[,;] *[=+@-]')
 
 
 class Line(NamedTuple):
@@ -23,9 +26,10 @@ class Line(NamedTuple):
 
 
 class Table(NamedTuple):
+    """A table; its lines are a list, or come one by one while the text is read."""
     separator: str
     header: list[str]
-    lines: list[Line]
+    lines: Iterable[Line]
 
     @property
     def point(self) -> str:
@@ -39,7 +43,7 @@ def _records(text: str, separator: str, label: str, comments: bool) -> Iterator[
     reader, start = csv.reader(io.StringIO(text, newline=""), delimiter=separator, strict=True), 1
     try:
         for cells in reader:
-            cells = [cell.strip() for cell in cells]
+            cells = [_as_written(cell.strip()) for cell in cells]
             if any(cells) and not (comments and cells[0].startswith("#")):
                 yield start, cells
             start = reader.line_num + 1
@@ -70,11 +74,18 @@ def _check_width(where: str, cells: list[str], header: list[str], separator: str
 
 def read_table(text: str, label: str, columns: list[str], needed: Iterable[str],
                rename: Callable[[str], str] = str, comments: bool = True) -> Table:
-    """The table of a text. Its header has these columns in any order, all that are needed, and a note if it likes;
-    `rename` gives the name of a column that may be written in several ways."""
+    """The table of a text, as `open_table` has it, all of it read."""
+    table = open_table(text, label, columns, needed, rename, comments)
+    return table._replace(lines=list(table.lines))
+
+
+def open_table(text: str, label: str, columns: list[str], needed: Iterable[str],
+               rename: Callable[[str], str] = str, comments: bool = True) -> Table:
+    """The table of a text, whose lines are read as they are asked for. Its header has these columns in any order, all
+    that are needed, and a note if it likes; `rename` gives the name of a column that may be written in several ways."""
     text = re.sub(r"\Asep=[^\r\n]*", "", text, flags=re.IGNORECASE)  # Excel's first line
-    first = next((line for line in text.splitlines()
-                  if line.strip(" ;,\t") and not (comments and line.startswith("#"))), "")
+    first = next((line[0] for line in re.finditer(r"[^\r\n]+", text)
+                  if line[0].strip(" ;,\t") and not (comments and line[0].startswith("#"))), "")
     if "\t" in first and not set(";,") & set(first):
         raise InputError("%s: the columns are parted by tabs; save it with , or ; between them" % label)
     separator = ";" if ";" in first else ","
@@ -84,11 +95,13 @@ def read_table(text: str, label: str, columns: list[str], needed: Iterable[str],
         raise InputError("%s: the table is empty; its first line names the columns: %s" % (label, ", ".join(columns)))
     header = list(map(rename, header))
     _check_header("%s: line %d" % (label, number), header, columns, needed)
-    lines = []
+    return Table(separator, header, _lines(records, label, header, separator))
+
+
+def _lines(records: Iterable[tuple[int, list[str]]], label: str, header: list[str], separator: str) -> Iterator[Line]:
     for number, cells in records:
         _check_width("%s: line %d" % (label, number), cells, header, separator)
-        lines.append(Line(number, {name: cell for name, cell in zip(header, cells) if cell and name != NOTE}))
-    return Table(separator, header, lines)
+        yield Line(number, {name: cell for name, cell in zip(header, cells) if cell and name != NOTE})
 
 
 def _check_header(where: str, header: list[str], columns: list[str], needed: Iterable[str]):
@@ -104,10 +117,27 @@ def _check_header(where: str, header: list[str], columns: list[str], needed: Ite
         raise InputError("%s: the column %s is missing" % (where, ", ".join(missing)))
 
 
+# ------------------------------------------------------------------ what is written
+
+
+def _without_formula(text: str) -> str:
+    """A text that no spreadsheet takes for a formula: an apostrophe stands before it. A number stays a number."""
+    return "'" + text if FORMULA.match(text) and not NUMBER.fullmatch(text) else text
+
+
+def _as_written(cell: str) -> str:
+    """The text of a cell that `_without_formula` has made."""
+    return cell[1:] if cell.startswith("'") and FORMULA.match(cell) else cell
+
+
+def _quoted_cell(cell: object, separator: str) -> str:
+    """A cell in quotation marks where it needs them. A carriage return needs them too, since a spreadsheet starts a row
+    there; and so does a sign of a formula behind the other separator, since a spreadsheet may part lines by that."""
+    text = _without_formula(str(cell))
+    return '"%s"' % text.replace('"', '""') if separator in text or QUOTED.search(text) else text
+
+
 def table_text(header: Iterable[str], lines: Iterable[Iterable[object]], semicolon: bool = False) -> str:
     """A table as a spreadsheet reads it."""
-    out = io.StringIO()
-    writer = csv.writer(out, delimiter=";" if semicolon else ",", lineterminator="\n")
-    writer.writerow(header)
-    writer.writerows(lines)
-    return out.getvalue()
+    separator = ";" if semicolon else ","
+    return "".join(separator.join(_quoted_cell(cell, separator) for cell in line) + "\n" for line in (header, *lines))

@@ -22,6 +22,30 @@ def quoted(word: str) -> str:
     return repr(shortened(word))
 
 
+class Messages:
+    """What is wrong with an input: the first messages, and how many there are. An input of bad lines alone so takes no
+    more memory than one of good lines."""
+
+    MOST_KEPT = 20
+
+    def __init__(self):
+        self.kept: list[str] = []
+        self.many = 0
+
+    def add(self, message: str):
+        self.many += 1
+        if len(self.kept) < self.MOST_KEPT:
+            self.kept.append(message)
+
+    @property
+    def more(self) -> int:
+        """How many are counted alone."""
+        return self.many - len(self.kept)
+
+    def __str__(self) -> str:
+        return "\n".join(self.kept)
+
+
 MOST_SHOWN = 200  # signs of a name or of what was called, in a message
 
 

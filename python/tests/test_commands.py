@@ -83,7 +83,7 @@ class ConvertTest(DeskTestCase):
         path = self.put("a.evp", sample("region"))
         found = run("convert", path, "--to", 2, "-o", path, "--force")
         self.assertEqual((found.status, found.err), (
-            2, "evp: %s: this would overwrite what it is made from; -o names another file\n" % path))
+            2, "evp: %s: this would overwrite what it is made from; name another file\n" % path))
         self.assertEqual(path.read_bytes(), sample("region"))
 
     def test_earlier(self):

@@ -709,12 +709,11 @@ class DiskFullTest(LedgerTestCase):
 
 class CommandTest(LedgerTestCase):
     def test_missing_modules(self):
-        with mock.patch("evp.desk.command.find_spec", side_effect=lambda name: None if name == "waitress" else True):
+        with mock.patch("evp.pages.needs.find_spec", side_effect=lambda name: None if name == "waitress" else True):
             found = run("desk", self.file, "--new", SHEET)
         self.assert_plain(found, 2)
-        self.assertIn("evp desk needs waitress, which this Python", found.err)
-        self.assertIn(": apt install python3-jinja2 python3-flask python3-waitress", found.err)
-        self.assertEqual(found.err.count("\n"), 1)
+        self.assertEqual(
+            found.err, "evp: waitress is missing: sudo apt install python3-flask python3-waitress python3-jinja2\n")
         self.assertFalse(self.file.exists())
 
     def test_options(self):

@@ -382,7 +382,7 @@ class FiledTest(DeskTestCase):
              "no sheet, that is no file whose name ends with .evp"),
             ((self.folder, "--filed", self.folder / "none.csv", "-o", "x"), "there is no such file"),
             ((SAMPLES, "--filed", filed, "-o", "-", "--json"), "two of -o, --json and --page would share standard"),
-            ((SAMPLES, "--filed", filed, "-o", filed), "there is such a file already"),
+            ((SAMPLES, "--filed", filed, "-o", filed), "this would overwrite what it is made from"),
             ((SAMPLES, "--filed", filed, "-o", filed, "--force"), "this would overwrite what it is made from"),
             ((SAMPLES, "--filed", filed, "-o", SAMPLES / "region.evp", "--force"), "this would overwrite what it is"),
         ):

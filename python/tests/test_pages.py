@@ -663,7 +663,7 @@ class TestCommand(DeskTestCase):
         with mock.patch("evp.pages.needs.find_spec", return_value=None):
             found = run("page", "sheet", COURSE / "north.evp", "-o", self.folder / "x")
         self.assertEqual((found.status, found.err.count("\n")), (2, 1))
-        self.assertIn("apt install python3-jinja2 python3-flask python3-waitress", found.err)
+        self.assertIn("sudo apt install python3-flask python3-waitress python3-jinja2", found.err)
 
 
 if __name__ == "__main__":

@@ -167,7 +167,7 @@ class TextTest(DeskTestCase):
         found = run("write", path, "--force")
         self.assertEqual((found.status, path.read_text()), (2, TEXT))
         self.assertEqual(found.err,
-                         "evp: %s: this would overwrite what it is made from; -o names another file\n" % path)
+                         "evp: %s: this would overwrite what it is made from; name another file\n" % path)
         linked = self.folder / "linked.evp"
         linked.symlink_to(path)
         self.assertIn("this would overwrite what it is made from", run("write", path, "-o", linked, "--force").err)

@@ -55,10 +55,21 @@ class ReleaseTest(unittest.TestCase):
     def bash(self, *words: str | Path) -> subprocess.CompletedProcess:
         return subprocess.run(["bash", *map(str, words)], cwd=self.top, capture_output=True, text=True)
 
+    def begin(self):
+        """A gate starts, and builds."""
+        self.logs = self.top.parent / "logs"
+        self.logs.mkdir(exist_ok=True)
+        self.bash("release/seal", "begin", self.logs)
+        for name in MADE:
+            self.bash("release/seal", "built", self.logs, "target/" + name)
+
+    def end(self, last: str = "235 passed, 0 failed") -> subprocess.CompletedProcess:
+        (self.logs / "rt-ci.log").write_text("rt: something\n%s\n" % last)
+        return self.bash("release/seal", "end", self.logs)
+
     def seal(self, last: str = "235 passed, 0 failed") -> subprocess.CompletedProcess:
-        log = self.top.parent / "rt-ci.log"
-        log.write_text("rt: something\n%s\n" % last)
-        return self.bash("release/seal", log)
+        self.begin()
+        return self.end(last)
 
     def assert_refused(self, why: str):
         run = self.bash("release/make", self.top.parent / "made")
@@ -92,6 +103,47 @@ class ReleaseTest(unittest.TestCase):
         self.seal()
         self.git(self.top, "checkout", "README.md")
         self.assert_refused("the gate has run on files that differ from the commit")
+
+    def assert_not_sealed(self, why: str):
+        found = self.end()
+        self.assertEqual((found.returncode, found.stderr), (1, "release/seal: nothing is sealed: %s\n" % why))
+        self.assertFalse((self.top / "target/gate/proved").exists())
+
+    def test_commit_while_the_gate_runs(self):
+        self.begin()
+        self.commit("meanwhile")
+        self.assert_not_sealed("the commit or a tracked file changed while the gate ran")
+
+    def test_file_changed_while_the_gate_runs(self):
+        self.begin()
+        (self.top / "README.md").write_text("another\n")
+        self.assert_not_sealed("the commit or a tracked file changed while the gate ran")
+
+    def test_program_changed_while_the_gate_runs(self):
+        self.begin()
+        (self.top / "target/bin/pool").write_text("another")
+        self.assert_not_sealed("target/ has other programs or libraries than were built")
+
+    def test_program_that_was_not_built(self):
+        self.begin()
+        built = self.logs / "built"
+        built.write_text("".join(line for line in built.read_text().splitlines(True) if "bin/pool" not in line))
+        self.assert_not_sealed("target/bin/pool was not written down when it was built")
+
+    def test_file_that_git_takes_for_unchanged(self):
+        for flag in ("--assume-unchanged", "--skip-worktree"):
+            self.seal()
+            self.git(self.top, "update-index", flag, "README.md")
+            (self.top / "README.md").write_text("another\n")
+            self.assert_refused("files differ from the commit")
+            self.git(self.top, "update-index", "--no-" + flag[2:], "README.md")
+            self.git(self.top, "reset", "--quiet", "--hard", "start")
+
+    def test_file_that_is_tracked_and_in_no_commit(self):
+        self.seal()
+        (self.top / "release/more").write_text("more\n")
+        self.git(self.top, "add", "release/more")
+        self.assert_refused("files differ from the commit")
 
     def test_program_of_another_time(self):
         self.seal()

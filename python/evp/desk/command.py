@@ -1,25 +1,25 @@
-"""`evp desk`: makes a ledger where one is wanted, says its links once, and serves."""
+"""`evp serve`: makes a ledger where one is wanted, says its links once, and serves."""
 
 import secrets
 import signal
 import sys
+import time
 from argparse import Namespace
-from importlib.util import find_spec
 from typing import NamedTuple
 
 from evp import layout
 from evp.commands import SheetRefused, get_library
 from evp.desk.ledger import MARKER, MOST_DIGITS, PARTICIPANTS, CourseLedger, new_person, open_first
-from evp.desk.store import Opening, Store, create
+from evp.desk.store import Opening, Store, create, files_of
 from evp.explain import call_text, explain
-from evp.files import InputError, read_sheet, read_text, write_file
+from evp.files import InputError, check_target, read_sheet, read_text, write_file
 from evp.layout import FIELDS
 from evp.library import Library, Number, Refusal
-from evp.pages.needs import INSTALL, PACKAGES
+from evp.pages.needs import PACKAGES, require
 from evp.tables import read_table
 from evp.wording import apart, counted, name_shown, quoted
 
-DEBIAN = "/usr/bin/python3"  # the Python that Debian's packages are for
+ALIAS = "desk"
 SECRET_BYTES = 16  # 128 bits
 MOST_NAME = 40  # signs
 MOST_ROWS = 100  # of a participant, as the library has it
@@ -129,14 +129,6 @@ def renew(store: Store, name: str) -> dict[int, str]:
 # ------------------------------------------------------------------ what is said
 
 
-def require_modules():
-    missing = [name for name in PACKAGES if find_spec(name) is None]
-    if missing:
-        other = "" if sys.executable == DEBIAN else ", and start it with %s" % DEBIAN
-        raise InputError("evp desk needs %s, which this Python (%s) does not have: %s%s" % (
-            " and ".join(missing), sys.executable, INSTALL, other))
-
-
 def address_of(given: Namespace) -> str:
     if given.lan in EVERYWHERE:
         raise InputError("--lan wants one address of this machine, as 192.168.1.5; hostname -I lists them")
@@ -165,17 +157,22 @@ def say_ledger(ledger: CourseLedger, shown: str):
     rows, source = layout.row_count(ledger.opening.sheet), name_shown(ledger.opening.source)
     print("%s: %s of %s, %s" % (shown, counted(rows, "row"), source, (
         "%s played again, and all is as it was" % counted(calls, "call") if calls else "no calls yet")))
+    if ledger.store.had_journal:
+        journal = name_shown(files_of(ledger.store.path)[1])
+        print("%s was left by a server that was killed, and what that had begun is undone. If %s is a copy that\n"
+              "you put back, stop this server, remove %s and put the copy back again." % (journal, shown, journal))
 
 
 # ------------------------------------------------------------------ the command
 
 
 def add_parser(add, subparsers):
-    desk = add(subparsers, "desk", run,
-               "serves the desk's pages to browsers of this machine, and the ledger of a course where one is named",
-               "evp desk\nevp desk --ledger course.db --new north.evp --owners owners.csv\n"
-               "evp desk --ledger course.db --lan 192.168.1.5\n"
-               "evp desk --ledger course.db --export north-now.evp", "force")
+    desk = add(subparsers, "serve", run,
+               "serves pages to browsers of this machine, and the ledger of a course where one is named",
+               "evp serve\nevp serve --ledger course.db --new north.evp --owners owners.csv\n"
+               "evp serve --ledger course.db --lan 192.168.1.5\n"
+               "evp serve --ledger course.db --export north-now.evp", "force")
+    subparsers.choices[ALIAS] = desk  # the command's first name, which the help does not list
     desk.add_argument("file", nargs="?", metavar="LEDGER", help="the same as --ledger LEDGER")
     desk.add_argument("--ledger", metavar="FILE", help="the file of a course's ledger")
     desk.add_argument("--new", metavar="SHEET", help="make the ledger from this sheet, and say its nine links once")
@@ -202,11 +199,24 @@ def ledger_of(given: Namespace) -> str | None:
 def check_given(given: Namespace):
     for option, value in (("--new", given.new), ("--renew", given.renew), ("--export", given.export)):
         if value is not None and given.ledger is None:
-            raise InputError("%s wants a ledger: evp desk --ledger FILE %s .." % (option, option))
+            raise InputError("%s wants a ledger: evp serve --ledger FILE %s .." % (option, option))
     if given.patience < 1:
         raise InputError("--patience wants at least 1 second")
     if given.owners is not None and given.new is None:
         raise InputError("--owners goes with --new SHEET: rows are dealt out when a ledger is made")
+
+
+class _Replaying:
+    """Says once that calls are played again, where that takes longer than a second."""
+
+    def __init__(self, shown: str):
+        self._shown, self._start, self._is_said = shown, time.monotonic(), False
+
+    def __call__(self, done: int, many: int):
+        if not self._is_said and time.monotonic() - self._start > 1:
+            self._is_said = True
+            print("%s: playing %s again; %s after a second" % (
+                self._shown, counted(many, "call"), apart(done)), file=sys.stderr, flush=True)
 
 
 def open_ledger(library: Library, given: Namespace) -> tuple[CourseLedger, dict[int, str]]:
@@ -216,7 +226,7 @@ def open_ledger(library: Library, given: Namespace) -> tuple[CourseLedger, dict[
     try:
         if given.renew is not None:
             made = renew(store, given.renew)
-        return CourseLedger(library, store), made
+        return CourseLedger(library, store, _Replaying(name_shown(given.ledger))), made
     except BaseException:
         store.close()
         raise
@@ -228,18 +238,20 @@ def run(given: Namespace) -> int:
     library = get_library()
     if given.export is not None:
         return export(library, given)
-    require_modules()
+    require(*PACKAGES)
     return serve(library, given)
 
 
 def export(library: Library, given: Namespace) -> int:
     """Writes the sheet as it stands, and serves nothing."""
+    sources = [name for name in (*files_of(given.ledger), given.new, given.owners) if name]
+    check_target(given.export, given.force, sources)  # before a ledger is made or a link changed
     ledger, _ = open_ledger(library, given)
     try:
         data = ledger.read(MARKER).sheet
     finally:
         ledger.close()
-    write_file(given.export, data, given.force)
+    write_file(given.export, data, given.force, sources)
     if given.export != "-":
         print("%s: %d bytes, %s" % (name_shown(given.export), len(data), explain(library, data).line))
     return 0
@@ -258,6 +270,7 @@ def serve(library: Library, given: Namespace) -> int:
         base = base_of(address, port)
         if given.ledger is not None:
             ledger, made = open_ledger(library, given)
+            ledger.store.make_ready()
             say_ledger(ledger, name_shown(given.ledger))
             say_links(ledger, made, base)
         hosts = hosts_of(address, port) | hosts_of(listener.getsockname()[0], port)

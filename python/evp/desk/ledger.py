@@ -12,6 +12,7 @@ import hashlib
 import hmac
 import struct
 import threading
+from collections.abc import Callable
 from typing import NamedTuple
 
 from evp import layout
@@ -138,13 +139,14 @@ class Reading:
 class CourseLedger:
     """The ledger of a file; several threads may call at once."""
 
-    def __init__(self, library: Library, store: Store):
-        """Plays the calls of the file; InputError where they lead elsewhere than they did."""
+    def __init__(self, library: Library, store: Store, progress: Callable[[int, int], None] | None = None):
+        """Plays the calls of the file; InputError where they lead elsewhere than they did. `progress` gets how many
+        are played, and of how many."""
         self.store = store
         self.opening = store.opening
         self.people = {person.who: person for person in store.people}
         self._played = _Played(self._opened(library))
-        self._replay(store)
+        self._replay(store, progress)
         self._queue: list[_Waiting] = []
         self._queue_lock, self._lock = threading.Lock(), threading.Lock()
         self._lost = ""
@@ -156,16 +158,19 @@ class CourseLedger:
             raise InputError("%s: this library does not open the ledger's sheet, %s; nothing is served" % (
                 name_shown(self.store.path), refusal)) from None
 
-    def _replay(self, store: Store):
-        played = self._played
-        for serial, stored in enumerate(store.calls(), 1):
+    def _replay(self, store: Store, progress: Callable[[int, int], None] | None):
+        played, calls = self._played, store.calls()
+        for serial, stored in enumerate(calls, 1):
+            if progress is not None and serial % 100 == 0:
+                progress(serial, len(calls))
             if stored.kind not in KINDS or stored.row < 1 or stored.vehicles < 0 or stored.who not in played.made:
-                raise InputError("%s: call %d is none: the file was changed, and nothing is served" % (
-                    name_shown(store.path), serial))
+                raise InputError("%s: call %d is none: the file was changed, and nothing is served%s" % (
+                    name_shown(store.path), serial, store.about_journal()))
             call = played.play(stored.who, Wanted(stored.kind, stored.row, stored.vehicles))
             if call.number != stored.number:
                 raise InputError("%s: call %d was answered with number %d, and played again with %d; "
-                                 "nothing is served" % (name_shown(store.path), serial, stored.number, call.number))
+                                 "nothing is served%s" % (name_shown(store.path), serial, stored.number, call.number,
+                                                          store.about_journal()))
             played.note(stored.who, call)
         _compare(store, digests_of(played.shared))
 
@@ -326,7 +331,7 @@ def _compare(store: Store, found: Digests):
     kept, shown = store.digests, name_shown(store.path)
     if found.sheet != kept.sheet:
         raise InputError("%s: the calls played again lead to another sheet than was kept; the file was changed or is "
-                         "damaged, and nothing is served" % shown)
+                         "damaged, and nothing is served%s" % (shown, store.about_journal()))
     if found.words != kept.words:
         raise InputError("%s: the calls played again lead to the same counts and other masses; this library reckons "
                          "other bands than the one that the ledger was kept with, and nothing is served" % shown)

@@ -7,6 +7,7 @@ from evp.library import TOP
 from evp.pages.render import LINKS, render
 
 SAMPLES = TOP / "samples"
+MOST_LINES = 6  # of what was wrong, on a page
 
 
 class Ask(NamedTuple):
@@ -76,16 +77,22 @@ def examples() -> dict[str, Callable[[], dict]]:
     }
 
 
-def page_ask(what: str, message: str = "") -> str:
-    """The page that asks for the files of another, with what was wrong with those that came."""
+def _told(message: str, more: int) -> dict:
+    """The first lines of what was wrong with files, and how many there are besides."""
+    lines = message.split("\n") if message else []
+    return {"message": lines[:MOST_LINES], "more": len(lines[MOST_LINES:]) + more}
+
+
+def page_ask(what: str, message: str = "", more: int = 0) -> str:
+    """The page that asks for the files of another, with what was wrong with those that came; `more` such lines are
+    counted alone."""
     ask = ASKS[what]
-    return render("ask.html", True, asked=what, ask=ask, message=message.split("\n") if message else [],
-                  example=ask.example in examples())
+    return render("ask.html", True, asked=what, ask=ask, example=ask.example in examples(), **_told(message, more))
 
 
-def page_home(message: str = "") -> str:
+def page_home(message: str = "", more: int = 0) -> str:
     words = {name: ask.about for name, ask in ASKS.items()}
     words["form"] = "Seasons, parking and fleet; what is refused is explained at its field. Save the sheet and its csv."
     titles = {name: ask.title for name, ask in ASKS.items()} | {"form": "Form to sheet"}
-    return render("home.html", True, message=message.split("\n") if message else [],
-                  cards=[(name, titles[name], words[name]) for name, _ in LINKS])
+    return render("home.html", True, cards=[(name, titles[name], words[name]) for name, _ in LINKS],
+                  **_told(message, more))

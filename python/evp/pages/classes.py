@@ -20,6 +20,7 @@ ORDER = ("wrong", "refused", "unclear", "missing", "fits", "agrees")  # states o
 LOOK = ORDER[:4]
 WRONG = ("low", "high")
 MOST_DETAILS = 60  # figures of rows that are told one by one
+MOST_NAMES = 2_000  # sheets, and names without a sheet, that a page lists
 MEANINGS = {
     "agrees": "the band lies in the bar: the exact mass rounds to the figure",
     "fits": "the band reaches over the bar’s edge: it cannot settle the figure",
@@ -243,9 +244,11 @@ def page_class(sheets: dict[str, Marked], filings: list[Filing], marks: list[Mar
     across = tuple(figure for figure in ACROSS if figure in filed)
     found = _sheets(sheets, filings, marks, across)
     heads = [(GROUP_NAMES[group], [figure for figure in across if figure.row == group]) for group in GROUPS]
+    listed_sheets = found[:MOST_NAMES]  # what to look at comes first
     return render(
-        "class.html", served, sheets=found, heading=_heading(found), lead=_lead(found),
-        look=[sheet for sheet in found if sheet.state in LOOK],
+        "class.html", served, heading=_heading(found), lead=_lead(found), more=len(found) - len(listed_sheets),
+        look=[sheet for sheet in listed_sheets if sheet.state in LOOK],
+        fine=[sheet for sheet in listed_sheets if sheet.state not in LOOK],
         counts=counts, legend=_legend(counts), across=across, heads=[head for head in heads if head[1]],
         with_total=Figure(TOTAL, "") in filed, with_rows=any(figure.row.isdigit() for figure in filed),
         pages=pages or {}, packed=packed or {}, hints=hints,

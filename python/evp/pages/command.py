@@ -2,7 +2,7 @@
 
 import os
 from argparse import Namespace
-from collections.abc import Callable
+from collections.abc import Callable, Iterator
 from pathlib import Path
 from typing import NamedTuple
 from urllib.parse import quote
@@ -10,7 +10,7 @@ from urllib.parse import quote
 from evp import commands, marking
 from evp.cells import read_travel
 from evp.explain import explain
-from evp.files import InputError, make_folder, read_sheet, write_file
+from evp.files import InputError, check_target, make_folder, read_sheet, write_file
 from evp.hints import with_hints
 from evp.library import Library, Refusal
 from evp.pages.needs import require
@@ -82,15 +82,23 @@ def _needing_jinja(run: Callable[[Namespace], Made]) -> Callable[[Namespace], in
     """Writes the page that `run` makes; exit status 1 where it tells of something that is wrong."""
     def command(given: Namespace) -> int:
         require("jinja2")
-        if given.output != "-" and os.path.exists(given.output) and not given.force:  # before the work
-            raise InputError("%s: there is such a file already; --force writes over it" % name_shown(given.output))
+        check_target(given.output, given.force, _sources(given))  # before the work
         made = run(given)
-        write_file(given.output, made.html.encode(), given.force)
+        write_file(given.output, made.html.encode(), given.force, _sources(given))
         if given.output != "-":
             told = ": " + made.wrong if made.wrong else ""
             print("%s: %d bytes%s" % (name_shown(given.output), len(made.html.encode()), told))
         return commands.REFUSED if made.wrong else commands.FINE
     return command
+
+
+def _sources(given: Namespace) -> Iterator[str | Path]:
+    """The files that a page is made from."""
+    for name in ("sheet", "a", "b", "first", "second", "filed", "travel"):
+        if getattr(given, name, None):
+            yield getattr(given, name)
+    if getattr(given, "folder", None) and os.path.isdir(given.folder):
+        yield from marking.sheets_of(given.folder)
 
 
 def _chosen(number: int, many: int, what: str) -> int:
@@ -131,7 +139,7 @@ def _each(library: Library, given: Namespace, sheets: dict[str, marking.Marked],
     for i, (name, sheet) in enumerate(sheets.items(), 1):
         target = folder / ("sheet-%d.html" % i)
         html = page(library, name, sheet.data, [filing for filing in filings if filing.sheet == name])
-        write_file(target, html.encode(), given.force)
+        write_file(target, html.encode(), given.force, [*_sources(given), given.output])
         links[name] = quote(Path(os.path.relpath(target.resolve(), start)).as_posix())
     return links
 

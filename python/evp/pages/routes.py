@@ -36,6 +36,7 @@ blueprint = Blueprint("pages", __name__)
 MOST_BODY = 1_000_000  # of a request with a sheet or two and a table, or with a form of 1,000 rows
 MOST_CLASS = 4_000_000  # of one with the sheets of a class
 MOST_SHEETS = 200
+MOST_FILED = 50_000  # lines of filed masses: what is made of each takes some hundred times its bytes
 NAMES = re.compile(r"[^A-Za-z0-9._-]+")
 
 
@@ -127,7 +128,7 @@ def page(what: str, turns: Turns = PAGES) -> Callable:
                 with turns:
                     return show(given)
             except InputError as error:
-                return page_ask(what, str(error)), 400
+                return page_ask(what, str(error), error.more), 400
         blueprint.add_url_rule("/" + what, view_func=answer, methods=["GET", "POST"])
         return show
     return route
@@ -163,7 +164,7 @@ def open_files():
         with turns:
             return show(given)
     except InputError as error:
-        return page_home(str(error)), 400
+        return page_home(str(error), error.more), 400
 
 
 @page("class", CLASSES)
@@ -173,12 +174,13 @@ def show_class(given: Given) -> str:
     sheets = [file for file in files if not file[0].lower().endswith(".csv")]
     _check_class(sheets, filed)
     library, name = get_library(), filed[0][0]
-    table = marking.filed_of(text_of(filed[0][1], name), name)
+    table = marking.filed_of(text_of(filed[0][1], name), name, MOST_FILED)
     marked = {name: marking.marked(library, data[:SHEET_BYTES + 1]) for name, data in sorted(sheets)}
     marks, hints = marking.marks_of(library, marked, table.filings), "hints" in request.form
     if hints:
         marks, _ = with_hints(library, marked, table.filings, marks, lambda done, many: None)
-    packed = {name: _pack(name, sheet.data, _filed_for(name, table)) for name, sheet in marked.items()}
+    filed_for = _filed_for(table)
+    packed = {name: _pack(name, sheet.data, filed_for.get(name, "")) for name, sheet in marked.items()}
     return page_class(marked, table.filings, marks, True, packed=packed, hints=hints,
                       marks_csv=marking.marks_csv(marks, table.semicolon))
 
@@ -199,10 +201,12 @@ def _check_class(sheets: list[tuple[str, bytes]], filed: list[tuple[str, bytes]]
             counted(len(sheets), "sheet"), MOST_SHEETS))
 
 
-def _filed_for(name: str, table: marking.FiledTable) -> str:
-    """The lines of a sheet, as a table of its own."""
-    lines = [(f.sheet, *f.figure, f.mass, f.unit) for f in table.filings if f.sheet == name]
-    return table_text(marking.COLUMNS, lines, table.semicolon) if lines else ""
+def _filed_for(table: marking.FiledTable) -> dict[str, str]:
+    """The lines of each sheet, as a table of their own."""
+    lines: dict[str, list] = {}
+    for filing in table.filings:
+        lines.setdefault(filing.sheet, []).append((filing.sheet, *filing.figure, filing.mass, filing.unit))
+    return {name: table_text(marking.COLUMNS, found, table.semicolon) for name, found in lines.items()}
 
 
 @page("sheet")
@@ -215,7 +219,7 @@ def show_sheet(given: Given) -> str:
     tables = [file for file in given.get("files", ()) if file[0].lower().endswith(".csv")]
     text = text_of(tables[0][1], tables[0][0]) if tables else request.form.get("filed", "")
     label = tables[0][0] if tables else "the filed masses"
-    filings = [f for f in marking.filed_of(text, label).filings if f.sheet == name] if text else None
+    filings = [f for f in marking.filed_of(text, label, MOST_FILED).filings if f.sheet == name] if text else None
     return page_sheet(get_library(), name, data, filings, True, _pack(name, data, text))
 
 

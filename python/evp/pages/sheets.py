@@ -17,6 +17,7 @@ from evp.pages.words import CLASS_NAMES, canister_words, parking_words, row_more
 from evp.wording import name_shown
 
 MOST_ROWS = 200  # that the fleet is told in words for
+MOST_FIGURES = 2_000  # filed ones that a page lists
 
 
 class Part(NamedTuple):
@@ -66,10 +67,12 @@ def _fleet(library: Library, data: bytes, report: Report) -> list[Part]:
 
 
 def _judged(library: Library, data: bytes, report: Report, filings: list[Filing]) -> list[Judged]:
-    """The figures that were filed for this sheet."""
-    marked = {filing.sheet: Marked(data, "", bands(report)) for filing in filings}
-    return [Judged(filing.figure, filing.filed, mark)
-            for filing, mark in zip(filings, marks_of(library, marked, filings))]
+    """The figures that were filed for this sheet; where there are more than a page lists, those that do not agree come
+    first."""
+    marked = {filings[0].sheet: Marked(data, "", bands(report))} if filings else {}
+    judged = [Judged(filing.figure, filing.filed, mark)
+              for filing, mark in zip(filings, marks_of(library, marked, filings))]
+    return judged if len(judged) <= MOST_FIGURES else sorted(judged, key=lambda one: one.verdict == "agrees")
 
 
 def page_sheet(library: Library, name: str, data: bytes, filings: list[Filing] | None = None, served: bool = False,
@@ -84,13 +87,14 @@ def page_sheet(library: Library, name: str, data: bytes, filings: list[Filing] |
     classes = _by(library, data, lambda row: row["class"], CLASS_NAMES)
     seasons, fleet = _seasons(library, data), _fleet(library, data, report)
     vehicles = sum(part.vehicles for part in classes)
+    judged = None if filings is None else _judged(library, data, report, filings)
     without = next((part for part in canisters if part.name == "none"), None)
     return render(
         "sheet.html", served, name=name_shown(name), size=len(data), version=layout.version_of(data), report=report,
         parking=parking_words(data), without=without if len(canisters) > 1 and vehicles and report.total.high else None,
         total=report.total, unit=unit, canisters=canisters, classes=classes, seasons=seasons, fleet=fleet,
         row_count=layout.row_count(data), vehicles=vehicles, groups=[(GROUP_NAMES[n], m) for n, m in groups(report)],
-        judged=None if filings is None else _judged(library, data, report, filings), packed=packed,
+        judged=judged and judged[:MOST_FIGURES], more_judged=len(judged or ()) - MOST_FIGURES, packed=packed,
         most_class=_most(classes), most_season=_most(seasons), most_row=_most(fleet))
 
 

@@ -8,6 +8,7 @@ from contextlib import contextmanager
 
 from evp.layout import CANISTERS, MILEAGE, MOST_ROWS, ROW_FIELDS, SEASON_FIELDS, Field
 from evp.sheet.words import TextError, encode, hexadecimal, whole_number
+from evp.wording import Messages
 
 LISTS = ("durations", "hours")
 GRID = tuple("grid %d" % t for t in range(1, 25))  # a list for each end hour
@@ -45,7 +46,7 @@ class Builder:
         self.row_words: list[dict[str, str]] = []
         self.single: dict[str, int | bytes] = {}
         self.single_places: dict[str, str] = {}
-        self.messages: list[str] = []
+        self.messages = Messages()
         self.last = "line 0"  # the last line
 
     @contextmanager
@@ -55,7 +56,7 @@ class Builder:
         try:
             yield
         except TextError as error:
-            self.messages.append("%s: %s" % (where, error))
+            self.messages.add("%s: %s" % (where, error))
 
     # ------------------------------------------------------------------ records, each within at()
 
@@ -105,8 +106,8 @@ class Builder:
 
     def data(self) -> bytes:
         """The bytes of the sheet; TextError where anything given cannot be read."""
-        if self.messages:
-            raise TextError("\n".join(self.messages))
+        if self.messages.many:
+            raise TextError(str(self.messages), self.messages.more)
         counts = self._counts()
         data = self._head() + counts + b"".join(self.seasons + self.rows) + self.single.get("tail", b"")
         return data[:self.single["cut"]] if "cut" in self.single else data

@@ -9,7 +9,12 @@ MOST_DIGITS = 12  # no field holds a number of more
 
 
 class TextError(Exception):
-    """A text or table that cannot be read: a message for each fault, which names the line."""
+    """A text or table that cannot be read: a message for each fault, which names the line; `more` are those that were
+    counted alone."""
+
+    def __init__(self, message: str, more: int = 0):
+        super().__init__(message)
+        self.more = more
 
     @property
     def messages(self) -> list[str]:

@@ -1,6 +1,7 @@
 """The lines of a text, taken into a builder."""
 
-from collections.abc import Iterable
+import re
+from collections.abc import Iterable, Iterator
 
 from evp.sheet.builder import GRID, LISTS, ROW_NAMES, SEASON_NAMES, SINGLE, Builder
 from evp.sheet.words import TextError, whole_number
@@ -15,12 +16,22 @@ def write(text: str) -> bytes:
 def take_text(text: str, label: str = "") -> Builder:
     """What the lines of a text give; messages begin with the label."""
     builder = Builder()
-    for number, line in enumerate(text.splitlines(), 1):
+    for number, line in enumerate(_lines(text), 1):
         with builder.at("%sline %d" % (label, number)):
             words = line.partition("#")[0].split()
             if words:
                 _take_line(builder, *words)
     return builder
+
+
+def _lines(text: str) -> Iterator[str]:
+    """The lines of a text one by one, as str.splitlines has them all at once."""
+    place = 0
+    for end in re.finditer("\r\n|[\n\v\f\r\x1c-\x1e\x85\u2028\u2029]", text):
+        yield text[place:end.start()]
+        place = end.end()
+    if place < len(text):
+        yield text[place:]
 
 
 def _take_line(builder: Builder, name: str, *words: str):
