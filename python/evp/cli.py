@@ -20,7 +20,8 @@ from evp.pages import command as page_command
 from evp.wording import MOST_SHOWN, printable, quoted, shortened
 
 TAKES_NO_MORE = (errno.ENOSPC, errno.EDQUOT, errno.EFBIG, errno.EIO)  # what a disk that is full answers, or broken
-STATUS = "Exit status 0 fine, 1 refused or a figure wrong,\n2 not readable or not understood."
+STATUS = "Exit status 0 fine, 1 refused or a figure wrong,\n2 not readable or not understood, 130 stopped by Ctrl-C."
+INTERRUPTED = 130  # as a shell has it for SIGINT
 
 
 class Parser(argparse.ArgumentParser):
@@ -186,7 +187,7 @@ def _drop(stream: io.TextIOWrapper):
 
 def main(words: list[str] | None = None) -> int:
     """Runs a command; whatever goes wrong is said in words."""
-    if words is None and hasattr(signal, "SIGPIPE"):  # a reader such as head may leave early
+    if words is None and hasattr(signal, "SIGPIPE"):  # a reader such as head may leave early; the server ignores it
         signal.signal(signal.SIGPIPE, signal.SIG_DFL)
     if sys.stderr is None:  # it is closed, and print would take standard output for it
         sys.stderr = open(os.devnull, "w", encoding="utf-8")
@@ -215,6 +216,7 @@ def _run(top: Parser, words: list[str]) -> int:
         _complain(str(error))
     except KeyboardInterrupt:  # on a terminal behind ^C, and behind how far it is
         _complain("stopped", "\nevp: " if sys.stderr.isatty() else "evp: ")
+        return INTERRUPTED
     except Exception as error:  # no traceback reaches a user
         said = _of_a_file(error) if isinstance(error, OSError) else ""
         if not said and os.environ.get("EVP_TRACEBACK"):
