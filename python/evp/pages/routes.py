@@ -27,7 +27,7 @@ from evp.pages.parkings import page_parking
 from evp.pages.render import policy
 from evp.pages.sheets import page_sheet
 from evp.pages.splits import page_cells, page_pool, page_species
-from evp.pages.turns import CLASSES, PAGES, Turns
+from evp.pages.turns import CLASSES, FORMS, PAGES, Turns
 from evp.tables import table_text
 from evp.wording import counted, name_shown
 
@@ -222,7 +222,8 @@ def show_sheet(given: Given) -> str:
 @blueprint.post("/sheet/save")
 def save_sheet():
     try:
-        name, data = _sheet(_given())
+        with FORMS:
+            name, data = _sheet(_given())
     except InputError as error:
         return page_ask("sheet", str(error)), 400
     return _file(name, "evp", data)
@@ -288,8 +289,9 @@ def show_form():
     if request.method == "GET":
         return forms.page_form()
     try:
-        name, data = _sheet(_given())
-        return forms.page_form(forms.form_from(data, name), name.removesuffix(".evp"))
+        with FORMS:
+            name, data = _sheet(_given())
+            return forms.page_form(forms.form_from(data, name), name.removesuffix(".evp"))
     except InputError as error:
         return forms.page_form(message=str(error)), 400
 
@@ -305,7 +307,8 @@ def _form(word: str | None) -> forms.Form:
 def check_form():
     """The explanation of a form, with the number that was sent along, so that a page knows the latest."""
     try:
-        found = forms.check_form(get_library(), _form(request.get_data(as_text=True)))
+        with FORMS:
+            found = forms.check_form(get_library(), _form(request.get_data(as_text=True)))
     except InputError as error:
         return jsonify({"state": "unread", "line": str(error), "faults": [], "doubts": []}), 400
     serial = request.args.get("serial", "0")
@@ -316,21 +319,26 @@ def check_form():
 def read_form():
     """The form of a sheet that was dropped, or what its tables give of one."""
     try:
-        files = _given().get("files", [])
-        tables = {name: data for name, data in files if name.lower().endswith(".csv")}
-        if tables:
-            return jsonify({"form": forms.form_from_tables(tables)})
-        name, data = _sheet({"files": files})
-        return jsonify({"form": forms.form_from(data, name), "name": PurePosixPath(name).stem})
+        with FORMS:
+            return _read_form(_given().get("files", []))
     except InputError as error:
         return jsonify({"message": str(error)}), 400
+
+
+def _read_form(files: list[tuple[str, bytes]]) -> Response:
+    tables = {name: data for name, data in files if name.lower().endswith(".csv")}
+    if tables:
+        return jsonify({"form": forms.form_from_tables(tables)})
+    name, data = _sheet({"files": files})
+    return jsonify({"form": forms.form_from(data, name), "name": PurePosixPath(name).stem})
 
 
 @blueprint.post("/form/save")
 def save_form():
     """The sheet or its tables as a file."""
     try:
-        made = forms.made_of(_form(request.form.get("form")))
+        with FORMS:
+            made = forms.made_of(_form(request.form.get("form")))
     except InputError as error:
         return forms.page_form(message=str(error)), 400
     if made.data is None:
