@@ -29,8 +29,9 @@ def create_app(hosts: frozenset[str], ledger: CourseLedger | None = None) -> Fla
     app.register_error_handler(Exception, _failure)
     app.add_url_rule(HEALTH, "health", lambda: _health(ledger))
     if has_pages():
-        from evp.pages.routes import blueprint
+        from evp.pages.routes import blueprint, prepare
         app.register_blueprint(blueprint)
+        prepare()
     if ledger is not None:
         app.register_blueprint(views.blueprint(ledger))
     return app

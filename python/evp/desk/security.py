@@ -1,6 +1,7 @@
 """What is turned away before a page is asked, and what every answer carries."""
 
 from collections.abc import Collection
+from functools import cache
 
 from flask import Flask, Response, request
 
@@ -36,8 +37,13 @@ WORDS = {  # of what is turned away: a heading and a sentence
 }
 
 
+@cache
+def _page(status: int) -> bytes:
+    return message(status, *WORDS.get(status, WORDS[400])).data
+
+
 def turned_away(status: int) -> Response:
-    return message(status, *WORDS.get(status, WORDS[400]))
+    return Response(_page(status), status)
 
 
 def hosts_of(address: str, port: int) -> frozenset[str]:

@@ -6,7 +6,7 @@ import binascii
 import json
 import re
 from collections.abc import Callable
-from functools import wraps
+from functools import cache, wraps
 from pathlib import PurePosixPath
 
 from flask import Blueprint, Response, abort, jsonify, request
@@ -19,7 +19,7 @@ from evp.hints import with_hints
 from evp.layout import row_count, season_count
 from evp.library import SHEET_BYTES, Refusal
 from evp.pages import forms
-from evp.pages.asks import examples, page_ask, page_home
+from evp.pages.asks import ASKS, examples, page_ask, page_home
 from evp.pages.classes import page_class
 from evp.pages.days import page_day
 from evp.pages.fuels import page_fuels
@@ -121,7 +121,7 @@ def page(what: str, turns: Turns = PAGES) -> Callable:
         @wraps(show)
         def answer():
             if request.method == "GET":
-                return page_ask(what)
+                return _empty(what)
             try:
                 given = _given()
                 with turns:
@@ -147,9 +147,21 @@ def accepted(show: Callable[[str, bytes], str]) -> Callable[[Given], str]:
 # ------------------------------------------------------------------ the pages
 
 
+@cache
+def _empty(what: str) -> str:
+    """A page that asks for files, or an empty form. It is always the same, and the form takes 24 ms to make."""
+    return {"home": page_home, "form": forms.page_form}.get(what, lambda: page_ask(what))()
+
+
+def prepare():
+    """Makes the pages that are always the same, so that no crowd of first requests makes each of them at once."""
+    for what in ("home", "form", *ASKS):
+        _empty(what)
+
+
 @blueprint.get("/")
 def home():
-    return page_home()
+    return _empty("home")
 
 
 @blueprint.post("/open")
@@ -287,13 +299,13 @@ def show_pool(given: Given) -> str:
 @blueprint.route("/form", methods=["GET", "POST"])
 def show_form():
     if request.method == "GET":
-        return forms.page_form()
-    try:
-        with FORMS:
+        return _empty("form")
+    with FORMS:
+        try:
             name, data = _sheet(_given())
             return forms.page_form(forms.form_from(data, name), name.removesuffix(".evp"))
-    except InputError as error:
-        return forms.page_form(message=str(error)), 400
+        except InputError as error:
+            return forms.page_form(message=str(error)), 400
 
 
 def _form(word: str | None) -> forms.Form:
@@ -336,13 +348,13 @@ def _read_form(files: list[tuple[str, bytes]]) -> Response:
 @blueprint.post("/form/save")
 def save_form():
     """The sheet or its tables as a file."""
-    try:
-        with FORMS:
+    with FORMS:
+        try:
             made = forms.made_of(_form(request.form.get("form")))
-    except InputError as error:
-        return forms.page_form(message=str(error)), 400
-    if made.data is None:
-        return forms.page_form(message="nothing saved: %s cannot be read" % counted(len(made.faults), "field")), 400
+            if made.data is None:
+                raise InputError("nothing saved: %s cannot be read" % counted(len(made.faults), "field"))
+        except InputError as error:
+            return forms.page_form(message=str(error)), 400
     name = request.form.get("name", "")
     if request.form.get("what") == "csv":
         return _file(name + "-csv", "zip", forms.tables_of(made.data))
