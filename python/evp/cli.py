@@ -1,7 +1,6 @@
 """The command `evp`: its arguments and its exit status."""
 
 import argparse
-import contextlib
 import difflib
 import errno
 import io
@@ -13,6 +12,7 @@ from collections.abc import Callable
 
 from evp import commands
 from evp.desk import command as desk_command
+from evp.desk.ending import INTERRUPTED, drop
 from evp.files import InputError, failed
 from evp.library import MissingCall
 from evp.masses import UNITS
@@ -21,7 +21,6 @@ from evp.wording import MOST_SHOWN, printable, quoted, shortened
 
 TAKES_NO_MORE = (errno.ENOSPC, errno.EDQUOT, errno.EFBIG, errno.EIO)  # what a disk that is full answers, or broken
 STATUS = "Exit status 0 fine, 1 refused or a figure wrong,\n2 not readable or not understood, 130 stopped by Ctrl-C."
-INTERRUPTED = 130  # as a shell has it for SIGINT
 
 
 class Parser(argparse.ArgumentParser):
@@ -176,13 +175,7 @@ def _complain(text: str, start: str = "evp: "):
         for line in commands.limited(text.split("\n"), "such messages"):
             print(start + line, file=sys.stderr, flush=True)
     except OSError:  # nobody can be told, and the exit status tells
-        _drop(sys.stderr)
-
-
-def _drop(stream: io.TextIOWrapper):
-    """What a stream could not take is not tried again when Python ends."""
-    with contextlib.suppress(OSError):  # a stream of a test has no number
-        os.dup2(os.open(os.devnull, os.O_WRONLY), stream.fileno())
+        drop(sys.stderr)
 
 
 def main(words: list[str] | None = None) -> int:
@@ -232,5 +225,5 @@ def _of_a_file(error: OSError) -> str:
         return str(failed(error.filename, error))
     if error.errno not in TAKES_NO_MORE:
         return ""
-    _drop(sys.stdout)
+    drop(sys.stdout)
     return str(failed("standard output", error))

@@ -24,6 +24,14 @@ sys.argv = sys.argv[2:]
 runpy.run_path(sys.argv[0], run_name="__main__")
 """
 
+# Runs evp after a change: the first words of `before`.
+CHANGED = """
+import runpy, sys
+%s
+sys.argv = sys.argv[2:]
+runpy.run_path(sys.argv[0], run_name="__main__")
+"""
+
 
 def head_of(port: int, path: str, method: str = "GET", *headers: str) -> bytes:
     """A request without a body."""

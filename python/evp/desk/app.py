@@ -1,8 +1,6 @@
 """The application: the pages where they are there, and a ledger where one is open."""
 
-import contextlib
 import os
-import sys
 import traceback
 from importlib.util import find_spec
 
@@ -10,6 +8,7 @@ from flask import Flask, Response
 from werkzeug.exceptions import HTTPException
 
 from evp.desk import security, views
+from evp.desk.ending import log
 from evp.desk.form_data import FormRequest
 from evp.desk.ledger import CourseLedger
 from evp.desk.server import HEALTH
@@ -53,8 +52,7 @@ def _failure(error: Exception) -> Response:
         if error.code is None or error.code < 400:
             return error.get_response()
         return security.turned_away(error.code)
-    with contextlib.suppress(OSError):  # nobody reads the log, and the answer is given all the same
-        print("evp: desk: a page failed: %s" % type(error).__name__, file=sys.stderr, flush=True)
-        if os.environ.get("EVP_TRACEBACK"):
-            traceback.print_exception(error)
+    log("evp: desk: a page failed: %s" % type(error).__name__)
+    if os.environ.get("EVP_TRACEBACK"):
+        log("".join(traceback.format_exception(error)))
     return security.turned_away(500)

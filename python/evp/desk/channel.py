@@ -138,6 +138,13 @@ class Channel(HTTPChannel):
             self.sent += before - self.total_outbufs_len
         return moved
 
+    def handle_close(self) -> None:
+        """Closes the connection, and the file of a request that is not whole."""
+        super().handle_close()
+        request, self.request, self.ahead = self.request, None, b""
+        if request is not None:
+            request.close()
+
     # ------------------------------------------------------------------ limits
 
     def overdue(self, now: float, patience: float) -> bool:

@@ -8,7 +8,7 @@ from typing import NamedTuple
 
 from evp import layout
 from evp.commands import SheetRefused, get_library
-from evp.desk.ending import Ending, Stopped, broken_pipes_ignored
+from evp.desk.ending import Ending, Stopped, ignore_broken_pipes, log
 from evp.desk.ledger import MARKER, MOST_DIGITS, PARTICIPANTS, CourseLedger, new_person, open_first
 from evp.desk.store import Opening, Store, create
 from evp.desk.versions import difference, found_versions
@@ -284,7 +284,8 @@ def _serve(library: Library, given: Namespace, ending: Ending):
             print(PLAIN.format(address=address, port=port))
         say_versions()
         print("Serving at %s until Ctrl-C." % base, flush=True)
-        with broken_pipes_ignored(), ending.faults():
+        ignore_broken_pipes()
+        with ending.faults():
             server.run()
     finally:
         listener.close()
@@ -296,4 +297,4 @@ def say_versions():
     """Where the server runs with other versions than it was tested with."""
     said = difference(found_versions())
     if said:
-        print("evp: %s" % said, file=sys.stderr, flush=True)
+        log("evp: %s" % said)

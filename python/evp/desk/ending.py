@@ -4,6 +4,8 @@ SIGKILL and a loss of power leave no line. The supervisor reports the first (doc
 """
 
 import contextlib
+import io
+import os
 import signal
 import sys
 from collections.abc import Iterator
@@ -75,19 +77,26 @@ class Ending:
         return "evp: stopped %s%s" % (why, "; %s" % KEPT if has_ledger else "")
 
     def say(self, has_ledger: bool) -> None:
-        """The last line of the log; that nobody reads it is no fault."""
-        with contextlib.suppress(OSError, ValueError):
-            print(self.line(has_ledger), file=sys.stderr, flush=True)
+        """The last line of the log."""
+        log(self.line(has_ledger))
 
 
-@contextlib.contextmanager
-def broken_pipes_ignored() -> Iterator[None]:
-    """What is written to a client that has gone is an error of this client, and no signal that ends the server."""
-    if not hasattr(signal, "SIGPIPE"):
-        yield
-        return
-    before = signal.signal(signal.SIGPIPE, signal.SIG_IGN)
+def log(text: str) -> None:
+    """A line of the log, which is standard error; that nobody reads it any more is no fault."""
     try:
-        yield
-    finally:
-        signal.signal(signal.SIGPIPE, before)
+        print(text, file=sys.stderr, flush=True)
+    except (OSError, ValueError):
+        drop(sys.stderr)
+
+
+def drop(stream: io.TextIOWrapper) -> None:
+    """What a stream could not take is not tried again when Python ends."""
+    with contextlib.suppress(OSError):  # a stream of a test has no number
+        os.dup2(os.open(os.devnull, os.O_WRONLY), stream.fileno())
+
+
+def ignore_broken_pipes() -> None:
+    """What is written to a client that has gone is from now on an error of this client, and no signal that ends the
+    server."""
+    if hasattr(signal, "SIGPIPE"):
+        signal.signal(signal.SIGPIPE, signal.SIG_IGN)
