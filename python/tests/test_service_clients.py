@@ -134,11 +134,11 @@ class StallingTest(ServiceTestCase):
         desk = self.serve("--patience", 30)
         before = self.memory(desk)
         with contextlib.ExitStack() as stack, self.at_work(desk, within=5, people=2):
-            for _ in range(60):
+            for _ in range(120):
                 connection = stack.enter_context(connected(desk.port))
-                connection.sendall(head_of(desk.port, "/class", "POST", "Content-Length: 3900000") + b"x" * 1_000_000)
-            time.sleep(0.5)
-            self.assertLess(self.memory(desk) - before, 40)
+                connection.sendall(head_of(desk.port, "/class", "POST", "Content-Length: 3900000") + b"x" * 400_000)
+            time.sleep(1)
+            self.assertLess(self.memory(desk) - before, 25)
 
 
 @unittest.skipUnless(HAS_MODULES, NO_MODULES)
@@ -148,12 +148,12 @@ class HogTest(ServiceTestCase):
     def test_more_connections_than_there_are(self):
         desk = self.serve("--patience", 30)
         self.assertGreater(resource.getrlimit(resource.RLIMIT_NOFILE)[1], 6_000)
-        hog = subprocess.Popen([sys.executable, "-c", HOG, HOST, str(desk.port), "4500", "9"], stdout=subprocess.PIPE)
+        hog = subprocess.Popen([sys.executable, "-c", HOG, HOST, str(desk.port), "4500", "7"], stdout=subprocess.PIPE)
         self.addCleanup(hog.wait)
         self.addCleanup(hog.kill)
         time.sleep(3)  # until it has many
         with self.at_work(desk, within=1.0) as workers:
-            time.sleep(4)
+            time.sleep(2.5)
         held = int(hog.communicate(timeout=20)[0])
         calls = sorted(taken for worker in workers for taken in worker.times)
         print("a client with %d connections: %d calls meanwhile, %.0f ms in the middle, %.0f ms the longest" % (
@@ -166,7 +166,7 @@ class HogTest(ServiceTestCase):
         with connected(desk.port, source="127.0.0.2") as other:
             other.sendall(head_of(desk.port, "/health"))
             self.assertEqual(status_of(other), 200)
-            hog = subprocess.run([sys.executable, "-c", HOG, HOST, str(desk.port), "3000", "3"],
+            hog = subprocess.run([sys.executable, "-c", HOG, HOST, str(desk.port), "3000", "2"],
                                  stdout=subprocess.DEVNULL, timeout=30)
             self.assertEqual(hog.returncode, 0)
             other.sendall(head_of(desk.port, "/health"))

@@ -3,7 +3,9 @@
 import contextlib
 import io
 import os
+import shutil
 import signal
+import socket
 import subprocess
 import sys
 import threading
@@ -143,6 +145,39 @@ class HealthTest(ServiceTestCase):
         self.assertEqual(client.get("/health").status_code, 200)
         course._lost = "the file is gone"
         self.assertIn("the file is gone", client.get("/health").text)
+
+
+@unittest.skipUnless(HAS_MODULES, NO_MODULES)
+class SupervisorTest(ServiceTestCase):
+    UNIT = TOP / "python" / "evp" / "desk" / "evp-course.service"
+
+    def test_notified(self):
+        """systemd is told that it serves, each second that it still does, and that it stops."""
+        path = str(self.folder / "notify")
+        with socket.socket(socket.AF_UNIX, socket.SOCK_DGRAM) as told, mock.patch.dict(os.environ, NOTIFY_SOCKET=path):
+            told.bind(path)
+            told.settimeout(20)
+            desk = self.serve()
+            states = [told.recv(100) for _ in range(3)]
+            self.assertEqual(states, [b"READY=1", b"WATCHDOG=1", b"WATCHDOG=1"])
+            self.assertEqual(desk.stop(), 0)
+            while (last := told.recv(100)) == b"WATCHDOG=1":
+                pass
+            self.assertEqual(last, b"STOPPING=1")
+
+    def test_unit(self):
+        """The unit starts the command that there is, and starts it again where it fails."""
+        lines = self.UNIT.read_text().splitlines()
+        for line in ("Restart=on-failure", "Type=notify", "NoNewPrivileges=yes",
+                     "ExecStart=%%h/evaporation/evp %s --ledger course.db" % COMMAND):
+            self.assertIn(line, lines)
+        checker = shutil.which("systemd-analyze")
+        if checker is None:
+            self.skipTest("systemd is not here")
+        unit = self.put("evp-course.service", self.UNIT.read_text().replace("%h/evaporation/evp", str(TOP / "evp")))
+        found = subprocess.run([checker, "verify", "--user", "--man=no", unit], capture_output=True, text=True,
+                               env={**os.environ, "XDG_RUNTIME_DIR": str(self.folder)})
+        self.assertEqual((found.returncode, found.stderr), (0, ""))
 
 
 @unittest.skipUnless(HAS_MODULES, NO_MODULES)

@@ -12,6 +12,7 @@
     server.py    waitress, with limits
     versions.py  the versions of waitress, Werkzeug and Flask that were tested
     ending.py    signals, and the last line of the log
+    supervisor.py  what is reported to systemd
     command.py   `evp desk`
 
 evp-course.service is a systemd unit that starts it (docs/SERVER.md). app.py, channel.py, form_data.py, render.py,

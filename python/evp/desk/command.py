@@ -11,6 +11,7 @@ from evp.commands import SheetRefused, get_library
 from evp.desk.ending import Ending, Stopped, ignore_broken_pipes, log
 from evp.desk.ledger import MARKER, MOST_DIGITS, PARTICIPANTS, CourseLedger, new_person, open_first
 from evp.desk.store import Opening, Store, create
+from evp.desk.supervisor import READY, STOPPING, notify
 from evp.desk.versions import difference, found_versions
 from evp.explain import call_text, explain
 from evp.files import InputError, read_sheet, read_text, write_file
@@ -285,8 +286,10 @@ def _serve(library: Library, given: Namespace, ending: Ending):
         say_versions()
         print("Serving at %s until Ctrl-C." % base, flush=True)
         ignore_broken_pipes()
+        notify(READY)
         with ending.faults():
             server.run()
+        notify(STOPPING)
     finally:
         listener.close()
         if ledger is not None:

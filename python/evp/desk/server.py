@@ -15,6 +15,7 @@ from waitress.task import ThreadedTaskDispatcher
 
 from evp.desk.channel import Channel
 from evp.desk.security import MOST_BODY
+from evp.desk.supervisor import ALIVE, notify
 from evp.files import InputError
 
 HEALTH = "/health"
@@ -113,6 +114,7 @@ class Server(TcpWSGIServer):
         conn.setsockopt(socket.SOL_SOCKET, socket.SO_SNDBUF, SEND_BUFFER)
 
     def maintenance(self, now: float) -> None:
+        notify(ALIVE)
         for channel in list(self.active_channels.values()):
             if channel.overdue(now, self.adj.channel_timeout):
                 channel.drop()
