@@ -1,4 +1,5 @@
-"""What the tests of the service share: bad clients, and participants who work meanwhile. All traffic is to this machine."""
+"""What the tests of the service share: bad clients, and participants who work meanwhile. All traffic is to
+127.0.0.1."""
 
 import contextlib
 import os

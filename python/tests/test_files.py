@@ -324,7 +324,7 @@ class StartTest(unittest.TestCase):
                              (2, "evp: %s: File too large\n" % target, False))
 
     def test_interrupt(self):
-        """Ctrl-C, while a command waits and while evp starts: a line and status 130, as of every program that it ends."""
+        """Ctrl-C, while a command waits and while evp starts: a line and status 130, as of any program."""
         with tempfile.TemporaryDirectory() as folder:
             pipe = Path(folder) / "pipe"
             os.mkfifo(pipe)

@@ -1,5 +1,5 @@
-"""Requests that are none: codecs, boundaries, versions, lengths. Each is answered with its status, at once, without a line
-on the terminal, and with the headers of every answer."""
+"""Requests that are none: codecs, boundaries, versions, lengths. Each is answered with its status, at once, without a
+line on the terminal, and with the headers of every answer."""
 
 import re
 import sys
@@ -107,7 +107,8 @@ class FormTest(RequestTestCase):
             for path in (*TAKE_FORMS, self.desk.links[1]):
                 self.assertEqual(status(self.form(path, part('name="example"', "", b"region"), kind)), 400,
                                  (kind, path))
-        for body in (b"", b"--b", b"--b\r\n\r\n", b"--b\r\nx\r\n\r\n--b--", b"--b\r\nContent-Disposition: form-data\r\n",
+        for body in (b"", b"--b", b"--b\r\n\r\n", b"--b\r\nx\r\n\r\n--b--",
+                     b"--b\r\nContent-Disposition: form-data\r\n",
                      b"--b\r\nContent-Disposition\xff: form-data\r\n\r\n\r\n--b--", part("x" * 5_000)):
             self.assertEqual(status(self.form("/sheet", body)), 400, body[:60])
         self.assert_quiet()
@@ -140,7 +141,7 @@ class FormTest(RequestTestCase):
         bodies = [(b"a&" * 1_950_000, "application/x-www-form-urlencoded"),
                   (part('name="x"', "text/plain; charset=punycode", b"a" * 950_000), "multipart/form-data; boundary=b")]
         statuses = []
-        threads = [threading.Thread(target=lambda body: statuses.append(status(self.form("/class", *body))), args=[body])
+        threads = [threading.Thread(target=lambda *body: statuses.append(status(self.form("/class", *body))), args=body)
                    for body in bodies * 32]
         with self.at_work(self.desk, within=5):
             time.sleep(0.3)
@@ -195,8 +196,8 @@ class AnswerTest(RequestTestCase):
 
     def test_versions_of_http(self):
         port = self.desk.port
-        for version, wanted in ((b"1.1", 200), (b"1.0", 200), (b"1.2", 505), (b"2.0", 505), (b"0.9", 505), (b"9.9", 505),
-                                (b"1.1.1", 505), (b"11", 505)):
+        for version, wanted in ((b"1.1", 200), (b"1.0", 200), (b"1.2", 505), (b"2.0", 505), (b"0.9", 505),
+                                (b"9.9", 505), (b"1.1.1", 505), (b"11", 505)):
             answer = asked(port, head_of(port, "/health").replace(b"HTTP/1.1", b"HTTP/" + version))
             self.assertEqual(status(answer), wanted, version)
         for line in (b"GET /health", b"GET /health HTTP/", b"GET /health HTTP/one", b"GET", b"x" * 100):

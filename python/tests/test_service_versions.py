@@ -1,4 +1,5 @@
-"""The versions of waitress, Werkzeug and Flask that the server was tested with, and the methods of theirs that it changes."""
+"""The versions of waitress, Werkzeug and Flask that the server was tested with, and methods of theirs that it
+changes."""
 
 import hashlib
 import inspect
@@ -70,8 +71,8 @@ class VersionTest(ServiceTestCase):
             conn.handle_write, conn.received, conn.send_continue, conn.service, conn.write_soon, conn._flush_some,
             conn._flush_outbufs_below_high_watermark, conn.handle_close, parser.HTTPRequestParser.received,
             task.ErrorTask.execute, task.Task.build_response_header, task.ThreadedTaskDispatcher.handler_thread,
-            task.ThreadedTaskDispatcher.add_task, task.ThreadedTaskDispatcher.shutdown, buffers.OverflowableBuffer.append,
-            loop.poll2, loop.readwrite, loop.dispatcher.accept, loop.dispatcher.close, loop.dispatcher.handle_error,
+            task.ThreadedTaskDispatcher.add_task, task.ThreadedTaskDispatcher.shutdown,
+            buffers.OverflowableBuffer.append, loop.poll2, loop.readwrite, loop.dispatcher.accept, loop.dispatcher.close, loop.dispatcher.handle_error,
             wrappers.Request.make_form_data_parser, wrappers.Request._load_form_data,
             multipart.MultipartDecoder._parse_headers, multipart.MultipartDecoder.next_event,
         ]
@@ -91,13 +92,13 @@ class VersionTest(ServiceTestCase):
         self.assertEqual(versions.difference(versions.TESTED), "")
         self.assertEqual(
             versions.difference({**versions.TESTED, "waitress": "3.0.2", "Flask": ""}),
-            "this server was tested with waitress 2.1.2, Werkzeug 2.2.2 and Flask 2.2.2; here is waitress 3.0.2 and Flask "
-            "of an unknown version: try a page and a call before others use it")
+            "this server was tested with waitress 2.1.2, Werkzeug 2.2.2 and Flask 2.2.2; here is waitress 3.0.2 and "
+            "Flask of an unknown version: try a page and a call before others use it")
 
     def test_said_at_start(self):
         desk = self.serve(before=(sys.executable, "-c", CHANGED % OTHER))
-        self.assertIn("evp: this server was tested with waitress 2.1.2, Werkzeug 2.2.2 and Flask 2.2.2; here is waitress "
-                      "9.0: try a page", desk.said)
+        self.assertIn("evp: this server was tested with waitress 2.1.2, Werkzeug 2.2.2 and Flask 2.2.2; here is "
+                      "waitress 9.0: try a page", desk.said)
         self.assertEqual(desk.client(desk.links[1]).call("arrive", 1, 1).status, 303)
         again = Desk(self.folder / "other.db", "--new", SAMPLES / "region.evp")
         self.addCleanup(again.close)

@@ -4,12 +4,12 @@ SIGKILL and a loss of power leave no line. The supervisor reports the first (doc
 """
 
 import contextlib
-import io
 import os
 import signal
 import sys
 from collections.abc import Iterator
 from types import FrameType
+from typing import TextIO
 
 from evp.wording import MOST_SHOWN, printable, shortened
 
@@ -26,7 +26,7 @@ class Stopped(KeyboardInterrupt):
 class Ending:
     """What ended the server. The first signal counts, and those after it change nothing."""
 
-    def __init__(self):
+    def __init__(self) -> None:
         self.signal: signal.Signals | None = None
         self.fault: Exception | None = None
 
@@ -89,7 +89,7 @@ def log(text: str) -> None:
         drop(sys.stderr)
 
 
-def drop(stream: io.TextIOWrapper) -> None:
+def drop(stream: TextIO) -> None:
     """What a stream could not take is not tried again when Python ends."""
     with contextlib.suppress(OSError):  # a stream of a test has no number
         os.dup2(os.open(os.devnull, os.O_WRONLY), stream.fileno())

@@ -1,4 +1,4 @@
-"""The form of a request. It is read in one pass, with a limit on its parts, and never with a codec that it names itself.
+"""The form of a request: read in one pass, with a limit on its parts, and never with a codec that it names itself.
 
 Werkzeug 2.2 decodes a part with the charset of its Content-Type, and a name with that of `filename*=`: some of Python's
 codecs take minutes for a megabyte, and a name that is none ends as a fault of the server. Here either is rejected

@@ -37,7 +37,7 @@ Size = Callable[[Channel], int]
 class FairQueue:
     """The connections that wait for a thread, taken from each address in turn."""
 
-    def __init__(self):
+    def __init__(self) -> None:
         self._lines: dict[str, deque[Channel]] = {}  # the first one is the next
         self._many = 0
 
@@ -186,8 +186,8 @@ def listening(address: str, port: int) -> socket.socket:
 
 
 def server_of(app: Flask, listener: socket.socket, patience: int) -> Server:
-    """A server that is ready to run. `patience` is how many seconds a request may take to come, an answer may wait to be
-    taken, and a connection may stay without either."""
+    """A server that is ready to run. `patience` is how many seconds a request may take to come, an answer may wait to
+    be taken, and a connection may stay without either."""
     for name in ("waitress", "waitress.queue"):  # a queue is no matter for the terminal, and an address may be a key
         logging.getLogger(name).setLevel(logging.CRITICAL)
     adj = Adjustments(

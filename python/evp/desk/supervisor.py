@@ -1,4 +1,4 @@
-"""What the server reports to systemd, where systemd started it: that it serves, and once a second that it still does."""
+"""What the server reports to systemd, where that started it: that it serves, and once a second that it still does."""
 
 import contextlib
 import os
