@@ -14,7 +14,7 @@ import unittest
 from unittest import mock
 
 from desk_support import COMMAND, HAS_MODULES, HOST, NO_MODULES, Desk, free_port
-from service_support import CHANGED, ServiceTestCase, Worker, asked, connected, head_of, is_closed, status_of
+from service_support import CHANGED, ServiceTestCase, Worker, asked, connected, head_of, is_closed, leave, status_of
 from support import LIBRARY, SAMPLES, TOP, DeskTestCase
 
 from evp.desk import command, ledger, store
@@ -256,6 +256,23 @@ class InProcessTest(DeskTestCase):
             self.assertGreaterEqual(closed, 3)
             self.assertLess(closed, 6)
             self.assertFalse(is_closed(short, 0.2))
+
+    def test_pages_of_those_who_left(self):
+        """A page that waited for a thread is not made where its reader has gone; who is there gets it."""
+        self.start(THREADS=1)
+        with contextlib.ExitStack() as stack:
+            for connection in [stack.enter_context(connected(self.port)) for _ in range(2)]:
+                connection.sendall(head_of(self.port, "/wait"))
+            for reset in (False, True) * 10:
+                leaving = connected(self.port)
+                leaving.sendall(head_of(self.port, "/wait"))
+                leave(leaving, reset)
+            time.sleep(0.5)
+            self.gate.set()
+            self.assertEqual(status_of(connection), 200)
+            self.assertIn(b"200 OK", asked(self.port, head_of(self.port, "/form")))
+        self.assertEqual(len(self.inside), 2)
+        self.assertLess(len(self.server.active_channels), 4)
 
     def test_served_while_its_turn_takes_longer_than_the_patience(self):
         """A request that is in work is not overdue, and its answer comes."""

@@ -72,7 +72,8 @@ class VersionTest(ServiceTestCase):
             conn._flush_outbufs_below_high_watermark, conn.handle_close, parser.HTTPRequestParser.received,
             task.ErrorTask.execute, task.Task.build_response_header, task.ThreadedTaskDispatcher.handler_thread,
             task.ThreadedTaskDispatcher.add_task, task.ThreadedTaskDispatcher.shutdown,
-            buffers.OverflowableBuffer.append, loop.poll2, loop.readwrite, loop.dispatcher.accept, loop.dispatcher.close, loop.dispatcher.handle_error,
+            buffers.OverflowableBuffer.append,
+            loop.poll2, loop.readwrite, loop.dispatcher.accept, loop.dispatcher.close, loop.dispatcher.handle_error,
             wrappers.Request.make_form_data_parser, wrappers.Request._load_form_data,
             multipart.MultipartDecoder._parse_headers, multipart.MultipartDecoder.next_event,
         ]

@@ -19,6 +19,7 @@ from evp.desk.security import HEADERS, WORDS
 
 VERSIONS = ("1.0", "1.1")
 SLOWEST = 2_000  # bytes a second, at which an answer must be taken at least
+LATE = 0.2  # seconds, after which a request that waited for a thread is looked at: is its client still there?
 GRACE = 1.0  # seconds, in which a new connection or a slow reader is not yet one of the first to be closed
 RESET = struct.pack("ii", 1, 0)  # SO_LINGER: the system keeps nothing for who does not read
 
@@ -65,6 +66,7 @@ class Channel(HTTPChannel):
         self.made = self.since = time.monotonic()  # since: the first byte of a request, or the last answer
         self.wrote = self.moved = self.since  # an answer: when it began, and when bytes of it were last taken
         self.sent = 0  # bytes of an answer that were taken
+        self.queued = self.since  # when a request began to wait for a thread
         super().__init__(server, sock, addr, adj, map=map)
 
     # ------------------------------------------------------------------ requests
@@ -77,7 +79,8 @@ class Channel(HTTPChannel):
             self.request.expect_continue = False
 
     def readable(self) -> bool:
-        return not self.ahead and super().readable()
+        """Called for each connection in each round, so that it is as short as can be; and so is `writable`."""
+        return not (self.ahead or self.requests or self.total_outbufs_len or self.will_close or self.close_when_flushed)
 
     def handle_read(self) -> None:
         between = self.request is None
@@ -108,13 +111,34 @@ class Channel(HTTPChannel):
             self.request = None
             if not request.empty:
                 self.requests.append(request)
+                self.queued = time.monotonic()
                 self.server.add_task(self)
         return taken
+
+    def service(self) -> None:
+        """Answers a request; not where its client has gone while it waited. A call to a ledger is made all the same."""
+        request = self.requests[0]
+        call = getattr(request, "command", "") == "POST" and request.path.startswith("/ledger/")
+        if not call and time.monotonic() - self.queued > LATE and self._left():
+            self.connected = False  # waitress then skips the request, and closes
+        super().service()
+        if not self.connected:
+            self.server.pull_trigger()
+
+    def _left(self) -> bool:
+        """Whether the client has closed the connection, or its own half of it, which looks the same."""
+        try:
+            return self.socket.recv(1, socket.MSG_PEEK | socket.MSG_DONTWAIT) == b""
+        except BlockingIOError:
+            return False
+        except (OSError, AttributeError):  # it is closed here already
+            return True
 
     # ------------------------------------------------------------------ answers
 
     def writable(self) -> bool:
-        return bool(super().writable() or self.ahead and not self.requests)
+        return bool(self.total_outbufs_len or self.will_close or self.close_when_flushed
+                    or self.ahead and not self.requests)
 
     def handle_write(self) -> None:
         super().handle_write()
