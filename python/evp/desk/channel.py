@@ -117,12 +117,16 @@ class Channel(HTTPChannel):
 
     def service(self) -> None:
         """Answers a request; not where its client has gone while it waited. A call to a ledger is made all the same."""
-        request = self.requests[0]
-        call = getattr(request, "command", "") == "POST" and request.path.startswith("/ledger/")
+        request = self.requests[0]  # one that could not be read has no command, and maybe no path
+        call = getattr(request, "command", "") == "POST" and getattr(request, "path", "").startswith("/ledger/")
         if not call and time.monotonic() - self.queued > LATE and self._left():
             self.connected = False  # waitress then skips the request, and closes
-        super().service()
-        if not self.connected:
+        try:
+            super().service()
+        except Exception:  # a request without an answer would be at work for ever
+            self.requests, self.will_close = [], True
+            raise
+        finally:
             self.server.pull_trigger()
 
     def _left(self) -> bool:
@@ -201,6 +205,6 @@ class Channel(HTTPChannel):
     def drop(self) -> None:
         """Closes the connection now. An answer that was not taken is not kept by the system either."""
         if self.total_outbufs_len:
-            with contextlib.suppress(OSError):
+            with contextlib.suppress(OSError, AttributeError):  # it may be closed already
                 self.socket.setsockopt(socket.SOL_SOCKET, socket.SO_LINGER, RESET)
         self.handle_close()
