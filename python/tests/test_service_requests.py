@@ -200,7 +200,7 @@ class AnswerTest(RequestTestCase):
                                 (b"9.9", 505), (b"1.1.1", 505), (b"11", 505)):
             answer = asked(port, head_of(port, "/health").replace(b"HTTP/1.1", b"HTTP/" + version))
             self.assertEqual(status(answer), wanted, version)
-        for line in (b"GET /health", b"GET /health HTTP/", b"GET /health HTTP/one", b"GET", b"x" * 100):
+        for line in (b"GET http://[ HTTP/1.1", b"POST http://[a HTTP/1.1", b"GET /health", b"GET /health HTTP/", b"GET /health HTTP/one", b"GET", b"x" * 100):
             answer = exchange(port, line + b"\r\nHost: %s:%d\r\n\r\n" % (HOST.encode(), port))
             self.assertEqual(status(answer), 400, line)
 

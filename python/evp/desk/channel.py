@@ -33,7 +33,10 @@ class Parser(HTTPRequestParser):
     """A request. One of another version than VERSIONS is answered as an error, since its rules are not known."""
 
     def received(self, data: bytes) -> int:
-        consumed = super().received(data)
+        try:
+            consumed = super().received(data)
+        except ValueError:  # an address that is none, as http://[
+            consumed, self.error, self.completed = len(data), BadRequest(""), True
         if self.headers_finished and not self.empty and self.error is None and self.version not in VERSIONS:
             self.error = VersionNotSupported("") if self.version else BadRequest("")
             self.completed = True
