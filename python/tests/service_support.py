@@ -5,6 +5,7 @@ import contextlib
 import os
 import socket
 import struct
+import tempfile
 import threading
 import time
 from collections import Counter
@@ -130,7 +131,18 @@ class Worker(threading.Thread):
         return max(self.times, default=99.0)
 
 
+def quick_folder() -> tempfile.TemporaryDirectory:
+    """A folder in memory where there is one: how long calls take is measured here, and a busy disk takes seconds."""
+    return tempfile.TemporaryDirectory(dir="/dev/shm" if os.access("/dev/shm", os.W_OK) else None)
+
+
 class ServiceTestCase(DeskTestCase):
+    def setUp(self):
+        super().setUp()
+        folder = quick_folder()
+        self.addCleanup(folder.cleanup)
+        self.folder = Path(folder.name)
+
     def serve(self, *words: object, before: tuple = (), new: bool = True) -> Desk:
         desk = Desk(self.folder / "course.db", *(("--new", SHEET) if new else ()), *words, before=before)
         self.addCleanup(desk.close)

@@ -3,14 +3,13 @@ line on the terminal, and with the headers of every answer."""
 
 import re
 import sys
-import tempfile
 import threading
 import time
 import unittest
 from pathlib import Path
 
 from desk_support import HAS_MODULES, HOST, NO_MODULES, Desk
-from service_support import SHEET, ServiceTestCase, asked, exchange, head_of, posted
+from service_support import SHEET, ServiceTestCase, asked, exchange, head_of, posted, quick_folder
 
 TAKE_FORMS = ("/open", "/class", "/sheet", "/day", "/parking", "/species", "/fuels", "/cells", "/pool", "/form",
               "/form/read", "/form/save", "/sheet/save")
@@ -44,7 +43,7 @@ class RequestTestCase(ServiceTestCase):
 
     @classmethod
     def setUpClass(cls):
-        folder = tempfile.TemporaryDirectory()
+        folder = quick_folder()
         cls.addClassCleanup(folder.cleanup)
         cls.desk = Desk(Path(folder.name) / "course.db", "--new", SHEET, "--patience", 5)
         cls.addClassCleanup(cls.desk.close)
@@ -200,7 +199,8 @@ class AnswerTest(RequestTestCase):
                                 (b"9.9", 505), (b"1.1.1", 505), (b"11", 505)):
             answer = asked(port, head_of(port, "/health").replace(b"HTTP/1.1", b"HTTP/" + version))
             self.assertEqual(status(answer), wanted, version)
-        for line in (b"GET http://[ HTTP/1.1", b"POST http://[a HTTP/1.1", b"GET /health", b"GET /health HTTP/", b"GET /health HTTP/one", b"GET", b"x" * 100):
+        for line in (b"GET http://[ HTTP/1.1", b"POST http://[a HTTP/1.1", b"GET /health", b"GET /health HTTP/",
+                     b"GET /health HTTP/one", b"GET", b"x" * 100):
             answer = exchange(port, line + b"\r\nHost: %s:%d\r\n\r\n" % (HOST.encode(), port))
             self.assertEqual(status(answer), 400, line)
 
