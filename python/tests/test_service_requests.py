@@ -45,7 +45,7 @@ class RequestTestCase(ServiceTestCase):
     def setUpClass(cls):
         folder = quick_folder()
         cls.addClassCleanup(folder.cleanup)
-        cls.desk = Desk(Path(folder.name) / "course.db", "--new", SHEET, "--patience", 5)
+        cls.desk = Desk(Path(folder.name) / "course.db", "--new", SHEET)
         cls.addClassCleanup(cls.desk.close)
 
     def setUp(self):
