@@ -1,7 +1,6 @@
 """The command `evp`: its arguments and its exit status."""
 
 import argparse
-import contextlib
 import difflib
 import errno
 import io
@@ -13,6 +12,7 @@ from collections.abc import Callable
 
 from evp import commands
 from evp.desk import command as desk_command
+from evp.desk.ending import INTERRUPTED, drop
 from evp.files import InputError, failed
 from evp.library import MissingCall
 from evp.masses import UNITS
@@ -20,7 +20,7 @@ from evp.pages import command as page_command
 from evp.wording import MOST_SHOWN, printable, quoted, shortened
 
 TAKES_NO_MORE = (errno.ENOSPC, errno.EDQUOT, errno.EFBIG, errno.EIO)  # what a disk that is full answers, or broken
-STATUS = "Exit status 0 fine, 1 refused or a figure wrong,\n2 not readable or not understood."
+STATUS = "Exit status 0 fine, 1 refused or a figure wrong,\n2 not readable or not understood, 130 stopped by Ctrl-C."
 
 
 class Parser(argparse.ArgumentParser):
@@ -176,18 +176,12 @@ def _complain(text: str, start: str = "evp: ", more: int = 0):
         for line in commands.limited(text.split("\n"), "such messages", more=more):
             print(start + line, file=sys.stderr, flush=True)
     except OSError:  # nobody can be told, and the exit status tells
-        _drop(sys.stderr)
-
-
-def _drop(stream: io.TextIOWrapper):
-    """What a stream could not take is not tried again when Python ends."""
-    with contextlib.suppress(OSError):  # a stream of a test has no number
-        os.dup2(os.open(os.devnull, os.O_WRONLY), stream.fileno())
+        drop(sys.stderr)
 
 
 def main(words: list[str] | None = None) -> int:
     """Runs a command; whatever goes wrong is said in words."""
-    if words is None and hasattr(signal, "SIGPIPE"):  # a reader such as head may leave early
+    if words is None and hasattr(signal, "SIGPIPE"):  # a reader such as head may leave early; the server ignores it
         signal.signal(signal.SIGPIPE, signal.SIG_DFL)
     if sys.stderr is None:  # it is closed, and print would take standard output for it
         sys.stderr = open(os.devnull, "w", encoding="utf-8")
@@ -218,6 +212,7 @@ def _run(top: Parser, words: list[str]) -> int:
         _complain(str(error))
     except KeyboardInterrupt:  # on a terminal behind ^C, and behind how far it is
         _complain("stopped", "\nevp: " if sys.stderr.isatty() else "evp: ")
+        return INTERRUPTED
     except Exception as error:  # no traceback reaches a user
         said = _of_a_file(error) if isinstance(error, OSError) else ""
         if not said and os.environ.get("EVP_TRACEBACK"):
@@ -233,5 +228,5 @@ def _of_a_file(error: OSError) -> str:
         return str(failed(error.filename, error))
     if error.errno not in TAKES_NO_MORE:
         return ""
-    _drop(sys.stdout)
+    drop(sys.stdout)
     return str(failed("standard output", error))

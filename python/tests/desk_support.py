@@ -18,6 +18,7 @@ from urllib.parse import urlencode
 from support import TOP
 
 HOST = "127.0.0.1"
+COMMAND = "desk"  # of evp, which serves
 HAS_MODULES = all(find_spec(name) for name in ("flask", "jinja2", "waitress"))
 NO_MODULES = "Flask or waitress is missing: bash .ci/install pages"
 LINK = re.compile(r"^  (.+?) +http://127\.0\.0\.1:[0-9]+(/ledger/\S+)$", re.M)
@@ -54,7 +55,7 @@ class Desk:
         self.clients: list[Client] = []
         self.out = ledger.with_suffix(".out")
         with open(self.out, "wb") as out:
-            command = [sys.executable, TOP / "evp", "desk", "--ledger", ledger.name, "--port", self.port]
+            command = [sys.executable, TOP / "evp", COMMAND, "--ledger", ledger.name, "--port", self.port]
             self.process = subprocess.Popen(
                 [str(word) for word in (*before, *command, *words)], stdin=subprocess.DEVNULL, stdout=out,
                 stderr=subprocess.STDOUT, cwd=ledger.parent)

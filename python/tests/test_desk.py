@@ -200,7 +200,7 @@ class PeopleTest(LedgerTestCase):
         one.call("depart", 2, 7)
         before, sheet = one.get().told(), marker.get("/sheet.evp").body
         self.assertEqual(desk.stop(), 0)
-        self.assertIn("Every call that was answered is kept", desk.said)
+        self.assertIn("every call that was answered is kept", desk.said)
         found = run("desk", self.file, "--export", self.folder / "now.evp")
         self.assert_plain(found, 0)
         self.assertEqual((self.folder / "now.evp").read_bytes(), sheet)

@@ -324,16 +324,16 @@ class StartTest(unittest.TestCase):
                              (2, "evp: %s: File too large\n" % target, False))
 
     def test_interrupt(self):
-        """Ctrl-C, while a command waits and while evp starts: a line and status 2."""
+        """Ctrl-C, while a command waits and while evp starts: a line and status 130, as of any program."""
         with tempfile.TemporaryDirectory() as folder:
             pipe = Path(folder) / "pipe"
             os.mkfifo(pipe)
-            self.assertEqual(self.interrupted([TOP / "evp", "check", pipe], pipe), (2, "evp: stopped\n"))
+            self.assertEqual(self.interrupted([TOP / "evp", "check", pipe], pipe), (130, "evp: stopped\n"))
             copy = Path(folder) / "evp"
             shutil.copy(TOP / "evp", copy)
             (Path(folder) / "python" / "evp").mkdir(parents=True)
             (Path(folder) / "python" / "evp" / "cli.py").write_text("open(%r).read()\n" % str(pipe))
-            self.assertEqual(self.interrupted([copy], pipe), (2, "evp: stopped\n"))
+            self.assertEqual(self.interrupted([copy], pipe), (130, "evp: stopped\n"))
 
     def test_a_terminal_without_signs(self):
         changed = {**os.environ, "PYTHONIOENCODING": "ascii"}

@@ -5,7 +5,6 @@ import hashlib
 import io
 import json
 import re
-import threading
 import unittest
 import zipfile
 from unittest import mock
@@ -532,14 +531,14 @@ class TestRoutes(unittest.TestCase):
         sheet64 = base64.b64encode(course()).decode()
         for held, others, paths in ((turns.CLASSES, turns.PAGES, ("/class",)), (turns.PAGES, turns.CLASSES, (
                 "/sheet", "/day", "/parking", "/species", "/fuels", "/cells", "/pool", "/open"))):
-            with mock.patch.object(held, "_places", threading.Semaphore(0)):
+            with mock.patch.object(held, "_together", 0):
                 for path in paths:
                     example = {"example": ASKS[path[1:]].example} if path != "/open" else {"sheet64": sheet64}
                     self.assertEqual((path, self.post(path, **example).status_code), (path, 503))
                 self.assertEqual(self.post("/form", sheet64=sheet64).status_code, 200)
-                with others:
+                with flask.Flask("test").test_request_context(), others:
                     pass  # whose places are their own
-        with mock.patch.object(turns.CLASSES, "_places", threading.Semaphore(0)):
+        with mock.patch.object(turns.CLASSES, "_together", 0):
             self.assertEqual(self.post("/open", example="course").status_code, 503)
         for _ in range(20):  # a turn is given back, also after a page that failed
             self.assertEqual(self.post("/sheet").status_code, 400)

@@ -1,7 +1,6 @@
 """`evp serve`: makes a ledger where one is wanted, says its links once, and serves."""
 
 import secrets
-import signal
 import sys
 import time
 from argparse import Namespace
@@ -9,8 +8,11 @@ from typing import NamedTuple
 
 from evp import layout
 from evp.commands import SheetRefused, get_library
+from evp.desk.ending import Ending, Stopped, ignore_broken_pipes, log
 from evp.desk.ledger import MARKER, MOST_DIGITS, PARTICIPANTS, CourseLedger, new_person, open_first
 from evp.desk.store import Opening, Store, create, files_of
+from evp.desk.supervisor import READY, STOPPING, notify
+from evp.desk.versions import difference, found_versions
 from evp.explain import call_text, explain
 from evp.files import InputError, check_target, read_sheet, read_text, write_file
 from evp.layout import FIELDS
@@ -185,7 +187,8 @@ def add_parser(add, subparsers):
                       help="serve a network at this address of the machine, by plain HTTP that can be listened to; "
                       "without it this machine alone is served")
     desk.add_argument("--patience", type=int, default=30, metavar="SECONDS",
-                      help="how long a request may take to come in; 30 where none is given")
+                      help="how long a request may take to come in, and an answer to be read; 30 where none is "
+                      "given")
 
 
 def ledger_of(given: Namespace) -> str | None:
@@ -258,6 +261,22 @@ def export(library: Library, given: Namespace) -> int:
 
 
 def serve(library: Library, given: Namespace) -> int:
+    """Serves until a signal ends it; says which one, in the last line."""
+    ending = Ending()
+    try:
+        with ending.caught():
+            _serve(library, given, ending)
+    except Stopped:  # before anything was served
+        pass
+    except Exception:
+        if ending.fault is not None:
+            ending.say(given.ledger is not None)
+        raise
+    ending.say(given.ledger is not None)
+    return ending.status
+
+
+def _serve(library: Library, given: Namespace, ending: Ending):
     from evp.desk.app import create_app, has_pages
     from evp.desk.security import hosts_of
     from evp.desk.server import listening, server_of
@@ -277,16 +296,21 @@ def serve(library: Library, given: Namespace) -> int:
         server = server_of(create_app(hosts, ledger), listener, given.patience)
         if address not in LOOPBACK:
             print(PLAIN.format(address=address, port=port))
+        say_versions()
         print("Serving at %s until Ctrl-C." % base, flush=True)
-        signal.signal(signal.SIGTERM, _stop)
-        server.run()
+        ignore_broken_pipes()
+        notify(READY)
+        with ending.faults():
+            server.run()
+        notify(STOPPING)
     finally:
         listener.close()
         if ledger is not None:
             ledger.close()
-    print("\nStopped.%s" % (" Every call that was answered is kept." if ledger is not None else ""))
-    return 0
 
 
-def _stop(*_):
-    raise KeyboardInterrupt
+def say_versions():
+    """Where the server runs with other versions than it was tested with."""
+    said = difference(found_versions())
+    if said:
+        log("evp: %s" % said)

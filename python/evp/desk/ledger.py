@@ -150,6 +150,7 @@ class CourseLedger:
         self._queue: list[_Waiting] = []
         self._queue_lock, self._lock = threading.Lock(), threading.Lock()
         self._lost = ""
+        self._not_kept = ""  # why the last call could not be kept
 
     def _opened(self, library: Library) -> SharedLedger:
         try:
@@ -302,11 +303,19 @@ class CourseLedger:
         try:
             self.store.append(stored, digests_of(shared))
         except StoreError as error:
-            return "%s where the desk runs" % error
+            self._not_kept = "%s where the desk runs" % error
+            return self._not_kept
         except StoreLost as error:
             self._lost = str(error)
             return LOST % error
+        self._not_kept = ""
         return ""
+
+    @property
+    def trouble(self) -> str:
+        """Why calls cannot be kept, where the last one could not be; empty where all is well."""
+        why = LOST % self._lost if self._lost else self._not_kept
+        return "calls cannot be kept: %s" % why if why else ""
 
     def close(self):
         with self._lock:

@@ -1,6 +1,7 @@
 """What is turned away before a page is asked, and what every answer carries."""
 
 from collections.abc import Collection
+from functools import cache
 
 from flask import Flask, Response, request
 
@@ -28,13 +29,21 @@ WORDS = {  # of what is turned away: a heading and a sentence
     411: ("Not understood", "A request must tell how long it is."),
     413: ("Too long", "This is longer than anything that is wanted here."),
     421: ("Another name", "This desk does not go by that name. Use the address that its terminal shows."),
+    431: ("Too long", "The headers of this request are longer than any that are wanted here."),
     500: ("A fault of the desk", "This page could not be made. What was answered before is kept."),
+    501: ("Not understood", "This request is sent in a way that this server does not know."),
     503: ("Busy", "Others keep this desk busy at the moment. Try again in a minute."),
+    505: ("Not understood", "This server speaks HTTP/1.0 and HTTP/1.1."),
 }
 
 
+@cache
+def _page(status: int) -> bytes:
+    return message(status, *WORDS.get(status, WORDS[400])).data
+
+
 def turned_away(status: int) -> Response:
-    return message(status, *WORDS.get(status, WORDS[400]))
+    return Response(_page(status), status)
 
 
 def hosts_of(address: str, port: int) -> frozenset[str]:

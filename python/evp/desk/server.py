@@ -1,49 +1,154 @@
-"""waitress, with limits: a body is measured before it is read, a request must come in time, and connections that only
-stay open hold nobody up."""
+"""waitress, with limits: a body is measured before it is read, a request must come and an answer be taken in time, and
+nobody's connections, bytes or requests keep others from being served."""
 
 import errno
 import logging
 import socket
+import time
+from collections import Counter, deque
+from collections.abc import Callable
 
 from flask import Flask
-from waitress import create_server
-from waitress.channel import HTTPChannel
-from waitress.task import ErrorTask
+from waitress.adjustments import Adjustments
+from waitress.server import TcpWSGIServer
+from waitress.task import ThreadedTaskDispatcher
 
-from evp.desk.security import MOST_BODY, WORDS
+from evp.desk.channel import Channel
+from evp.desk.security import MOST_BODY
+from evp.desk.supervisor import ALIVE, notify
 from evp.files import InputError
 
-THREADS = 32
-CONNECTIONS = 4_000
+HEALTH = "/health"
+THREADS = 64
+CONNECTIONS = 1_500
+FILES_EACH = 3  # of a connection: its own, and one for a long request and a long answer
 SPARE_FILES = 200  # that are no connections
+ACCEPTS = 64  # connections that are taken in one round
+ROOM = 20  # where no more fit, one in so many is closed
+MOST_HEAD = 32_768  # bytes of the headers of a request
+MOST_IN = 256_000_000  # bytes of all requests that are not whole yet, on the disk but for the first of each
+MOST_OUT = 64_000_000  # bytes of all answers that wait to be taken
+IN_MEMORY = 32_768  # bytes of a request, the others are on the disk
+SEND_BUFFER = 262_144  # bytes of an answer that the system may hold for a client
+PAUSE = 0.1  # seconds without new connections, where the system gives none
+Size = Callable[[Channel], int]
 
 
-class TurnedAway(ErrorTask):
-    """What is turned away before it is read, in the words of all that is."""
+class FairQueue:
+    """The connections that wait for a thread, taken from each address in turn."""
 
-    def execute(self):
-        error = self.request.error
-        error.body = WORDS.get(error.code, WORDS[400])[1]
-        super().execute()
+    def __init__(self) -> None:
+        self._lines: dict[str, deque[Channel]] = {}  # the first one is the next
+        self._many = 0
+
+    def append(self, channel: Channel) -> None:
+        self._lines.setdefault(channel.addr[0], deque()).append(channel)
+        self._many += 1
+
+    def popleft(self) -> Channel:
+        address, line = next(iter(self._lines.items()))
+        found = line.popleft()
+        del self._lines[address]
+        if line:
+            self._lines[address] = line  # behind the others
+        self._many -= 1
+        return found
+
+    def __len__(self) -> int:
+        return self._many
 
 
-class Channel(HTTPChannel):
-    """A connection. What drips in does not keep it open: the time of a request counts from its first byte."""
+class Server(TcpWSGIServer):
+    """The server. It closes connections of whoever has the most before it refuses any, and answers HEALTH on a thread
+    of its own, so that it is answered where all others are taken."""
 
-    error_task_class = TurnedAway
+    channel_class = Channel
+    next_check = 0.0
+    paused_until = 0.0
 
-    def send_continue(self):
-        """Nobody is asked to go on with what is too long already."""
-        if self.request.error is None:
-            super().send_continue()
-        else:
-            self.request.expect_continue = False
+    def __init__(self, app: Flask, listener: socket.socket, adj: Adjustments):
+        self.health = ThreadedTaskDispatcher()
+        self.health.set_thread_count(1)
+        work = ThreadedTaskDispatcher()
+        work.queue = FairQueue()
+        work.set_thread_count(adj.threads)
+        sockinfo = (listener.family, listener.type, listener.proto, listener.getsockname())
+        super().__init__(app, {}, True, listener, dispatcher=work, adj=adj, bind_socket=False, sockinfo=sockinfo)
 
-    def handle_read(self):
-        began = self.last_activity if self.request is not None else None
-        super().handle_read()
-        if began is not None and self.request is not None:
-            self.last_activity = began
+    def add_task(self, task: Channel) -> None:
+        asked = getattr(task.requests[0], "path", "")
+        (self.health if asked == HEALTH else self.task_dispatcher).add_task(task)
+
+    # ------------------------------------------------------------------ in each round
+
+    def readable(self) -> bool:
+        """Whether connections are taken; called in each round, so that the limits are looked after here."""
+        now = time.monotonic()
+        if now >= self.next_check:
+            self.next_check = now + self.adj.cleanup_interval
+            self.maintenance(now)
+        return self.accepting and now >= self.paused_until
+
+    def handle_accept(self) -> None:
+        for _ in range(ACCEPTS):
+            full = len(self.active_channels) >= self.adj.connection_limit and not self.make_room()
+            try:
+                found = self.accept()
+            except OSError:  # no file number is left
+                self.paused_until = time.monotonic() + PAUSE
+                return
+            if found is None:
+                return
+            connection, address = found
+            if full:
+                connection.close()
+                continue
+            try:
+                self.set_socket_options(connection)
+                self.channel_class(self, connection, self.fix_addr(address), self.adj, map=self._map)
+            except OSError:  # it is gone already; waitress would close the listening socket for it
+                connection.close()
+
+    def set_socket_options(self, conn: socket.socket) -> None:
+        super().set_socket_options(conn)
+        conn.setsockopt(socket.SOL_SOCKET, socket.SO_SNDBUF, SEND_BUFFER)
+
+    def maintenance(self, now: float) -> None:
+        notify(ALIVE)
+        for channel in list(self.active_channels.values()):
+            if channel.overdue(now, self.adj.channel_timeout):
+                channel.drop()
+        self.shed(lambda channel: channel.total_outbufs_len, MOST_OUT)
+        self.shed(Channel.waiting_in, MOST_IN)
+
+    # ------------------------------------------------------------------ who is closed first
+
+    def make_room(self) -> bool:
+        """Closes some of the connections of the address that has the most; False where all of all are at work."""
+        now, channels = time.monotonic(), list(self.active_channels.values())
+        for address, _ in Counter(channel.addr[0] for channel in channels).most_common():
+            found = [channel for channel in channels if channel.addr[0] == address and channel.spare()]
+            found.sort(key=lambda channel: channel.worth(now))
+            for channel in found[:max(1, self.adj.connection_limit // ROOM)]:
+                channel.drop()
+            if found:
+                return True
+        return False
+
+    def shed(self, size: Size, most: int) -> None:
+        """Closes the connections with the most bytes of the address with the most, until all have no more than
+        `most`."""
+        sizes = {channel: size(channel) for channel in list(self.active_channels.values()) if size(channel)}
+        total = sum(sizes.values())
+        by_address: Counter[str] = Counter()
+        for channel, many in sizes.items():
+            by_address[channel.addr[0]] += many
+        while total > most:
+            address = by_address.most_common(1)[0][0]
+            channel = max((channel for channel in sizes if channel.addr[0] == address), key=sizes.__getitem__)
+            many = sizes.pop(channel)
+            total, by_address[address] = total - many, by_address[address] - many
+            channel.drop()
 
 
 def most_connections() -> int:
@@ -53,11 +158,12 @@ def most_connections() -> int:
     except ImportError:  # not on Windows
         return 400
     soft, hard = resource.getrlimit(resource.RLIMIT_NOFILE)
-    wanted = CONNECTIONS + SPARE_FILES
+    wanted = FILES_EACH * CONNECTIONS + SPARE_FILES
     if soft != resource.RLIM_INFINITY and soft < wanted:
         soft = wanted if hard == resource.RLIM_INFINITY else min(hard, wanted)
         resource.setrlimit(resource.RLIMIT_NOFILE, (soft, hard))
-    return CONNECTIONS if soft == resource.RLIM_INFINITY else max(100, min(CONNECTIONS, soft - SPARE_FILES))
+    fit = CONNECTIONS if soft == resource.RLIM_INFINITY else (soft - SPARE_FILES) // FILES_EACH
+    return max(100, min(CONNECTIONS, fit))
 
 
 def listening(address: str, port: int) -> socket.socket:
@@ -79,14 +185,13 @@ def listening(address: str, port: int) -> socket.socket:
     return made
 
 
-def server_of(app: Flask, listener: socket.socket, patience: int):
-    """A server that is ready to run. `patience` is how many seconds a request may take to come, and a connection may
-    stay without one."""
+def server_of(app: Flask, listener: socket.socket, patience: int) -> Server:
+    """A server that is ready to run. `patience` is how many seconds a request may take to come, an answer may wait to
+    be taken, and a connection may stay without either."""
     for name in ("waitress", "waitress.queue"):  # a queue is no matter for the terminal, and an address may be a key
         logging.getLogger(name).setLevel(logging.CRITICAL)
-    server = create_server(
-        app, sockets=[listener], threads=THREADS, ident=None, max_request_body_size=MOST_BODY,
-        connection_limit=most_connections(), backlog=1024, channel_timeout=patience,
-        cleanup_interval=max(1, patience // 6), asyncore_use_poll=True, clear_untrusted_proxy_headers=True)
-    server.channel_class = Channel
-    return server
+    adj = Adjustments(
+        sockets=[listener], threads=THREADS, ident=None, max_request_body_size=MOST_BODY,
+        max_request_header_size=MOST_HEAD, inbuf_overflow=IN_MEMORY, connection_limit=most_connections(), backlog=1024,
+        channel_timeout=patience, cleanup_interval=1, asyncore_use_poll=True, clear_untrusted_proxy_headers=True)
+    return Server(app, listener, adj)

@@ -6,7 +6,7 @@ import binascii
 import json
 import re
 from collections.abc import Callable
-from functools import wraps
+from functools import cache, wraps
 from pathlib import PurePosixPath
 
 from flask import Blueprint, Response, abort, jsonify, request
@@ -19,7 +19,7 @@ from evp.hints import with_hints
 from evp.layout import row_count, season_count
 from evp.library import SHEET_BYTES, Refusal
 from evp.pages import forms
-from evp.pages.asks import examples, page_ask, page_home
+from evp.pages.asks import ASKS, examples, page_ask, page_home
 from evp.pages.classes import page_class
 from evp.pages.days import page_day
 from evp.pages.fuels import page_fuels
@@ -27,7 +27,7 @@ from evp.pages.parkings import page_parking
 from evp.pages.render import policy
 from evp.pages.sheets import page_sheet
 from evp.pages.splits import page_cells, page_pool, page_species
-from evp.pages.turns import CLASSES, PAGES, Turns
+from evp.pages.turns import CLASSES, FORMS, PAGES, Turns
 from evp.tables import table_text
 from evp.wording import counted, name_shown
 
@@ -122,7 +122,7 @@ def page(what: str, turns: Turns = PAGES) -> Callable:
         @wraps(show)
         def answer():
             if request.method == "GET":
-                return page_ask(what)
+                return _empty(what)
             try:
                 given = _given()
                 with turns:
@@ -148,9 +148,21 @@ def accepted(show: Callable[[str, bytes], str]) -> Callable[[Given], str]:
 # ------------------------------------------------------------------ the pages
 
 
+@cache
+def _empty(what: str) -> str:
+    """A page that asks for files, or an empty form. It is always the same, and the form takes 24 ms to make."""
+    return {"home": page_home, "form": forms.page_form}.get(what, lambda: page_ask(what))()
+
+
+def prepare():
+    """Makes the pages that are always the same, so that no crowd of first requests makes each of them at once."""
+    for what in ("home", "form", *ASKS):
+        _empty(what)
+
+
 @blueprint.get("/")
 def home():
-    return page_home()
+    return _empty("home")
 
 
 @blueprint.post("/open")
@@ -226,7 +238,8 @@ def show_sheet(given: Given) -> str:
 @blueprint.post("/sheet/save")
 def save_sheet():
     try:
-        name, data = _sheet(_given())
+        with FORMS:
+            name, data = _sheet(_given())
     except InputError as error:
         return page_ask("sheet", str(error)), 400
     return _file(name, "evp", data)
@@ -290,12 +303,13 @@ def show_pool(given: Given) -> str:
 @blueprint.route("/form", methods=["GET", "POST"])
 def show_form():
     if request.method == "GET":
-        return forms.page_form()
-    try:
-        name, data = _sheet(_given())
-        return forms.page_form(forms.form_from(data, name), name.removesuffix(".evp"))
-    except InputError as error:
-        return forms.page_form(message=str(error)), 400
+        return _empty("form")
+    with FORMS:
+        try:
+            name, data = _sheet(_given())
+            return forms.page_form(forms.form_from(data, name), name.removesuffix(".evp"))
+        except InputError as error:
+            return forms.page_form(message=str(error)), 400
 
 
 def _form(word: str | None) -> forms.Form:
@@ -309,7 +323,8 @@ def _form(word: str | None) -> forms.Form:
 def check_form():
     """The explanation of a form, with the number that was sent along, so that a page knows the latest."""
     try:
-        found = forms.check_form(get_library(), _form(request.get_data(as_text=True)))
+        with FORMS:
+            found = forms.check_form(get_library(), _form(request.get_data(as_text=True)))
     except InputError as error:
         return jsonify({"state": "unread", "line": str(error), "faults": [], "doubts": []}), 400
     serial = request.args.get("serial", "0")
@@ -320,25 +335,30 @@ def check_form():
 def read_form():
     """The form of a sheet that was dropped, or what its tables give of one."""
     try:
-        files = _given().get("files", [])
-        tables = {name: data for name, data in files if name.lower().endswith(".csv")}
-        if tables:
-            return jsonify({"form": forms.form_from_tables(tables)})
-        name, data = _sheet({"files": files})
-        return jsonify({"form": forms.form_from(data, name), "name": PurePosixPath(name).stem})
+        with FORMS:
+            return _read_form(_given().get("files", []))
     except InputError as error:
         return jsonify({"message": str(error)}), 400
+
+
+def _read_form(files: list[tuple[str, bytes]]) -> Response:
+    tables = {name: data for name, data in files if name.lower().endswith(".csv")}
+    if tables:
+        return jsonify({"form": forms.form_from_tables(tables)})
+    name, data = _sheet({"files": files})
+    return jsonify({"form": forms.form_from(data, name), "name": PurePosixPath(name).stem})
 
 
 @blueprint.post("/form/save")
 def save_form():
     """The sheet or its tables as a file."""
-    try:
-        made = forms.made_of(_form(request.form.get("form")))
-    except InputError as error:
-        return forms.page_form(message=str(error)), 400
-    if made.data is None:
-        return forms.page_form(message="nothing saved: %s cannot be read" % counted(len(made.faults), "field")), 400
+    with FORMS:
+        try:
+            made = forms.made_of(_form(request.form.get("form")))
+            if made.data is None:
+                raise InputError("nothing saved: %s cannot be read" % counted(len(made.faults), "field"))
+        except InputError as error:
+            return forms.page_form(message=str(error)), 400
     name = request.form.get("name", "")
     if request.form.get("what") == "csv":
         return _file(name + "-csv", "zip", forms.tables_of(made.data))
