@@ -1,0 +1,102 @@
+"""The server as a process of its own, with its memory and its open descriptors."""
+
+import os
+import re
+import signal
+import subprocess
+import sys
+import threading
+import time
+from collections.abc import Mapping
+from pathlib import Path
+from typing import NamedTuple
+
+from desk_support import LINK, START, free_port
+from support import TOP
+
+COMMAND = "desk"  # the command of evp that serves
+
+
+class Use(NamedTuple):
+    """What a process uses at a moment."""
+    memory: float  # resident, in MB
+    descriptors: int
+    threads: int
+
+
+class Server:
+    """The server with a ledger; `links` are nine paths, the marker's first, where the ledger is new."""
+
+    def __init__(self, ledger: Path, *words: object, environment: Mapping[str, str] | None = None):
+        self.ledger, self.port = ledger, free_port()
+        self._out = ledger.with_suffix(".out")
+        command = [sys.executable, TOP / "evp", COMMAND, "--ledger", ledger.name, "--port", self.port, *words]
+        with open(self._out, "wb") as out:
+            self.process = subprocess.Popen(
+                [str(word) for word in command], stdin=subprocess.DEVNULL, stdout=out, stderr=subprocess.STDOUT,
+                cwd=ledger.parent, env={**os.environ, **(environment or {})})
+        self._await()
+        self.links = [link for _, link in LINK.findall(self.printed)]
+
+    @property
+    def printed(self) -> str:
+        return self._out.read_text(encoding="utf-8", errors="replace")
+
+    def _await(self):
+        last = time.monotonic() + START
+        while "Serving at" not in self.printed:
+            if not self.is_alive() or time.monotonic() > last:
+                self.kill()
+                raise AssertionError("the server did not start: %s" % self.printed)
+            time.sleep(0.02)
+
+    def is_alive(self) -> bool:
+        return self.process.poll() is None
+
+    def use(self) -> Use:
+        """What the process uses now; zeros where it has ended."""
+        folder = Path("/proc/%d" % self.process.pid)
+        try:
+            status = (folder / "status").read_text()
+            memory = int(re.search(r"VmRSS:\s+([0-9]+) kB", status)[1]) / 1024
+            return Use(memory, len(os.listdir(folder / "fd")), int(re.search(r"Threads:\s+([0-9]+)", status)[1]))
+        except (OSError, TypeError):
+            return Use(0, 0, 0)
+
+    def seconds(self) -> float:
+        """Processor time that the process has used."""
+        try:
+            fields = Path("/proc/%d/stat" % self.process.pid).read_text().rpartition(")")[2].split()
+        except OSError:
+            return 0
+        return (int(fields[11]) + int(fields[12])) / os.sysconf("SC_CLK_TCK")
+
+    def stop(self) -> int:
+        """Its exit status after SIGTERM."""
+        self.process.send_signal(signal.SIGTERM)
+        try:
+            return self.process.wait(30)
+        except subprocess.TimeoutExpired:
+            self.kill()
+            return -signal.SIGKILL
+
+    def kill(self):
+        self.process.kill()
+        self.process.wait()
+
+
+class Watch(threading.Thread):
+    """Looks at what a server uses twice a second, and keeps the most."""
+
+    def __init__(self, server: Server):
+        super().__init__(daemon=True)
+        self._server, self._ended = server, threading.Event()
+        self.most = server.use()
+
+    def run(self):
+        while not self._ended.wait(0.5):
+            self.most = Use(*map(max, self.most, self._server.use()))
+
+    def stop(self):
+        self._ended.set()
+        self.join()
