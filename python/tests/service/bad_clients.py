@@ -126,10 +126,9 @@ def _many_fields(port: int, chance: random.Random) -> bytes:
 
 
 def _upload(port: int, chance: random.Random) -> bytes:
-    files = [(path.name, path.read_bytes()) for path in (SAMPLES / "course").iterdir() if path.suffix == ".evp"]
-    files = [("files", *file) for file in chance.sample(files, 3)]
-    filed = ("files", "filed.csv", (SAMPLES / "course" / "filed.csv").read_bytes())
-    headers, body = wire.multipart((*files, filed))
+    paths = chance.sample(sorted((SAMPLES / "course").glob("*.evp")), 3)
+    files = [("files", path.name, path.read_bytes()) for path in (*paths, SAMPLES / "course" / "filed.csv")]
+    headers, body = wire.multipart(files)
     return wire.request(port, "POST", "/class", body, headers)
 
 
@@ -319,7 +318,8 @@ class Hogging(Client):
 
     def __init__(self, many: int, *more):
         super().__init__(*more)
-        self._many, self._held = many, []
+        self._many = many
+        self._held: list[socket.socket] = []
 
     def once(self):
         for _ in range(min(250, self._many - len(self._held))):

@@ -38,7 +38,7 @@ CLIENTS = 6  # that send requests at once
 SILENCE = 1.0  # seconds without a byte, after which a request is taken to be one that the server waits for more of
 NO_FAULTS = (501, 503, 505, 507)  # of all from 500
 HEADERS = {"cache-control": "no-store", "x-content-type-options": "nosniff", "referrer-policy": "no-referrer",
-           "content-security-policy": "", "x-frame-options": "DENY"}
+           "content-security-policy": "frame-ancestors 'none'", "x-frame-options": "DENY"}
 
 
 class Found(NamedTuple):
@@ -105,7 +105,7 @@ def placed(data: bytes, server: Server) -> bytes:
             .replace(b"{PARTICIPANT}", server.links[1].encode()))
 
 
-def fault_of_answer(answer: wire.Answer, begun: bytes = b"") -> str:
+def fault_of_answer(answer: wire.Answer) -> str:
     """What is wrong with an answer of the server."""
     if answer == wire.NO_ANSWER:
         return ""  # the server waits for more, or has closed the connection
@@ -113,7 +113,7 @@ def fault_of_answer(answer: wire.Answer, begun: bytes = b"") -> str:
         return "an answer without a status line: %r" % (answer.headers[:3],)
     if answer.status >= 500 and answer.status not in NO_FAULTS:
         return "status %d" % answer.status
-    missing = [name for name, value in HEADERS.items() if value not in (answer.header(name) or "none")]
+    missing = [name for name, value in HEADERS.items() if value not in (answer.header(name) or "absent")]
     return "status %d without %s" % (answer.status, ", ".join(missing)) if missing else ""
 
 
@@ -128,20 +128,25 @@ class Sender(threading.Thread):
     def run(self):
         corpus = [placed(data, self.server) for data in inputs_of(HTTP).values()]
         for number in range(self.first, 10 ** 9, CLIENTS):
-            if time.monotonic() > self.until and number >= len(corpus) or len(self.found) >= 20:
+            over = time.monotonic() > self.until and number >= len(corpus)
+            if over or len(self.found) >= 20 or not self.server.is_alive():
                 return
             data = input_of(HTTP, number, self.seed, corpus)
-            began = time.monotonic()
-            try:
-                answer = wire.exchange(self.server.port, data, "127.0.0.%d" % (2 + self.first), SILENCE)
-                fault = fault_of_answer(answer)
-            except OSError as error:
-                answer, fault = wire.NO_ANSWER, "" if self.server.is_alive() else "no connection: %s" % error
-            self.statuses[answer.status] += 1
-            if not fault and time.monotonic() - began > MOST_SECONDS:
-                fault = "it took %.1f s" % (time.monotonic() - began)
+            fault = self.fault_of(data)
             if fault:
                 self.found.append(Found(HTTP, "seed %d, number %d" % (self.seed, number), data, fault))
+
+    def fault_of(self, data: bytes) -> str:
+        """What is wrong with the answer to some bytes."""
+        began = time.monotonic()
+        try:
+            answer = wire.exchange(self.server.port, data, "127.0.0.%d" % (2 + self.first), SILENCE)
+        except OSError as error:
+            time.sleep(0.1)  # a process that ends takes a moment
+            return "" if self.server.is_alive() else "the server ended: %s" % error
+        self.statuses[answer.status] += 1
+        took = time.monotonic() - began
+        return fault_of_answer(answer) or ("it took %.1f s" % took if took > MOST_SECONDS else "")
 
 
 def fuzz_server(folder: Path, seconds: float, seed: int) -> tuple[Counter, list[Found]]:

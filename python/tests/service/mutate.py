@@ -8,11 +8,11 @@ MOST = 400_000  # bytes of an input
 NUMBERS = tuple(b"0 -1 1 9 00 1e9 1.5 1,5 255 256 65535 65536 10000000 10000001 4294967296 18446744073709551615 "
                 b"18446744073709551616 99999999999999999999999999999999 -0 +1 0x10 1_000 inf nan".split()) + (
     "\N{ARABIC-INDIC DIGIT THREE}".encode(), "\N{SUPERSCRIPT TWO}".encode(), b"")
-SIGNS = (b"\x00", b"\n", b"\r", b"\r\n", b"\t", b'"', b"'", b",", b";", b"=", b"#", b":", b" ", b"\xef\xbb\xbf",
-         b"\xff", b"\xc3", b"\x1b[31m", b"\x07", b"\x7f", "\N{RIGHT-TO-LEFT OVERRIDE}".encode(), "\N{LINE SEPARATOR}".encode(),
-         "\N{NEXT LINE}".encode(), "\N{GRINNING FACE}".encode(), b"\xed\xa0\x80", b"=1+1", b"@SUM(1)", b"-2+3",
-         b"{", b"}", b"[", b"]", b"null", b"true", b"\\u0000", b"\\ud800", b"%00", b"%2e%2e/", b"sep=;\n", b"total",
-         b"all")
+SIGNS = (
+    b"\x00", b"\n", b"\r", b"\r\n", b"\t", b'"', b"'", b",", b";", b"=", b"#", b":", b" ", b"\xef\xbb\xbf", b"\xff",
+    b"\xc3", b"\x1b[31m", b"\x07", b"\x7f", "\N{RIGHT-TO-LEFT OVERRIDE}".encode(), "\N{LINE SEPARATOR}".encode(),
+    b"\xc2\x85", "\N{GRINNING FACE}".encode(), b"\xed\xa0\x80", b"=1+1", b"@SUM(1)", b"-2+3", b"{", b"}", b"[", b"]",
+    b"null", b"true", b"\\u0000", b"\\ud800", b"%00", b"%2e%2e/", b"sep=;\n", b"total", b"all")
 Change = Callable[[bytes, random.Random, Sequence[bytes]], bytes]
 
 

@@ -68,7 +68,7 @@ def make_recorder(folder: Path) -> Path:
     """The recorder as a library to preload."""
     made = folder / "recorder.so"
     source = Path(__file__).with_name("recorder.c")
-    subprocess.run([COMPILER, "-shared", "-fPIC", "-O1", "-o", made, source, "-ldl"], check=True)
+    subprocess.run([COMPILER or "cc", "-shared", "-fPIC", "-O1", "-o", made, source, "-ldl"], check=True)
     return made
 
 
@@ -252,8 +252,12 @@ def whole(recording: Recording) -> bool:
     return disk.cut("all", random.Random(0)) == recording.after
 
 
-def faults(recording: Recording, states: int, seed: int, folder: Path) -> list[str]:
-    found = (fault_of(recording, number, seed, folder / "state") for number in range(states))
+def faults(recording: Recording, states: int, seed: int) -> list[str]:
+    """What is wrong with the first states of a seed. They are files in memory where that can be: what a sync of theirs
+    takes shows nothing."""
+    memory = "/dev/shm" if os.access("/dev/shm", os.W_OK) else None
+    with tempfile.TemporaryDirectory(dir=memory) as folder:
+        found = [fault_of(recording, number, seed, Path(folder) / "state") for number in range(states)]
     return [fault for fault in found if fault]
 
 
@@ -276,7 +280,7 @@ def main() -> int:
         return 0
     with tempfile.TemporaryDirectory() as name:
         recording = record(Path(name), given.calls, given.unsafe)
-        found = faults(recording, given.states, given.seed, Path(name))
+    found = faults(recording, given.states, given.seed)
     print("%s; %d states, %d at fault" % (counts(recording), given.states, len(found)))
     print("\n".join(found[:10]))
     return 1 if found or not whole(recording) else 0

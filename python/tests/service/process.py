@@ -58,9 +58,9 @@ class Server:
         folder = Path("/proc/%d" % self.process.pid)
         try:
             status = (folder / "status").read_text()
-            memory = int(re.search(r"VmRSS:\s+([0-9]+) kB", status)[1]) / 1024
-            return Use(memory, len(os.listdir(folder / "fd")), int(re.search(r"Threads:\s+([0-9]+)", status)[1]))
-        except (OSError, TypeError):
+            found = dict(re.findall(r"(VmRSS|Threads):\s+([0-9]+)", status))
+            return Use(int(found["VmRSS"]) / 1024, len(os.listdir(folder / "fd")), int(found["Threads"]))
+        except (OSError, KeyError):  # it ends, or has ended
             return Use(0, 0, 0)
 
     def seconds(self) -> float:

@@ -57,7 +57,7 @@ LIMITS = Limits()
 
 class Times(NamedTuple):
     """Of requests of a kind: how many, and their seconds."""
-    count: int
+    many: int
     p50: float
     p99: float
     most: float
@@ -304,7 +304,7 @@ def _lines(result: Result):
         result.seconds, " ".join("%.1f" % load for load in os.getloadavg()), result.processor)
     for name, times in result.times.items():
         yield "%ss: %d, %.1f a second, p50 %.0f ms, p99 %.0f ms, most %.0f ms" % (
-            name, times.count, times.count / result.seconds, *(1000 * time for time in times[1:]))
+            name, times.many, times.many / result.seconds, *(1000 * time for time in times[1:]))
     for name in Use._fields:
         yield "%s: %.0f at start, %.0f at most, %.0f at end" % (
             name, *(getattr(use, name) for use in (result.start, result.most, result.end)))
@@ -426,7 +426,7 @@ def beyond(result: Result, limits: Limits = LIMITS) -> list[str]:
              ("descriptors at the end beside the start", abs(result.end.descriptors - result.start.descriptors),
               limits.descriptors_more)]
     problems = ["%s: %.1f, and %.1f is the limit" % line for line in found if line[1] > line[2]]
-    return problems + ["there were no %ss" % kind for kind, times in result.times.items() if not times.count]
+    return problems + ["there were no %ss" % kind for kind, times in result.times.items() if not times.many]
 
 
 def main() -> int:

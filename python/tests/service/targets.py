@@ -51,8 +51,8 @@ def _filed(data: bytes):
         require_plain(line)
     written = marking.marks_csv(marks, table.semicolon)
     cells = csv.reader(io.StringIO(written, newline=""), delimiter=";" if table.semicolon else ",", strict=True)
-    for line in cells:
-        require(not any(cell.startswith(FORMULAS) for cell in line), "marks.csv has a formula: %r" % line[:5])
+    for row in cells:
+        require(not any(cell.startswith(FORMULAS) for cell in row), "marks.csv has a formula: %r" % row[:5])
 
 
 def _travel(data: bytes):
@@ -127,13 +127,15 @@ def _sheet(data: bytes):
         text = sheet.read(data)
         require(sheet.write(text) == data, "the text of a sheet does not give the same sheet")
         LIBRARY.report(data)
-    for read in (sheet.read, folder_of, lambda data: forms.form_from(data, "sheet.evp")):
+    for read in READS:
         try:
             read(data)
         except PLAIN as error:
             check_message(error)
 
 
+READS: tuple[Callable[[bytes], object], ...] = (
+    sheet.read, folder_of, lambda data: forms.form_from(data, "sheet.evp"))
 TARGETS: dict[str, Callable[[bytes], None]] = {
     "filed": _filed, "travel": _travel, "owners": _owners, "text": _text, "tables": _tables, "form": _form,
     "sheet": _sheet}

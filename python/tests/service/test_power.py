@@ -19,13 +19,13 @@ class PowerTest(DeskTestCase):
         self.assertEqual(len(recording.calls), CALLS)
         self.assertEqual(recording.answered(len(recording.events)).total(), CALLS)
         self.assertTrue(power.whole(recording), "the recorder has missed something")
-        self.assertEqual(power.faults(recording, STATES, 1, self.folder), [])
+        self.assertEqual(power.faults(recording, STATES, 1), [])
         print("power cuts: %s; %d states" % (power.counts(recording), STATES), file=sys.stderr)
 
     def test_a_ledger_without_syncs_is_found(self):
         recording = power.record(self.folder, 24, unsafe=True)
         self.assertTrue(power.whole(recording), "the recorder has missed something")
-        self.assertNotEqual(power.faults(recording, 20, 1, self.folder), [])
+        self.assertNotEqual(power.faults(recording, 20, 1), [])
 
 
 if __name__ == "__main__":
