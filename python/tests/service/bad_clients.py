@@ -263,8 +263,19 @@ class Stalling(Client):
                 pass
         self.pause(HOLD)
         for connection in held:
+            _send_one(connection)
+        time.sleep(0.3)
+        for connection in held:
             self.outcomes.add("stalled reader", "let go by the server" if _is_ended(connection) else "held to its end")
             wire.end(connection, self.chance.random() < 0.5)
+
+
+def _send_one(connection: socket.socket):
+    """A byte more: a reset does not reach a client whose buffers are full, but the answer to this byte does."""
+    try:
+        connection.send(b"G")
+    except OSError:
+        pass  # it is known already
 
 
 def _is_ended(connection: socket.socket) -> bool:

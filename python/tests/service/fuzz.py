@@ -9,6 +9,7 @@ and a seed is always the same one, as long as the corpus is. What leads to a fau
 
 import argparse
 import random
+import re
 import resource
 import sys
 import tempfile
@@ -34,8 +35,8 @@ CORPUS = Path(__file__).with_name("corpus")
 MOST_SECONDS = 10  # of an input, on a machine that others use too
 MOST_MEMORY = 300  # MB that an input may need above what was needed before
 HTTP = "http"
-CLIENTS = 6  # that send requests at once
-SILENCE = 1.0  # seconds without a byte, after which a request is taken to be one that the server waits for more of
+CLIENTS = 12  # that send requests at once
+SILENCE = 0.5  # seconds without a byte, after which a request is taken to be one that the server waits for more of
 NO_FAULTS = (501, 503, 505, 507)  # of all from 500
 HEADERS = {"cache-control": "no-store", "x-content-type-options": "nosniff", "referrer-policy": "no-referrer",
            "content-security-policy": "frame-ancestors 'none'", "x-frame-options": "DENY"}
@@ -61,7 +62,14 @@ def input_of(kind: str, number: int, seed: int, corpus: list[bytes]) -> bytes:
     if number < len(corpus):
         return corpus[number]
     chance = random.Random("%s %d %d" % (kind, seed, number))
-    return mutated(chance.choice(corpus), chance, corpus)
+    data = mutated(chance.choice(corpus), chance, corpus)
+    return with_length(data) if kind == HTTP and chance.random() < 0.7 else data
+
+
+def with_length(data: bytes) -> bytes:
+    """A request that says how long its body is, so that what was changed in the body is read."""
+    head, end, body = data.partition(b"\r\n\r\n")
+    return re.sub(rb"(?i)content-length: *[0-9]+", b"Content-Length: %d" % len(body), head, count=1) + end + body
 
 
 # ------------------------------------------------------------------ functions
