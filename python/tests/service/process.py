@@ -86,16 +86,22 @@ class Server:
 
 
 class Watch(threading.Thread):
-    """Looks at what a server uses twice a second, and keeps the most."""
+    """Looks at what a server uses twice a second; keeps all of it, and the most."""
 
     def __init__(self, server: Server):
         super().__init__(daemon=True)
         self._server, self._ended = server, threading.Event()
-        self.most = server.use()
+        self.seen = [server.use()]
+        self.most = self.seen[0]
 
     def run(self):
         while not self._ended.wait(0.5):
-            self.most = Use(*map(max, self.most, self._server.use()))
+            self.seen.append(self._server.use())
+            self.most = Use(*map(max, self.most, self.seen[-1]))
+
+    def tenths(self) -> list[Use]:
+        """What was used after each tenth of the time."""
+        return [self.seen[(len(self.seen) - 1) * i // 10] for i in range(11)]
 
     def stop(self):
         self._ended.set()
