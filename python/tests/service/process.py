@@ -7,7 +7,7 @@ import subprocess
 import sys
 import threading
 import time
-from collections.abc import Mapping
+from collections.abc import Iterable
 from pathlib import Path
 from typing import NamedTuple
 
@@ -27,14 +27,15 @@ class Use(NamedTuple):
 class Server:
     """The server with a ledger; `links` are nine paths, the marker's first, where the ledger is new."""
 
-    def __init__(self, ledger: Path, *words: object, environment: Mapping[str, str] | None = None):
+    def __init__(self, ledger: Path, *words: object, before: Iterable[object] = ()):
+        """Starts it; `before` are words in front of the command, as those of another program that starts it."""
         self.ledger, self.port = ledger, free_port()
         self._out = ledger.with_suffix(".out")
-        command = [sys.executable, TOP / "evp", COMMAND, "--ledger", ledger.name, "--port", self.port, *words]
+        command = [*before, sys.executable, TOP / "evp", COMMAND, "--ledger", ledger.name, "--port", self.port, *words]
         with open(self._out, "wb") as out:
             self.process = subprocess.Popen(
                 [str(word) for word in command], stdin=subprocess.DEVNULL, stdout=out, stderr=subprocess.STDOUT,
-                cwd=ledger.parent, env={**os.environ, **(environment or {})})
+                cwd=ledger.parent)
         self._await()
         self.links = [link for _, link in LINK.findall(self.printed)]
 
