@@ -1,5 +1,6 @@
 """A client that holds all connections there are: everyone else is served, each on a new connection."""
 
+import threading
 import time
 import unittest
 from collections import Counter
@@ -10,26 +11,34 @@ from support import SAMPLES, DeskTestCase
 from service import bad_clients, wire
 from service.process import Server
 
-SECONDS = 6
-FILES = ("prlimit", "--nofile=600:600")  # open at once, so that few connections fit in
+SECONDS = 8
+CLIENTS = 6  # that open a connection for each of their requests
+FILES = ("prlimit", "--nofile=2000:2000")  # open at once, so that 600 connections fit in
+HELD = 800  # wanted by each of two hogs
 
 
 @unittest.skipUnless(HAS_MODULES, NO_MODULES)
 class RoomTest(DeskTestCase):
     def test_new_connections_beside_a_hog(self):
-        server = Server(self.folder / "course.db", "--new", SAMPLES / "region.evp", "--patience", 5, before=FILES)
+        """With patience 1 the server drops connections in the same moment in which it takes new ones, which then have
+        the same file numbers."""
+        server = Server(self.folder / "course.db", "--new", SAMPLES / "region.evp", "--patience", 1, before=FILES)
         self.addCleanup(server.kill)
-        outcomes, until, statuses = bad_clients.Outcomes(), time.monotonic() + SECONDS, Counter[int]()
-        hogs = [bad_clients.Hogging(300, server.port, "1", until, outcomes, "127.0.0.%d" % i) for i in (2, 3)]
-        for hog in hogs:
-            hog.start()
+        outcomes, until, statuses = bad_clients.Outcomes(), time.monotonic() + SECONDS, list[int]()
+        threads: list[threading.Thread] = [
+            bad_clients.Hogging(HELD, server.port, "1", until, outcomes, "127.0.0.%d" % i) for i in (2, 3)]
+        threads += [threading.Thread(target=self.ask, args=(server.port, until, statuses)) for _ in range(CLIENTS)]
+        for thread in threads:
+            thread.start()
+        for thread in threads:
+            thread.join(60)
+        self.assertEqual(set(statuses), {200}, Counter(statuses))
+        self.assertGreater(outcomes.kinds["connection hog"]["let go by the server"], HELD)
+
+    def ask(self, port: int, until: float, statuses: list[int]):
+        raw = wire.request(port, "GET", "/", headers={"Connection": "close"})
         while time.monotonic() < until:
-            answer = wire.exchange(server.port, wire.request(server.port, "GET", "/", headers={"Connection": "close"}))
-            statuses[answer.status] += 1
-        for hog in hogs:
-            hog.join(30)
-        self.assertEqual(set(statuses), {200}, statuses)
-        self.assertGreater(outcomes.kinds["connection hog"]["let go by the server"], 300)
+            statuses.append(wire.exchange(port, raw).status)
 
 
 if __name__ == "__main__":
