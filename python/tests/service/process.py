@@ -2,6 +2,7 @@
 
 import os
 import re
+import resource
 import signal
 import subprocess
 import sys
@@ -84,6 +85,32 @@ class Server:
     def kill(self):
         self.process.kill()
         self.process.wait()
+
+
+class Processors:
+    """How much of the machine's processors others use from now on, so that limits of time can allow for it."""
+
+    def __init__(self, server: Server):
+        self._server = server
+        self._busy, self._all = self._machine()
+        self._own = self._ours()
+
+    def _machine(self) -> tuple[float, float]:
+        """Seconds of all processors that were used, and all seconds."""
+        with open("/proc/stat", encoding="ascii") as file:
+            found = [int(word) / os.sysconf("SC_CLK_TCK") for word in file.readline().split()[1:9]]
+        return sum(found) - found[3] - found[4], sum(found)  # without idle and waiting for the disk
+
+    def _ours(self) -> float:
+        """Seconds of the server, of this process, and of those that it started and that have ended."""
+        used = (resource.getrusage(who) for who in (resource.RUSAGE_SELF, resource.RUSAGE_CHILDREN))
+        return self._server.seconds() + sum(use.ru_utime + use.ru_stime for use in used)
+
+    def left(self) -> float:
+        """The share of the processors that others left, 0.02 at least."""
+        busy, total = self._machine()
+        others = busy - self._busy - (self._ours() - self._own)
+        return min(1.0, max(0.02, 1 - others / max(0.01, total - self._all)))
 
 
 class Watch(threading.Thread):
