@@ -37,6 +37,7 @@ MOST_MEMORY = 300  # MB that an input may need above what was needed before
 HTTP = "http"
 CLIENTS = 12  # that send requests at once
 SILENCE = 0.5  # seconds without a byte, after which a request is taken to be one that the server waits for more of
+ANSWER = 60  # seconds, in which each request of the corpus is answered on a machine that others use too
 NO_FAULTS = (501, 503, 505, 507)  # of all from 500
 HEADERS = {"cache-control": "no-store", "x-content-type-options": "nosniff", "referrer-policy": "no-referrer",
            "content-security-policy": "frame-ancestors 'none'", "x-frame-options": "DENY"}
@@ -140,21 +141,23 @@ class Sender(threading.Thread):
             if over or len(self.found) >= 20 or not self.server.is_alive():
                 return
             data = input_of(HTTP, number, self.seed, corpus)
-            fault = self.fault_of(data)
+            fault = self.fault_of(data, SILENCE if number >= len(corpus) else ANSWER)
             if fault:
                 self.found.append(Found(HTTP, "seed %d, number %d" % (self.seed, number), data, fault))
 
-    def fault_of(self, data: bytes) -> str:
-        """What is wrong with the answer to some bytes."""
+    def fault_of(self, data: bytes, wait: float) -> str:
+        """What is wrong with the answer to some bytes. Each request of the corpus gets one."""
         began = time.monotonic()
         try:
-            answer = wire.exchange(self.server.port, data, "127.0.0.%d" % (2 + self.first), SILENCE)
+            answer = wire.exchange(self.server.port, data, "127.0.0.%d" % (2 + self.first), wait)
         except OSError as error:
             time.sleep(0.1)  # a process that ends takes a moment
             return "" if self.server.is_alive() else "the server ended: %s" % error
         self.statuses[answer.status] += 1
         took = time.monotonic() - began
-        return fault_of_answer(answer) or ("it took %.1f s" % took if took > MOST_SECONDS else "")
+        if wait == ANSWER and not answer.status:
+            return "no answer in %.1f s" % took
+        return fault_of_answer(answer) or ("it took %.1f s" % took if wait != ANSWER and took > MOST_SECONDS else "")
 
 
 def fuzz_server(folder: Path, seconds: float, seed: int) -> tuple[Counter, list[Found]]:

@@ -73,18 +73,18 @@ def exchange(port: int, raw: bytes, source: str = HOST, timeout: float = 30) -> 
             connection.sendall(raw)
         except OSError:
             pass  # the server may answer before all is sent
-        return read_answer(connection)
+        return read_answer(connection, not raw.startswith(b"HEAD "))
 
 
-def read_answer(connection: socket.socket, begun: bytes = b"") -> Answer:
+def read_answer(connection: socket.socket, has_body: bool = True) -> Answer:
     """The next answer that is no 1xx."""
-    data, more = bytearray(begun), True
+    data, more = bytearray(), True
     while more:
         head, found, rest = bytes(data).partition(b"\r\n\r\n")
         if found:
             answer = _head(head)
             if not 100 <= answer.status < 200:
-                return _body(connection, answer, rest)
+                return _body(connection, answer, rest) if has_body else answer._replace(whole=True)
             data = bytearray(rest)
             continue
         more = _receive(connection, data)
