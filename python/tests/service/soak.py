@@ -85,6 +85,7 @@ class Worker(threading.Thread):
         self.seconds: dict[str, list[float]] = {"call": [], "page": [], "upload": []}
         self.problems: list[str] = []
         self.waits = 0  # answers 503: asked to come again
+        self.again = 0  # connections that the server had closed, as it does with those that are idle
 
     def run(self):
         try:
@@ -104,6 +105,7 @@ class Worker(threading.Thread):
         try:
             answer = self.client.ask(method, path, body, headers)
         except (ConnectionError, HTTPException):
+            self.again += 1
             self.client.close()
             answer = self.client.ask(method, path, body, headers)
         self.seconds[kind].append(time.monotonic() - began)
@@ -296,6 +298,7 @@ class Result(NamedTuple):
     answered: int
     cut: int
     waits: int
+    again: int
     bad: dict[str, dict[str, int]]
     problems: list[str]
 
@@ -314,8 +317,8 @@ def _lines(result: Result):
         start, most, end = (getattr(use, name) for use in (result.start, result.most, result.end))
         yield "%s: %.0f at start, %.0f at most, %.0f at end" % (name, start, most, end)
     yield "memory after each tenth of the time: %s" % " ".join("%.0f" % use.memory for use in result.tenths)
-    yield "calls: %d answered, %d left before an answer, %d in the ledger; asked to wait %d times" % (
-        result.answered, result.cut, result.kept, result.waits)
+    yield "calls: %d answered, %d left before an answer, %d in the ledger; told to wait %d times, connected again %d" % (
+        result.answered, result.cut, result.kept, result.waits, result.again)
     for kind, outcomes in sorted(result.bad.items()):
         yield "bad clients, %s: %s" % (kind, ", ".join("%d %s" % pair[::-1] for pair in sorted(outcomes.items())))
     for problem in result.problems:
@@ -352,9 +355,10 @@ def _soaked(server: Server, seconds: float, seed: int) -> Result:
     kept, more = _ledger(server, people)
     times = {kind: times_of([took for worker in (*people, *others) for took in worker.seconds[kind]])
              for kind in ("call", "page", "upload")}
+    waits, again = (sum(getattr(one, name) for one in (*people, *others)) for name in ("waits", "again"))
     result = Result(took, times, start, end, watch.most, watch.tenths(), processor, left, len(kept),
-                    sum(len(one.answered) for one in people), sum(one.cut for one in people),
-                    sum(one.waits for one in (*people, *others)), outcomes, problems + more)
+                    sum(len(one.answered) for one in people), sum(one.cut for one in people), waits, again, outcomes,
+                    problems + more)
     return result._replace(problems=result.problems + beyond(result))
 
 
