@@ -317,7 +317,7 @@ def _lines(result: Result):
         start, most, end = (getattr(use, name) for use in (result.start, result.most, result.end))
         yield "%s: %.0f at start, %.0f at most, %.0f at end" % (name, start, most, end)
     yield "memory after each tenth of the time: %s" % " ".join("%.0f" % use.memory for use in result.tenths)
-    yield "calls: %d answered, %d left before an answer, %d in the ledger; told to wait %d times, connected again %d" % (
+    yield "calls: %d answered, %d left before an answer, %d in the ledger; told to wait %d times, reconnected %d" % (
         result.answered, result.cut, result.kept, result.waits, result.again)
     for kind, outcomes in sorted(result.bad.items()):
         yield "bad clients, %s: %s" % (kind, ", ".join("%d %s" % pair[::-1] for pair in sorted(outcomes.items())))
