@@ -254,11 +254,11 @@ def compared(kept: list[StoredCall], people: list[Participant]) -> list[str]:
             problems.append("call %d: number %d is not that of the plain machine" % (serial, call.number))
     for person in people:
         theirs = [(call.kind, call.row, call.vehicles) for call in kept if call.who == person.who]
-        problems += (_compared_loosely if isinstance(person, Leaver) else _compared_exactly)(person, theirs)
+        problems += (compared_loosely if isinstance(person, Leaver) else compared_exactly)(person, theirs)
     return problems
 
 
-def _compared_exactly(person: Participant, kept: list[tuple[str, int, int]]) -> list[str]:
+def compared_exactly(person: Participant, kept: list[tuple[str, int, int]]) -> list[str]:
     """Every answered call in its order, and behind them at most the one that the end of the run cut off."""
     many = len(person.answered)
     if kept[:many] != person.answered:
@@ -269,7 +269,7 @@ def _compared_exactly(person: Participant, kept: list[tuple[str, int, int]]) -> 
     return []
 
 
-def _compared_loosely(person: Participant, kept: list[tuple[str, int, int]]) -> list[str]:
+def compared_loosely(person: Participant, kept: list[tuple[str, int, int]]) -> list[str]:
     """Every answered call once, and of those that were left each at most once."""
     found, problems = Counter(kept), []
     lost = [call for call in person.answered if found[call] != 1]
