@@ -18,7 +18,7 @@ from urllib.parse import urlencode
 from support import TOP
 
 HOST = "127.0.0.1"
-COMMAND = "desk"  # of evp, which serves
+COMMAND = "serve"  # of evp, which serves
 HAS_MODULES = all(find_spec(name) for name in ("flask", "jinja2", "waitress"))
 NO_MODULES = "Flask or waitress is missing: bash .ci/install pages"
 LINK = re.compile(r"^  (.+?) +http://127\.0\.0\.1:[0-9]+(/ledger/\S+)$", re.M)

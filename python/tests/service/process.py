@@ -15,7 +15,7 @@ from typing import NamedTuple
 from desk_support import LINK, START, free_port
 from support import TOP
 
-COMMAND = "desk"  # the command of evp that serves
+COMMAND = "serve"  # the command of evp that serves
 
 
 class Use(NamedTuple):
