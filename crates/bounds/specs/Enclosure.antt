@@ -1,4 +1,4 @@
--- Need not be believed: what it means that a computed whole number encloses an exact value. Contracts of the crates above do not cite it.
+-- What it means that a computed whole number encloses an exact value. Definitions only.
 use Prim.Native.Nat.{ℕ, _+_, _*_, _≤_}
 use Rattle.numbers.specs.Fraction.{Fraction}
 

@@ -18,7 +18,8 @@ unfoldable pub countedRises : List ℕ → List ℕ → List ℕ
 countedRises cells rises = tab (λ (cell : ℕ). countedRise (at cells cell) (at rises cell)) 576
 
 -- at a cell
-pub countedRises-at : (cells rises : List ℕ) (cell : ℕ) → cell < 576 → at (countedRises cells rises) cell ≡ countedRise (at cells cell) (at rises cell)
+pub countedRises-at : (cells rises : List ℕ) (cell : ℕ) → cell < 576
+    → at (countedRises cells rises) cell ≡ countedRise (at cells cell) (at rises cell)
 unfolding countedRises
 countedRises-at cells rises cell h = getD-tab (λ (k : ℕ). countedRise (at cells k) (at rises k)) 576 cell h
 

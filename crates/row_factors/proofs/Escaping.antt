@@ -189,7 +189,8 @@ module _ {tables grid list growths : List ℕ} {given : AtSeason} {row : Row} {v
   )
 
   pub fit-right : {c : Curves}
-      → CurvesBy (at (given .day .base)) (at growths) (startsBy row (given .day .base) growths) (tenthGrams (row .saturation)) vapour (lossError row) c
+      → CurvesBy (at (given .day .base)) (at growths) (startsBy row (given .day .base) growths)
+      (tenthGrams (row .saturation)) vapour (lossError row) c
       → CurvesOf (given .season) row c
   fit-right by = curves-of (given .season) row (q .0 .lent .day-ready .base-is) growths-known v by
 

@@ -1,5 +1,5 @@
--- Need not be believed: "Where a sheet stops" as a function that the program follows, numbers 1 to 21 of document 01 with numbers 24 to 26 of
--- document 02. Demands has the same table in plain arithmetic, and that both agree is proved.
+-- "Where a sheet stops" as a function, numbers 1 to 21 of document 01 with numbers 24 to 26 of document 02. Demands has the same table in plain
+-- arithmetic; that both agree is proved as `sheet-says` in proofs/Conditions. Definitions only.
 use mathlib.Core.Bool.{Bool, true, false, not, _&&_, _||_}
 use mathlib.Core.List.{List}
 use Prim.Native.Nat.{ℕ, suc, zero, _+_, _*_}

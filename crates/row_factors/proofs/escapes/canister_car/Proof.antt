@@ -27,6 +27,10 @@ canister-car-spec =
     (tie.spec
     (λ c κs. search needs)
     (λ c κs. parking-needs (c .before .pre) (c .fitted .ensures))
-    (λ c κs. let f = c .before .before .before in let q = f .before .pre in raise-needs q (f .fitted .ensures) 45 (q .0 .lent .day-ready .raise45-is) (omega arith))
-    (λ c κs. let f = c .before .before .before .before .before .before in let q = f .before .pre in raise-needs q (f .fitted .ensures) 60 (q .0 .lent .day-ready .raise60-is) (omega arith))
+    (λ c κs. let f = c .before .before .before in
+    let q = f .before .pre in
+    raise-needs q (f .fitted .ensures) 45 (q .0 .lent .day-ready .raise45-is) (omega arith))
+    (λ c κs. let f = c .before .before .before .before .before .before in
+    let q = f .before .pre in
+    raise-needs q (f .fitted .ensures) 60 (q .0 .lent .day-ready .raise60-is) (omega arith))
     returns)

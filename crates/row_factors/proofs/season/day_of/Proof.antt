@@ -35,7 +35,12 @@ slope times season θ = binary ((112 * 10 ^ 11 + θ - 15 * 10 ^ 8 * season .vp) 
 returns : tie.Need-returns
 unfolding growth halves
 returns c =
-    let g3 = c .before .before .before .before .before .before .before .before .before .before .before .before .before .before .before .before .before .before in
+    let d6 = c .before .before .before in
+    let d5 = d6 .before .before .before in
+    let d4 = d5 .before .before .before in
+    let d3 = d4 .before .before .before in
+    let d2 = d3 .before .before .before in
+    let g3 = d2 .before .before .before in
     let g2 = g3 .before .before in
     let g1 = g2 .before .before in
     let a = g1 .before .before in
@@ -49,11 +54,11 @@ returns c =
       large-is = by-warmth season (slope 1 season) (warm w) (g1 .growths .ensures);
       medium-is = by-warmth season (slope 2 season) (warm w) (g2 .growths2 .ensures);
       small-is = by-warmth season (slope 4 season) (warm w) (g3 .growths3 .ensures);
-      raise10-is = by-distance season (raisesBy season 10) (m .raise10-is) (c .before .before .before .before .before .before .before .before .before .before .before .before .before .before .before .by-distance2 .ensures);
-      raise15-is = by-distance season (raisesBy season 15) (m .raise15-is) (c .before .before .before .before .before .before .before .before .before .before .before .before .by-distance3 .ensures);
-      raise25-is = by-distance season (raisesBy season 25) (m .raise25-is) (c .before .before .before .before .before .before .before .before .before .by-distance4 .ensures);
-      raise35-is = by-distance season (raisesBy season 35) (m .raise35-is) (c .before .before .before .before .before .before .by-distance5 .ensures);
-      raise45-is = by-distance season (raisesBy season 45) (m .raise45-is) (c .before .before .before .by-distance6 .ensures);
+      raise10-is = by-distance season (raisesBy season 10) (m .raise10-is) (d2 .by-distance2 .ensures);
+      raise15-is = by-distance season (raisesBy season 15) (m .raise15-is) (d3 .by-distance3 .ensures);
+      raise25-is = by-distance season (raisesBy season 25) (m .raise25-is) (d4 .by-distance4 .ensures);
+      raise35-is = by-distance season (raisesBy season 35) (m .raise35-is) (d5 .by-distance5 .ensures);
+      raise45-is = by-distance season (raisesBy season 45) (m .raise45-is) (d6 .by-distance6 .ensures);
       raise60-is = by-distance season (raisesBy season 60) (m .raise60-is) (c .by-distance7 .ensures);
     }
 
