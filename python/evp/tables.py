@@ -139,7 +139,7 @@ def _quoted_cell(cell: str, separator: str) -> str:
 
 
 def _line_text(cells: Iterable[object], separator: str) -> str:
-    """A line of a table. Most have nothing in them that a cell must be changed for, which one look at all of it tells."""
+    """A line of a table. Most have nothing in them that a cell is changed for, which one look at all of it tells."""
     texts = list(map(str, cells))
     line = separator.join(texts)
     if line.count(separator) == len(texts) - 1 and not any(map(line.__contains__, UNUSUAL)):
