@@ -16,6 +16,7 @@ from evp.wording import quoted
 NOTE = "note"  # a column for remarks, which is not read
 FORMULA = re.compile("'*[=+@\\t\\r\\n-]")  # what a spreadsheet may run, with the apostrophes that keep it from that
 NUMBER = re.compile("[+-][0-9]+(?:[.,][0-9]+)?")
+UNUSUAL = "\"'\t\r\n=+@-"  # in a line without these no cell is changed
 QUOTED = re.compile('["\\t\\r\\n]|[,;] *[=+@-]')
 
 
@@ -130,14 +131,23 @@ def _as_written(cell: str) -> str:
     return cell[1:] if cell.startswith("'") and FORMULA.match(cell) else cell
 
 
-def _quoted_cell(cell: object, separator: str) -> str:
+def _quoted_cell(cell: str, separator: str) -> str:
     """A cell in quotation marks where it needs them. A carriage return needs them too, since a spreadsheet starts a row
     there; and so does a sign of a formula behind the other separator, since a spreadsheet may part lines by that."""
-    text = _without_formula(str(cell))
+    text = _without_formula(cell)
     return '"%s"' % text.replace('"', '""') if separator in text or QUOTED.search(text) else text
+
+
+def _line_text(cells: Iterable[object], separator: str) -> str:
+    """A line of a table. Most have nothing in them that a cell is changed for, which one look at all of it tells."""
+    texts = list(map(str, cells))
+    line = separator.join(texts)
+    if line.count(separator) == len(texts) - 1 and not any(map(line.__contains__, UNUSUAL)):
+        return line + "\n"
+    return separator.join(_quoted_cell(text, separator) for text in texts) + "\n"
 
 
 def table_text(header: Iterable[str], lines: Iterable[Iterable[object]], semicolon: bool = False) -> str:
     """A table as a spreadsheet reads it."""
     separator = ";" if semicolon else ","
-    return "".join(separator.join(_quoted_cell(cell, separator) for cell in line) + "\n" for line in (header, *lines))
+    return "".join(_line_text(line, separator) for line in (header, *lines))
