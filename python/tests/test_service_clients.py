@@ -152,7 +152,7 @@ class HogTest(ServiceTestCase):
         self.addCleanup(hog.wait)
         self.addCleanup(hog.kill)
         time.sleep(3)  # until it has many
-        with self.at_work(desk, within=3) as workers:  # 0.4 s at most on a machine of its own
+        with self.at_work(desk, within=3) as workers:  # 0.3 to 0.6 s were seen
             time.sleep(2.5)
         held = int(hog.communicate(timeout=20)[0])
         calls = sorted(taken for worker in workers for taken in worker.times)
