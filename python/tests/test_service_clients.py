@@ -64,7 +64,7 @@ class LeavingTest(ServiceTestCase):
     def test_at_every_step(self):
         desk = self.serve("--patience", 5)
         before, left = self.files(desk), 0
-        with self.at_work(desk, within=5):
+        with self.at_work(desk, within=15):  # of a machine that others use
             for request in self.requests(desk):
                 for step in range(8):
                     for reset in (False, True):
@@ -72,7 +72,7 @@ class LeavingTest(ServiceTestCase):
                         left += 1
                         self.assertIsNone(desk.process.poll(), "ended at step %d of %s" % (step, request[:60]))
         self.assertEqual(left, 192)
-        self.wait_for(lambda: self.files(desk) <= before + 6, 10, "connections stay open")
+        self.wait_for(lambda: self.files(desk) <= before + 6, 25, "connections stay open")
         self.assertNotIn("failed", desk.said)
 
     def test_in_the_answer(self):
@@ -152,7 +152,7 @@ class HogTest(ServiceTestCase):
         self.addCleanup(hog.wait)
         self.addCleanup(hog.kill)
         time.sleep(3)  # until it has many
-        with self.at_work(desk, within=3) as workers:  # 0.4 s at most on a machine of its own
+        with self.at_work(desk, within=3) as workers:  # 0.3 to 0.6 s were seen
             time.sleep(2.5)
         held = int(hog.communicate(timeout=20)[0])
         calls = sorted(taken for worker in workers for taken in worker.times)
