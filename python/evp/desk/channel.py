@@ -82,8 +82,11 @@ class Channel(HTTPChannel):
             self.request.expect_continue = False
 
     def readable(self) -> bool:
-        """Called for each connection in each round, so that it is as short as can be; and so is `writable`."""
-        return not (self.ahead or self.requests or self.total_outbufs_len or self.will_close or self.close_when_flushed)
+        """Called for each connection in each round, so that it is as short as can be; and so is `writable`. Neither is
+        true of a connection that was closed in this round: poll would be asked about its file number, which a new
+        connection may have by then."""
+        return self.socket is not None and not (
+            self.ahead or self.requests or self.total_outbufs_len or self.will_close or self.close_when_flushed)
 
     def handle_read(self) -> None:
         between = self.request is None
@@ -144,8 +147,8 @@ class Channel(HTTPChannel):
     # ------------------------------------------------------------------ answers
 
     def writable(self) -> bool:
-        return bool(self.total_outbufs_len or self.will_close or self.close_when_flushed
-                    or self.ahead and not self.requests)
+        return self.socket is not None and bool(
+            self.total_outbufs_len or self.will_close or self.close_when_flushed or self.ahead and not self.requests)
 
     def handle_write(self) -> None:
         super().handle_write()

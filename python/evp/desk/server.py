@@ -6,7 +6,7 @@ import logging
 import socket
 import time
 from collections import Counter, deque
-from collections.abc import Callable
+from collections.abc import Callable, Iterator
 
 from flask import Flask
 from waitress.adjustments import Adjustments
@@ -90,17 +90,10 @@ class Server(TcpWSGIServer):
         return self.accepting and now >= self.paused_until
 
     def handle_accept(self) -> None:
-        for _ in range(ACCEPTS):
-            full = len(self.active_channels) >= self.adj.connection_limit and not self.make_room()
-            try:
-                found = self.accept()
-            except OSError:  # no file number is left
-                self.paused_until = time.monotonic() + PAUSE
-                return
-            if found is None:
-                return
-            connection, address = found
-            if full:
+        """Takes connections. Those of a round are all taken before one is closed for them: else a new one would have
+        the file number of a closed one, and be closed by what poll has found for the old one."""
+        for connection, address in list(self.arrived()):
+            if len(self.active_channels) >= self.adj.connection_limit and not self.make_room():
                 connection.close()
                 continue
             try:
@@ -108,6 +101,18 @@ class Server(TcpWSGIServer):
                 self.channel_class(self, connection, self.fix_addr(address), self.adj, map=self._map)
             except OSError:  # it is gone already; waitress would close the listening socket for it
                 connection.close()
+
+    def arrived(self) -> Iterator[tuple[socket.socket, tuple]]:
+        """The connections that wait to be taken, ACCEPTS at most."""
+        for _ in range(ACCEPTS):
+            try:
+                found = self.accept()
+            except OSError:  # no file number is left
+                self.paused_until = time.monotonic() + PAUSE
+                return
+            if found is None:
+                return
+            yield found
 
     def set_socket_options(self, conn: socket.socket) -> None:
         super().set_socket_options(conn)
