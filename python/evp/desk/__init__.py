@@ -13,7 +13,7 @@
     versions.py  the versions of waitress, Werkzeug and Flask that were tested
     ending.py    signals, and the last line of the log
     supervisor.py  what is reported to systemd
-    command.py   `evp desk`
+    command.py   `evp serve`
 
 evp-course.service is a systemd unit that starts it (docs/SERVER.md). app.py, channel.py, form_data.py, render.py,
 security.py, server.py and views.py need Flask, Jinja2 and waitress; the others need the standard
