@@ -78,9 +78,10 @@ def ordered(names: Iterable[str], state: State) -> list[str]:
     found: dict[str, None] = {}
 
     def visit(name: str):
-        for need in state.needs(name):
-            visit(need)
-        found.setdefault(name)
+        if name not in found:
+            for need in state.needs(name):
+                visit(need)
+            found[name] = None
 
     for name in names:
         visit(name)
@@ -270,7 +271,7 @@ def parser() -> argparse.ArgumentParser:
     top.add_argument("before", metavar="BEFORE", help="the commit before the change")
     top.add_argument("after", metavar="AFTER", help="the commit with the change")
     top.add_argument("--rounds", type=int, default=1, metavar="N",
-                     help="check each crate that changed N times, both commits in turn, and print the least (default 1)")
+                     help="check each crate that changed N times, both commits in turn; the least is printed")
     top.add_argument("--but", nargs="*", default=[], metavar="NAME", help="crates that are not timed")
     top.add_argument("--scratch", metavar="DIR", help="a folder for proofs and seconds that is kept")
     top.set_defaults(run=measure_or_say)

@@ -72,6 +72,11 @@ class OrderTest(unittest.TestCase):
         turned = state(text="\n".join(reversed(LIST.splitlines())))
         self.assertEqual(landing.ordered(["report"], turned), ["numbers", "bounds", "sheet", "report"])
 
+    def test_each_crate_is_visited_once(self):
+        tower = "".join("c%d: %s\n" % (i, " ".join("c%d" % below for below in range(i))) for i in range(60))
+        names = ["c%d" % i for i in range(60)]
+        self.assertEqual(landing.ordered(["c59"], landing.state_of(tower, [])), names)
+
     def test_keys_follow_what_a_crate_depends_on(self):
         before, after = landing.keys_of(state()), landing.keys_of(state({"crates/bounds/src/lib.rt": "7"}))
         self.assertEqual([name for name in before if before[name] != after[name]], ["bounds", "sheet", "report"])
