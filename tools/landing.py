@@ -19,6 +19,7 @@ import json
 import re
 import resource
 import shutil
+import signal
 import subprocess
 import sys
 import tempfile
@@ -257,6 +258,7 @@ def measure(given: argparse.Namespace) -> int:
 
 
 def measure_or_say(given: argparse.Namespace) -> int:
+    signal.signal(signal.SIGTERM, lambda *_: sys.exit(1))  # so that the worktrees are removed then, too
     try:
         return measure(given)
     except (LandingError, subprocess.TimeoutExpired) as fault:
