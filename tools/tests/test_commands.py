@@ -10,6 +10,7 @@ from unittest import mock
 from tools import command
 from tools.check.__main__ import parser as check_parser
 from tools.command import MadeFile, write_or_check
+from tools.landing import parser as landing_parser
 from tools.make.__main__ import parser as make_parser
 from tools.progress import parser as progress_parser
 from tools.reckoning.__main__ import main as reckoning_main
@@ -49,7 +50,7 @@ class HelpTest(unittest.TestCase):
                     top.parse_args([word.replace("-3/2", " -3/2") for word in example])
 
     def test_help_of_single_commands(self):
-        for parser in (progress_parser, tests_parser):
+        for parser in (landing_parser, progress_parser, tests_parser):
             top = parser()
             with self.subTest(command=top.prog):
                 status, text = said(top.parse_args, "--help")
