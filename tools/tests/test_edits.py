@@ -30,7 +30,8 @@ read. All of that holds, and the goal fails, at `c .before .loop .i` = 28. It re
 """
 ONE_UNIT_LESS = """\
 /crates/bounds/proofs/PowerBound.antt:174:27: error: `product-below`: `omega` found no proof, and no values at which \
-the goal fails. It read 3 hypotheses about numbers. The goal may be false, or need reasoning about whole numbers
+the goal fails: what it read and the goal's failing hold together at fractions, and it found no whole numbers at which \
+they do. The goal may be false, or need reasoning about whole numbers that `omega` does not have. It read 3 hypotheses
 """
 
 
