@@ -32,11 +32,14 @@ def run_pressures(_: argparse.Namespace) -> int:
 
 def run_edits(given: argparse.Namespace) -> int:
     if given.one:
-        error, faults = edits.try_edit(Path(given.one).resolve())
-        return finish("edits", faults, "refused by a fact: " + error)
-    what = "are read whole and change one place" + (", and fail by a fact" if given.logs else "")
-    return finish("edits", edits.faults(given.logs, given.crates),
-                  "%d edits %s" % (len(edits.find(given.crates)), what))
+        said, faults = edits.try_edit(Path(given.one).resolve())
+        return finish("edits", faults, said)
+    count = len(edits.find(given.crates))
+    said = "%d edits are read whole and change one place" % count
+    unproved = list(edits.unproved(given.crates)) if given.logs else []
+    if given.logs:
+        said += "; %d are refused by a fact" % (count - len(unproved))
+    return finish("edits", edits.faults(given.logs, given.crates), "\n".join([*unproved, said]))
 
 
 def run_figures(_: argparse.Namespace) -> int:

@@ -4,13 +4,17 @@ rt reads an edit line by line: `file:`, `old:` and `new:` each hold for one
 line, and any other line is passed over without a word. So an edit whose old or
 new text has two lines tries something else than it says. Every line begins with
 `#`, `file:`, `old:` or `new:`; an `old:` is followed at once by its `new:`; its
-text stands once in the file, where the pairs before it are done; and some line
-says what the edit would break.
+text stands once in the file, where the pairs before it are done; the file is one
+of src/ or specs/, since an edit of a proof shows nothing of a contract; and some
+line says what the edit would break.
 
 With --logs, after `rt must-fail` or `rt ci`, the first error of each log under
-target/must-fail is looked at: it must be a fact that no longer holds, and not a
-name or a field that is gone, a need that has another name, or a file that does
-not parse.
+target/must-fail is looked at. It must show a goal that fails: two types that
+differ, a computed test that is false, or values at which `omega`'s goal fails.
+Where the prover only found no proof, the edited statement may still be true: then
+a line `# why: ..` of the edit must say why it is false, and is printed. A name or
+a field that is gone, a need that has another name, or a file that does not parse
+shows nothing at all.
 
 With --try, one edit is tried in seconds: it is done in its crate, `rt dev` is run
 and the crate's files are put back. Its first error is printed.
@@ -27,7 +31,7 @@ from tools.command import TOP
 EDITS = "crates/*/must-fail/*.edit"
 LOGS = TOP / "target" / "must-fail"
 
-# First errors that are no facts, by the words that rattle and antt have for them.
+# First errors that show nothing of a fact, by the words that rattle and antt have for them.
 NO_FACTS = {
     "a need that is named otherwise": r"has no `Need-|that can be named from here|expected type `tie\.Need-",
     "a name that is gone": r"is not in scope|has no `[^`]*`",
@@ -37,6 +41,15 @@ NO_FACTS = {
     "a part that is not made": r"the borrow checker does not cover|unsupported-",
     "an argument too many or too few": r"takes \d+ argument|is not a function|too many arguments",
 }
+
+# First errors that show a goal that fails: two types that differ, in a fact or in a computed test, or values of omega.
+FACTS = {
+    "values at which the goal fails": r"`omega`: .* All of that holds, and the goal fails",
+    "two types that differ": r"the two types (first )?differ|expected type `.*but this has type `",
+}
+
+# Every other first error: the prover gave up, and the edited statement may be true.
+NO_COUNTEREXAMPLE = "not proved; no counterexample shown"
 
 
 class Fault(NamedTuple):
@@ -86,6 +99,11 @@ def read(text: str) -> tuple[list[Change], list[Fault]]:
     return changes, faults
 
 
+def reason(text: str) -> str:
+    """Why an edit's statement is false, as its lines `# why:` say it; empty where it has none."""
+    return " ".join(line.removeprefix("# why:").strip() for line in text.splitlines() if line.startswith("# why:"))
+
+
 def misplaced(changes: Iterable[Change], crate: Path) -> Iterator[Fault]:
     """Changes whose old text is not once in its file, where those before it are done."""
     texts: dict[str, str] = {}
@@ -94,6 +112,8 @@ def misplaced(changes: Iterable[Change], crate: Path) -> Iterator[Fault]:
         if not path.is_file():
             yield Fault(change.line, "%s is no file of the crate" % change.file)
             continue
+        if not change.file.startswith(("src/", "specs/")):
+            yield Fault(change.line, "%s is neither code nor a definition" % change.file)
         text = texts.setdefault(change.file, path.read_text(encoding="utf-8"))
         count = text.count(change.old)
         if count != 1:
@@ -122,15 +142,31 @@ def first_error(log: str) -> str:
     return ""
 
 
-def log_fault(log: str) -> str | None:
-    """Why the first error of a log is no fact that fails, or None where it is one."""
+class Refusal(NamedTuple):
+    """How an edit was refused: what is printed of it, and what is wrong with it, empty where it is as it must be."""
+    said: str
+    fault: str
+
+
+def first_of(patterns: dict[str, str], error: str) -> str:
+    """The name of the first pattern that an error has; empty where it has none."""
+    return next((name for name, pattern in patterns.items() if re.search(pattern, error)), "")
+
+
+def refusal(log: str, why: str) -> Refusal:
+    """What the first error of a log shows; `why` says why the edit is false, where its file does."""
     error = first_error(log)
     if not error:
-        return "no error in its log"
-    for what, pattern in NO_FACTS.items():
-        if re.search(pattern, error):
-            return "%s: %s" % (what, error[:200])
-    return None
+        return Refusal("", "no error in its log")
+    nothing = first_of(NO_FACTS, error)
+    if nothing:
+        return Refusal("", "%s: %s" % (nothing, error[:200]))
+    fact = first_of(FACTS, error)
+    if fact:
+        return Refusal("refused by a fact, %s: %s" % (fact, error[:600]), "")
+    if why:
+        return Refusal("%s; false because %s: %s" % (NO_COUNTEREXAMPLE, why, error[:600]), "")
+    return Refusal("", "%s, and no line `# why:` says why it is false: %s" % (NO_COUNTEREXAMPLE, error[:200]))
 
 
 def changed(changes: Iterable[Change], crate: Path) -> dict[Path, str]:
@@ -161,7 +197,7 @@ def tried(edit: Path) -> str:
 
 
 def try_edit(edit: Path) -> tuple[str, list[str]]:
-    """The first error of one edit, cut short, and what is wrong with it."""
+    """What the first error of one edit shows, and what is wrong with it."""
     found = ["line %d: %s" % fault for fault in form_faults(edit)]
     if found:
         return "", found
@@ -169,18 +205,24 @@ def try_edit(edit: Path) -> tuple[str, list[str]]:
         log = tried(edit)
     except (ValueError, FileNotFoundError) as error:
         return "", [str(error)]
-    fault = log_fault(log)
-    return first_error(log)[:600], [fault] if fault else []
+    shown = refusal(log, reason(edit.read_text(encoding="utf-8")))
+    return shown.said, [shown.fault] if shown.fault else []
 
 
-def log_faults(edit: Path) -> Iterator[str]:
+def logged(edit: Path) -> Refusal:
+    """What the log of an edit under target/must-fail shows."""
     log = LOGS / edit.parent.parent.name / edit.stem / ".log"
     if not log.exists():
-        yield "no log; rt must-fail %s makes it" % edit.parent.parent.name
-        return
-    fault = log_fault(log.read_text(encoding="utf-8", errors="replace"))
-    if fault:
-        yield fault
+        return Refusal("", "no log; rt must-fail %s makes it" % edit.parent.parent.name)
+    return refusal(log.read_text(encoding="utf-8", errors="replace"), reason(edit.read_text(encoding="utf-8")))
+
+
+def unproved(crates: Iterable[str] = ()) -> Iterator[str]:
+    """The edits whose logs show no counterexample and whose files say why they are false, with what they say."""
+    for edit in find(crates):
+        if logged(edit).said.startswith(NO_COUNTEREXAMPLE):
+            yield "%s: %s; false because %s" % (
+                edit.relative_to(TOP), NO_COUNTEREXAMPLE, reason(edit.read_text(encoding="utf-8")))
 
 
 def faults(logs: bool, crates: Iterable[str] = ()) -> Iterator[str]:
@@ -189,8 +231,8 @@ def faults(logs: bool, crates: Iterable[str] = ()) -> Iterator[str]:
         name = edit.relative_to(TOP)
         for fault in form_faults(edit):
             yield "%s, line %d: %s" % (name, *fault)
-        if logs:
-            yield from ("%s: %s" % (name, fault) for fault in log_faults(edit))
+        if logs and logged(edit).fault:
+            yield "%s: %s" % (name, logged(edit).fault)
 
 
 def find(crates: Iterable[str] = ()) -> list[Path]:

@@ -9,6 +9,30 @@ from tools.check import edits
 
 GOOD = "# the error is what is proved\nfile: specs/A.antt\nold: 3 + 1\nnew: 3 + 2\n"
 LOG = "note: some words\n%s\n  more of it\nlogic=not-proved\n"
+DIFFER = "A.antt:3:1: error: `f`: as printed, the two types differ only where one has `4` (expected)"
+
+# First errors of logs as antt wrote them, cut at their ends.
+SHARE_MISREAD = """\
+/crates/speciation/proofs/share_table/Proof.antt:10:13: error: `returns`: computed as far as they go, the two types \
+differ only where one has `579` (expected) and the other has `597` (found)
+  expected type `Rattle.speciation.proofs.share_table.Reads.Post (Prim.tt {0})`
+  but this has type `mathlib.Core.Path._≡_ (borrow.Fn.Function.resV Rattle.speciation.proofs.share_table.Lts.r)`
+/crates/speciation/proofs/share_table/Proof.antt:13:40: error: `share-table-spec`: `returns` was not admitted (it has \
+holes or undetermined implicits, or was rejected), so this cannot be checked
+"""
+ORDER_EXCHANGED = """\
+/crates/findings/proofs/Agree.antt:260:5: error: `row-agrees`: as printed, the two types first differ where one has \
+`rowFinding` (expected), right after `Checks (`, and the other has `Rattle.findings.specs.Lines._orElse_` (found)
+"""
+LAST_LEFT_OUT = """\
+/crates/speciation/proofs/split/Proof.antt:43:51: error: `returns`: `omega`: the goal does not follow from what it \
+read. All of that holds, and the goal fails, at `c .before .loop .i` = 28. It read 9 hypotheses about numbers
+"""
+ONE_UNIT_LESS = """\
+/crates/bounds/proofs/PowerBound.antt:174:27: error: `product-below`: `omega` found no proof, and no values at which \
+the goal fails: what it read and the goal's failing hold together at fractions, and it found no whole numbers at which \
+they do. The goal may be false, or need reasoning about whole numbers that `omega` does not have. It read 3 hypotheses
+"""
 
 
 class FormTest(unittest.TestCase):
@@ -20,7 +44,9 @@ class FormTest(unittest.TestCase):
             crate = Path(folder)
             (crate / "specs").mkdir()
             (crate / "must-fail").mkdir()
-            (crate / "specs/A.antt").write_text("f = 3 + 1\ng = 1 + 1\n")
+            (crate / "proofs").mkdir()
+            for name in ("specs/A.antt", "proofs/P.antt"):
+                (crate / name).write_text("f = 3 + 1\ng = 1 + 1\n")
             edit = crate / "must-fail/a.edit"
             edit.write_text(text)
             return edits.form_faults(edit)
@@ -40,6 +66,7 @@ class FormTest(unittest.TestCase):
             (GOOD.replace("old: 3 + 1\n", "old: 3 + 1\nold: 3 + 1\n"), 3, "an old: that no new: follows"),
             (GOOD.replace("file: specs/A.antt\n", ""), 3, "no file: before it"),
             (GOOD.replace("specs/A", "specs/B"), 3, "specs/B.antt is no file of the crate"),
+            (GOOD.replace("specs/A", "proofs/P"), 3, "proofs/P.antt is neither code nor a definition"),
             (GOOD.replace("old: 3 + 1", "old: 3 + 7"), 3, "its old text is 0 times in specs/A.antt"),
             (GOOD.replace("old: 3 + 1", "old:  + 1"), 3, "its old text is 2 times in specs/A.antt"),
             (GOOD + "old: 3 + 1\nnew: 3\n", 5, "its old text is 0 times in specs/A.antt"),
@@ -70,23 +97,48 @@ class TryTest(unittest.TestCase):
         return found
 
     def test_refused(self):
-        error, faults = self.tried(1, LOG % "A.antt:3:1: error: 3 + 2 is not 3 + 1")
-        self.assertEqual((error, faults), ("A.antt:3:1: error: 3 + 2 is not 3 + 1 more of it", []))
+        said, faults = self.tried(1, LOG % DIFFER)
+        self.assertEqual((said, faults), ("refused by a fact, two types that differ: %s more of it" % DIFFER, []))
 
     def test_no_fact(self):
         self.assertIn("a name that is gone", self.tried(1, LOG % "A.antt:3:1: error: `x` is not in scope")[1][0])
+
+    def test_no_counterexample(self):
+        said, faults = self.tried(1, ONE_UNIT_LESS)
+        self.assertEqual((said, len(faults)), ("", 1))
+        self.assertIn("not proved; no counterexample shown", faults[0])
 
     def test_proved(self):
         self.assertIn("still proved", self.tried(0, "logic=proved\n")[1][0])
 
 
-class LogTest(unittest.TestCase):
+class RefusalTest(unittest.TestCase):
     """The first error of a log."""
 
-    def test_fact(self):
-        self.assertIsNone(edits.log_fault(LOG % "specs/A.antt:3:1: error: 3 + 2 is not 3 + 1"))
+    def test_types_differ(self):
+        for log in (SHARE_MISREAD, ORDER_EXCHANGED):
+            with self.subTest(log=log):
+                shown = edits.refusal(log, "")
+                self.assertEqual(shown.said.partition(": ")[0], "refused by a fact, two types that differ")
+                self.assertEqual(shown.fault, "")
 
-    def test_no_fact(self):
+    def test_values(self):
+        shown = edits.refusal(LAST_LEFT_OUT, "")
+        self.assertEqual(shown.said.partition(": ")[0], "refused by a fact, values at which the goal fails")
+        self.assertEqual(shown.fault, "")
+
+    def test_no_proof_found(self):
+        shown = edits.refusal(ONE_UNIT_LESS, "")
+        self.assertEqual(shown.said, "")
+        self.assertIn("not proved; no counterexample shown, and no line `# why:` says why it is false", shown.fault)
+
+    def test_no_proof_found_of_what_is_false(self):
+        shown = edits.refusal(ONE_UNIT_LESS, "643 was measured")
+        self.assertEqual(shown.said.partition(": ")[0],
+                         "not proved; no counterexample shown; false because 643 was measured")
+        self.assertEqual(shown.fault, "")
+
+    def test_nothing_is_shown_by_what_does_not_fit(self):
         for error, what in (
             ("A.antt:3:1: error: `tie` has no `Need-a` that can be named from here", "a need that is named otherwise"),
             ("A.antt:3:1: error: `x` is not in scope", "a name that is gone"),
@@ -94,12 +146,53 @@ class LogTest(unittest.TestCase):
             ("A.antt:3:1: error: expected a term", "a file that does not parse"),
         ):
             with self.subTest(error=error):
-                self.assertEqual(edits.log_fault(LOG % error).partition(":")[0], what)
+                shown = edits.refusal(LOG % error, "a reason does not help")
+                self.assertEqual((shown.said, shown.fault.partition(":")[0]), ("", what))
 
     def test_no_error(self):
-        self.assertEqual(edits.log_fault("logic=not-proved\n"), "no error in its log")
+        self.assertEqual(edits.refusal("logic=not-proved\n", "").fault, "no error in its log")
 
     def test_first_counts(self):
-        log = LOG % "A.antt:3:1: error: 3 + 2 is not 3 + 1" + LOG % "A.antt:9:1: error: `x` is not in scope"
-        self.assertIsNone(edits.log_fault(log))
-        self.assertEqual(edits.first_error(log), "A.antt:3:1: error: 3 + 2 is not 3 + 1 more of it")
+        log = LOG % DIFFER + LOG % "A.antt:9:1: error: `x` is not in scope"
+        self.assertEqual(edits.refusal(log, "").fault, "")
+        self.assertEqual(edits.first_error(log), DIFFER + " more of it")
+
+    def test_reason(self):
+        self.assertEqual(edits.reason(GOOD), "")
+        self.assertEqual(edits.reason("# a\n# why: 643 was\n# why: measured\n" + GOOD), "643 was measured")
+
+
+class LogsTest(unittest.TestCase):
+    """All edits of the crates, with their logs."""
+
+    def setUp(self):
+        folder = tempfile.TemporaryDirectory()
+        self.addCleanup(folder.cleanup)
+        self.top = Path(folder.name)
+        for name, value in (("TOP", self.top), ("LOGS", self.top / "logs")):
+            patch = mock.patch.object(edits, name, value)
+            patch.start()
+            self.addCleanup(patch.stop)
+
+    def add(self, name: str, text: str, log: str) -> None:
+        for path, content in ((self.top / "crates/a/must-fail" / (name + ".edit"), text),
+                              (self.top / "crates/a/specs/A.antt", "f = 3 + 1\n"),
+                              (self.top / "logs/a" / name / ".log", log)):
+            path.parent.mkdir(parents=True, exist_ok=True)
+            path.write_text(content)
+
+    def test_each_kind(self):
+        self.add("differs", GOOD, SHARE_MISREAD)
+        self.add("unproved", GOOD, ONE_UNIT_LESS)
+        self.add("measured", "# why: 643 was measured\n" + GOOD, ONE_UNIT_LESS)
+        self.assertEqual([fault.partition(",")[0] for fault in edits.faults(True)],
+                         ["crates/a/must-fail/unproved.edit: not proved; no counterexample shown"])
+        self.assertEqual(list(edits.unproved()), [
+            "crates/a/must-fail/measured.edit: not proved; no counterexample shown; false because 643 was measured"])
+
+    def test_no_log(self):
+        self.add("differs", GOOD, SHARE_MISREAD)
+        (self.top / "logs/a/differs/.log").unlink()
+        self.assertEqual(list(edits.faults(True)),
+                         ["crates/a/must-fail/differs.edit: no log; rt must-fail a makes it"])
+        self.assertEqual(list(edits.faults(False)), [])
