@@ -51,6 +51,7 @@ def answered(program: Path, words: Sequence[str | Path] = (), data: bytes = b"")
 def in_pieces(program: Path, data: bytes) -> tuple[bytes, bytes, int]:
     """The same with the sheet on standard input in three pieces, and a pause after each."""
     with subprocess.Popen([program], stdin=subprocess.PIPE, stdout=subprocess.PIPE, stderr=subprocess.PIPE) as run:
+        assert run.stdin is not None
         third = len(data) // 3
         for piece in (data[:third], data[third:2 * third], data[2 * third:]):
             run.stdin.write(piece)
@@ -178,9 +179,9 @@ def piece_faults(runs: Iterable[Run]) -> Iterator[str]:
                 yield "%s, %s: another answer where it comes in pieces" % (name, run.words)
     for name in ("report", "species"):
         with open("/dev/full", "wb") as full:
-            run = subprocess.run([BIN / name], input=b"", stdout=full, stderr=subprocess.PIPE, timeout=60)
-        if run.stderr.decode() != "%s: cannot write standard output\n" % name:
-            yield "%s: %r on standard error where nothing can be written" % (name, run.stderr)
+            said = subprocess.run([BIN / name], input=b"", stdout=full, stderr=subprocess.PIPE, timeout=60).stderr
+        if said.decode() != "%s: cannot write standard output\n" % name:
+            yield "%s: %r on standard error where nothing can be written" % (name, said)
 
 
 def pair_answer(first: bytes, second: bytes) -> tuple[bytes, bytes, int]:
@@ -188,8 +189,8 @@ def pair_answer(first: bytes, second: bytes) -> tuple[bytes, bytes, int]:
     refusal = pool.check(first, second, LONGEST)
     if refusal is None:
         return pool.pooled(first, second), b"", 0
-    sheet, *where = refusal
-    return b"", ("%s sheet: refused %d at %d\n" % (pool.NAMES[sheet], *where)).encode(), 0
+    sheet, number, place = refusal
+    return b"", ("%s sheet: refused %d at %d\n" % (pool.NAMES[sheet], number, place)).encode(), 0
 
 
 def all_pairs() -> list[tuple[str, bytes, bytes]]:
@@ -214,10 +215,13 @@ def pair_faults(pairs: Iterable[tuple[str, bytes, bytes]], folder: Path) -> Iter
     missing = folder / "missing.evp"
     not_there = b"pool: cannot open %s: No such file or directory\n" % str(missing).encode()
     usage = b"usage: pool FIRST SECOND\n"
-    for words, said in (((), usage), (files[:1], usage), ((*files, files[0]), usage),
-                        ((missing, files[1]), not_there), ((files[0], missing), not_there)):
-        if answered(BIN / "pool", words) != (b"", said, 0):
-            yield "pool with %d arguments: it does not write %r alone" % (len(words), said)
+    wrong: list[tuple[list[Path], bytes]] = [
+        ([], usage), ([files[0]], usage), ([*files, files[0]], usage),
+        ([missing, files[1]], not_there), ([files[0], missing], not_there),
+    ]
+    for given, said in wrong:
+        if answered(BIN / "pool", given) != (b"", said, 0):
+            yield "pool with %d arguments: it does not write %r alone" % (len(given), said)
 
 
 def few(counts: Counts) -> Iterator[str]:
