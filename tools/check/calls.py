@@ -4,8 +4,8 @@ Three rules. `taken` of crates/program/specs/Reads.antt, by which bytes count as
 is used by the proofs of that crate alone: a program has the fact from a function that
 reads. No public function in src/lib.rt of a crate with public calls has a `requires`,
 and no function that is exported to C has one: every input has an answer. A program
-writes to standard output in one place, calls each of its functions once and has no
-loop, so that it writes at most one answer.
+writes to standard output in one place, calls each of its functions that write once
+and has no loop, so that it writes at most one answer there.
 """
 
 import re
@@ -78,8 +78,28 @@ def call_faults() -> Iterator[str]:
             yield "%s: `%s` is exported and has a `requires`" % (file.relative_to(TOP), function)
 
 
+def bodies(code: str) -> dict[str, str]:
+    """The functions of a source, each with its body."""
+    parts = re.split(r"^(?:pub )?fn (\w+)", code, flags=re.M)
+    return {name: part.partition("\n{\n")[2] or part.partition("{\n")[2]
+            for name, part in zip(parts[1::2], parts[2::2])}
+
+
+def calls_of(function: str, code: str) -> int:
+    """How often a function of the same file is called in a text."""
+    return len(re.findall(r"(?<![:\w])(?<!fn )%s\(" % function, code))
+
+
+def writing(found: dict[str, str]) -> set[str]:
+    """The functions that write, themselves or by those that they call."""
+    names = {name for name, body in found.items() if "write_all(" in body}
+    while more := {name for name, body in found.items() if any(calls_of(called, body) for called in names)} - names:
+        names |= more
+    return names
+
+
 def program_faults(name: str, text: str) -> Iterator[str]:
-    """What lets a program write more than one answer, or none, as far as its source shows it."""
+    """What lets a program write more than one answer to standard output, or none, as far as its source shows it."""
     code = plain(text, "//")
     written = len(re.findall(r"\bwrite_all\(\s*STDOUT_FILENO\b", code))
     named = len(re.findall(r"\bSTDOUT_FILENO\b", code))
@@ -88,10 +108,10 @@ def program_faults(name: str, text: str) -> Iterator[str]:
             name, named - 1, written)
     if LOOP.search(code):
         yield "%s: it has a loop, in which it could write twice" % name
-    for function in re.findall(r"^fn (\w+)", code, re.M):
-        calls = len(re.findall(r"(?<!fn )(?<![:\w])%s\(" % function, code))
-        if calls != (function != "main"):
-            yield "%s: `%s` is called %d times" % (name, function, calls)
+    for function in sorted(writing(bodies(code)) | {"main"}):
+        count = calls_of(function, code)
+        if count != (function != "main"):
+            yield "%s: `%s`, which writes, is called %d times" % (name, function, count)
 
 
 def sources(crate: str) -> list[Path]:
