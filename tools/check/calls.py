@@ -4,8 +4,8 @@ Three rules. `taken` of crates/program/specs/Reads.antt, by which bytes count as
 is used by the proofs of that crate alone: a program has the fact from a function that
 reads. No public function in src/lib.rt of a crate with public calls has a `requires`,
 and no function that is exported to C has one: every input has an answer. A program
-writes to standard output in one place, calls each of its functions that write once
-and has no loop, so that it writes at most one answer there.
+writes to standard output in one place, calls each of its functions that lead there
+once and has no loop, so that it writes at most one answer there.
 """
 
 import re
@@ -91,8 +91,8 @@ def calls_of(function: str, code: str) -> int:
 
 
 def writing(found: dict[str, str]) -> set[str]:
-    """The functions that write, themselves or by those that they call."""
-    names = {name for name, body in found.items() if "write_all(" in body}
+    """The functions that write to standard output, themselves or by those that they call."""
+    names = {name for name, body in found.items() if "STDOUT_FILENO" in body}
     while more := {name for name, body in found.items() if any(calls_of(called, body) for called in names)} - names:
         names |= more
     return names

@@ -73,9 +73,8 @@ class Programs(unittest.TestCase):
             self.assertEqual(list(calls.program_faults(name, program(name))), [])
 
     def test_which_functions_write(self):
-        self.assertEqual(calls.writing(calls.bodies(program("report"))), {"write", "answer", "main"})
-        self.assertEqual(calls.writing(calls.bodies(program("pool"))),
-                         {"write", "write_refusal", "refuse", "answer", "main"})
+        for name in calls.PROGRAMS:
+            self.assertEqual(calls.writing(calls.bodies(program(name))), {"write", "answer", "main"})
 
     def test_an_answer_more_or_less(self):
         line = "        if !answer(&bytes, n) {\n"
