@@ -6,7 +6,8 @@ from collections.abc import Iterable
 from pathlib import Path
 
 from tools.check import (
-    believe, bindings, bounds, edits, figures, header, lines, names, pressures, promises, samples, snippets,
+    believe, bindings, bounds, calls, edits, figures, header, lines, names, pressures, promises, runs, samples,
+    snippets,
 )
 from tools.command import add_command, described, report, run
 
@@ -20,8 +21,13 @@ def finish(name: str, faults: Iterable[str], said: str) -> int:
 
 
 def run_samples(given: argparse.Namespace) -> int:
-    said = "samples: the programs print the stored reports and their species; the examples of %s are such"
-    return finish("samples", samples.check(given.write), said % samples.PAGE)
+    status = finish("samples", samples.check(given.write), "samples: the programs print the stored reports and their "
+                    "species; the examples of %s are such" % samples.PAGE)
+    if status:
+        return status
+    found, counts = runs.check()
+    return finish("samples", found, "runs: `report` and `species` answer %d accepted and %d refused sheets once each, "
+                  "by standard input and by a file; `pool` answers %d pairs" % counts)
 
 
 def run_pressures(_: argparse.Namespace) -> int:
@@ -86,6 +92,12 @@ def run_believe(given: argparse.Namespace) -> int:
                                        len(believe.MIXED), len(believe.UNMARKED)))
 
 
+def run_calls(_: argparse.Namespace) -> int:
+    return finish("calls", calls.faults(), "%d public calls require nothing of their caller; %s write at most one "
+                  "answer each, of a sheet that a function of program read" % (
+                      calls.count(), ", ".join(calls.PROGRAMS)))
+
+
 def run_names(_: argparse.Namespace) -> int:
     return finish("names", names.faults(), "the files, links and %d functions that %d pages name are there" % (
         sum(len(list(names.named(page))) for page in names.pages()), len(names.pages())))
@@ -109,7 +121,8 @@ def parser() -> argparse.ArgumentParser:
         ("samples", samples, run_samples), ("pressures", pressures, run_pressures), ("edits", edits, run_edits),
         ("figures", figures, run_figures), ("header", header, run_header), ("promises", promises, run_promises),
         ("bounds", bounds, run_bounds), ("names", names, run_names), ("lines", lines, run_lines),
-        ("bindings", bindings, run_bindings), ("believe", believe, run_believe), ("snippets", snippets, run_snippets),
+        ("bindings", bindings, run_bindings), ("believe", believe, run_believe), ("calls", calls, run_calls),
+        ("snippets", snippets, run_snippets),
     ):
         about, _, more = module.__doc__.partition("\n\n")
         found[name] = add_command(commands, name, about, "python3 -m tools.check " + name, "\n\n" + more)

@@ -1,4 +1,4 @@
-"""The programs `report` and `species` on every sample.
+"""The programs `report` and `species` on every sample, and with `pool` on many other sheets.
 
 What `report` prints is held against the stored report, samples/NAME.report;
 `species` must print the species of that report's last word as the reckoning has
@@ -6,9 +6,11 @@ them. Of a sheet that lacks its last byte both must print the same refusal. The
 examples of docs/SHEET.md must be stored reports, word for word, and the start of
 such species. A sheet that is named must be answered as one on standard input; a
 wrong call, a file that is not there and a folder must be said on standard error.
+Then all three programs are run on sheets of the vectors and pairs of them, accepted
+and refused, empty and longest: each must write one answer (tools/check/runs.py).
 
-The programs are target/bin/report and target/bin/species, as `rt check report
-species` or `rt ci` made them.
+The programs are target/bin/report, target/bin/species and target/bin/pool, as
+`rt check report species pool` or `rt ci` made them.
 """
 
 import re
@@ -22,6 +24,7 @@ from tools.reckoning import species
 
 REPORT = TOP / "target" / "bin" / "report"
 SPECIES = TOP / "target" / "bin" / "species"
+POOL = TOP / "target" / "bin" / "pool"
 PAGE = "docs/SHEET.md"
 INDENT = "    "
 
@@ -115,7 +118,7 @@ def species_faults(sheet: Path, report: bytes) -> Iterator[str]:
 
 def check(write: bool) -> Iterator[str]:
     """What is wrong; with `write` what `report` prints is stored first."""
-    for program in (REPORT, SPECIES):
+    for program in (REPORT, SPECIES, POOL):
         if not program.exists():
             yield "no target/bin/%s; rt check %s makes it" % (program.name, program.name)
             return

@@ -20,7 +20,7 @@ const LINE: usize = 53;
 
 // Writes what `requires` says and nothing else: the pooled sheet of two that were read and pool.
 fn write(first: &[u8], n: usize, second: &[u8], m: usize, bytes: &[u8]) -> bool
-    requires { ⌜ Taken n (now first) × Taken m (now second) ⌝ }
+    requires { ⌜ Taken 1 n (now first) × Taken 2 m (now second) ⌝ }
     requires { ⌜ (poolCheck (take n (now first)) (take m (now second)) longest ≡ Pass)
         × (now bytes ≡ pool (take n (now first)) (take m (now second))) ⌝ }
 {
@@ -37,7 +37,7 @@ fn refuse(sheet: &[u8], number: u64, place: u64) {
 
 // Pools the two sheets that were read and writes the pool, or the refusal.
 fn answer(first: &[u8], n: usize, second: &[u8], m: usize)
-    requires { ⌜ Taken n (now first) × Taken m (now second) ⌝ }
+    requires { ⌜ Taken 1 n (now first) × Taken 2 m (now second) ⌝ }
 {
     let mut out = [0u8; LONGEST];
     let a = &first[..n];

@@ -8,9 +8,9 @@ use native.Mathlib.Omega.{arith}
 use Rattle.io.specs.Counts.{Counts}
 use Rattle.program.specs.Reads.{taken, Reads}
 
-pub unread : (bytes : List ℕ) → Reads bytes (record { read = false; count = 0 })
-unread bytes = record { counts = (omega arith, refl); whole = λ e. let z : _≡_ {A = ℕ} 0 1 = cc in absurd (omega arith) }
+pub unread : (i : ℕ) (bytes : List ℕ) → Reads i bytes (record { read = false; count = 0 })
+unread i bytes = record { counts = (omega arith, refl); whole = λ e. let z : _≡_ {A = ℕ} 0 1 = cc in absurd (omega arith) }
 
--- after a read that returned n, whether or not the input ended there
-pub took : (bytes : List ℕ) (n : ℕ) (ended : Bool) → Counts n bytes → Reads bytes (record { read = ended; count = n })
-took bytes n ended h = record { counts = h; whole = λ e. taken n bytes h }
+-- after a read of source i that returned n, whether or not the input ended there
+pub took : (i : ℕ) (bytes : List ℕ) (n : ℕ) (ended : Bool) → Counts n bytes → Reads i bytes (record { read = ended; count = n })
+took i bytes n ended h = record { counts = h; whole = λ e. taken i n bytes h }

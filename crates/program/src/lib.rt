@@ -31,10 +31,10 @@ fn at_end(fd: i32) -> bool {
     libc::read(fd, &mut more) == 0
 }
 
-// Reads until the buffer is full or the input ends. An input longer than the buffer counts as read: the buffer has one
-// byte more than the longest sheet, so that what is in it is refused by its length, as the input would be whole.
-fn read(fd: i32, bytes: &mut [u8]) -> Input
-    ensures { λ r. ⌜ Reads (now (bytes .exit)) r ⌝ }
+// Reads source i until the buffer is full or the input ends. An input longer than the buffer counts as read: the buffer
+// has one byte more than the longest sheet, so that what is in it is refused by its length, as the input would be whole.
+fn read(fd: i32, i: usize, bytes: &mut [u8]) -> Input
+    ensures { λ r. ⌜ Reads i (now (bytes .exit)) r ⌝ }
 {
     let n = io::read_full(fd, bytes);
     if n < bytes.len() {
@@ -50,11 +50,11 @@ fn read(fd: i32, bytes: &mut [u8]) -> Input
     }
 }
 
-// The sheet of standard input.
+// The sheet of standard input, in place of argument 1.
 fn read_input(name: &[u8], bytes: &mut [u8]) -> Input
-    ensures { λ r. ⌜ Reads (now (bytes .exit)) r ⌝ }
+    ensures { λ r. ⌜ Reads 1 (now (bytes .exit)) r ⌝ }
 {
-    let input = read(STDIN_FILENO, bytes);
+    let input = read(STDIN_FILENO, 1, bytes);
     if !input.read {
         say(name, b": cannot read standard input\n");
     }
@@ -72,9 +72,9 @@ fn open(name: &[u8], path: &[u8]) -> i32 {
     fd
 }
 
-// The sheet of a file.
-fn read_file(name: &[u8], path: &[u8], bytes: &mut [u8]) -> Input
-    ensures { λ r. ⌜ Reads (now (bytes .exit)) r ⌝ }
+// The sheet of a file, which argument i names.
+fn read_file(name: &[u8], i: usize, path: &[u8], bytes: &mut [u8]) -> Input
+    ensures { λ r. ⌜ Reads i (now (bytes .exit)) r ⌝ }
 {
     let fd = open(name, path);
     if fd < 0 {
@@ -83,7 +83,7 @@ fn read_file(name: &[u8], path: &[u8], bytes: &mut [u8]) -> Input
             count: 0,
         };
     }
-    let input = read(fd, bytes);
+    let input = read(fd, i, bytes);
     if !input.read {
         say(name, b": cannot read ");
         os::fail(path);
@@ -94,7 +94,7 @@ fn read_file(name: &[u8], path: &[u8], bytes: &mut [u8]) -> Input
 
 // The sheet of the file that argument i names.
 pub fn read_argument(name: &[u8], i: usize, bytes: &mut [u8]) -> Input
-    ensures { λ r. ⌜ Reads (now (bytes .exit)) r ⌝ }
+    ensures { λ r. ⌜ Reads i (now (bytes .exit)) r ⌝ }
 {
     let mut path = io::buffer();
     let n = os::arg(i, &mut path);
@@ -106,7 +106,7 @@ pub fn read_argument(name: &[u8], i: usize, bytes: &mut [u8]) -> Input
             count: 0,
         };
     }
-    read_file(name, &path[..n], bytes)
+    read_file(name, i, &path[..n], bytes)
 }
 
 // Whether argument i starts with -: there are no options, so that --help and the like are answered with the usage, and
@@ -119,7 +119,7 @@ fn is_option(i: usize) -> bool {
 
 // The one sheet of a program: of the file that its argument names, or of standard input where it has none.
 pub fn read_sheet(name: &[u8], bytes: &mut [u8]) -> Input
-    ensures { λ r. ⌜ Reads (now (bytes .exit)) r ⌝ }
+    ensures { λ r. ⌜ Reads 1 (now (bytes .exit)) r ⌝ }
 {
     let count = os::arg_count();
     if count < 2 {

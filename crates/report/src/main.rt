@@ -15,14 +15,14 @@ const TEXT: usize = 151622;
 
 // Writes what `requires` says and nothing else: the text of the sheet that was read into the buffer.
 fn write(bytes: &[u8], count: usize, text: &[u8]) -> bool
-    requires { ⌜ Taken count (now bytes) × (now text ≡ reportText (take count (now bytes)) 6026) ⌝ }
+    requires { ⌜ Taken 1 count (now bytes) × (now text ≡ reportText (take count (now bytes)) 6026) ⌝ }
 {
     io::write_all(STDOUT_FILENO, text)
 }
 
 // Makes the text of the sheet that was read into the buffer and writes it, in one piece.
 fn answer(bytes: &[u8], count: usize) -> bool
-    requires { ⌜ Taken count (now bytes) ⌝ }
+    requires { ⌜ Taken 1 count (now bytes) ⌝ }
 {
     let mut words = [0u64; WORDS];
     let mut text = [0u8; TEXT];

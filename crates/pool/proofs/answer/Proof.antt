@@ -11,10 +11,10 @@ use Rattle.pool.proofs.answer.Tie as tie
 
 -- the parts of the buffers that were read
 slice-aggregate-a : tie.Need-slice-aggregate-a
-slice-aggregate-a c = counted _ _ (c .before .before .before .pre .0) .1
+slice-aggregate-a c = counted _ _ _ (c .before .before .before .pre .0) .1
 
 slice-aggregate-b : tie.Need-slice-aggregate-b
-slice-aggregate-b c = counted _ _ (c .before .before .before .before .pre .1) .1
+slice-aggregate-b c = counted _ _ _ (c .before .before .before .before .pre .1) .1
 
 pool-length-requires : tie.Need-pool-length-requires
 pool-length-requires c κs = pools (c .before .before .before .pool .ensures) (cc) .regions

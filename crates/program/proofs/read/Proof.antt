@@ -12,6 +12,6 @@ read-spec =
     (λ c κs. search needs)
     (λ c κs. search needs)
     (λ c. search needs)
-    (λ c. took _ _ _ (c .before .before .before .before .read-full .ensures))
+    (λ c. took _ _ _ _ (c .before .before .before .before .read-full .ensures))
     (λ c. search needs)
-    (λ c. took _ _ _ (c .before .before .before .read-full .ensures)))
+    (λ c. took _ _ _ _ (c .before .before .before .read-full .ensures)))

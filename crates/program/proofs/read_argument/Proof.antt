@@ -17,7 +17,7 @@ read-argument-spec =
     (λ c κs. search needs)
     (λ c. search needs)
     (λ c κs. search needs)
-    (λ c. unread _)
+    (λ c. unread _ _)
     (λ c. search needs)
     (λ c. search needs)
     (λ c κs. search needs)

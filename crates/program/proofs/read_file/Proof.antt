@@ -10,7 +10,7 @@ read-file-spec =
     tie.close
     (tie.spec
     (λ c κs. search needs)
-    (λ c. unread _)
+    (λ c. unread _ _)
     (λ c κs. search needs)
     (λ c. search needs)
     (λ c κs. search needs)

@@ -18,7 +18,7 @@ read-sheet-spec =
     (λ c κs. search needs)
     (λ c. search needs)
     (λ c κs. search needs)
-    (λ c. unread _)
+    (λ c. unread _ _)
     (λ c κs. search needs)
     (λ c. search needs)
     (λ c. search needs))

@@ -1,0 +1,94 @@
+"""The check of the public calls and of the programs' sources."""
+
+import unittest
+
+from tools.check import calls
+from tools.command import TOP
+
+IMPORT = "ghost use Rattle.program.specs.Reads.{Taken, counted};\n"
+ASKED = """pub fn arrive(
+    words: &mut [u64],
+) -> Check
+    requires { ⌜ 1 ≤ row ⌝ }
+    ensures { λ r. ⌜ row ≤ r ⌝ }
+{
+    inner(row)
+}
+"""
+
+
+def program(name: str) -> str:
+    return (TOP / "crates" / name / "src" / "main.rt").read_text(encoding="utf-8")
+
+
+class Taken(unittest.TestCase):
+    def told(self, place: str, text: str) -> int:
+        return len(list(calls.taken_faults(place, text)))
+
+    def test_a_program_has_it_from_a_function_that_reads(self):
+        self.assertEqual(self.told("crates/report/src/main.rt", IMPORT + "// taken from a file\n"), 0)
+        self.assertEqual(self.told("crates/pool/proofs/answer/Proof.antt",
+                                   "use Rattle.program.specs.Reads.{counted}\nx = taken-more\n"), 0)
+
+    def test_a_proof_of_another_crate_may_not_name_it(self):
+        for line in ("use Rattle.program.specs.Reads.{counted, taken}", "use Rattle.program.specs.Reads.{taken as t}",
+                     "use Rattle.program.specs.{Reads}\nx = Reads.taken 1", "use Rattle.program as p",
+                     "use Rattle.program.specs.Reads as R", "pub use Rattle.program.specs.Reads"):
+            self.assertNotEqual(self.told("crates/pool/proofs/main/Proof.antt", line + "\n"), 0, line)
+
+    def test_the_proofs_of_program_may(self):
+        text = "use Rattle.program.specs.Reads.{taken, Reads}\n"
+        self.assertEqual(self.told("crates/program/proofs/Taking.antt", text), 0)
+        self.assertEqual(self.told("crates/program/specs/Other.antt", text), 1)
+
+
+class Requires(unittest.TestCase):
+    def test_a_public_function_is_found(self):
+        self.assertEqual(calls.demanding(ASKED, exported=False), ["arrive"])
+
+    def test_a_private_one_may_require(self):
+        self.assertEqual(calls.demanding(ASKED.replace("pub fn", "fn"), exported=False), [])
+
+    def test_that_of_the_next_function_is_not_taken_for_it(self):
+        public = "pub fn a(s: &[u8]) -> u64\n    ensures { λ r. ⌜ r ≡ 1 ⌝ }\n{\n    1\n}\n\n"
+        self.assertEqual(calls.demanding(public + ASKED.replace("pub fn", "fn"), exported=False), [])
+        self.assertEqual(calls.demanding("pub fn a()\n{\n}\n// requires nothing\n" + ASKED, exported=False), ["arrive"])
+
+    def test_a_word_of_a_comment_is_no_clause(self):
+        self.assertEqual(calls.demanding("pub fn a() // requires nothing\n{\n}\n", exported=False), [])
+
+    def test_an_exported_function_is_found(self):
+        exported = ASKED.replace("pub fn", 'pub extern "C" fn')
+        self.assertEqual(calls.demanding(exported, exported=True), ["arrive"])
+        self.assertEqual(calls.demanding(ASKED, exported=True), [])
+
+    def test_each_crate_has_calls_that_are_looked_at(self):
+        found = {file.parent.parent.name for file in calls.roots() if calls.public(file.read_text(encoding="utf-8"))}
+        self.assertEqual(found, set(calls.CALLS))
+
+
+class Programs(unittest.TestCase):
+    def test_as_they_are(self):
+        for name in calls.PROGRAMS:
+            self.assertEqual(list(calls.program_faults(name, program(name))), [])
+
+    def test_which_functions_write(self):
+        for name in calls.PROGRAMS:
+            self.assertEqual(calls.writing(calls.bodies(program(name))), {"write", "answer", "main"})
+
+    def test_an_answer_more_or_less(self):
+        line = "        if !answer(&bytes, n) {\n"
+        for wrong in ("        answer(&bytes, n);\n" + line, "        if !input.read {\n",
+                      "        while !answer(&bytes, n) {\n",
+                      "        io::write_all(STDOUT_FILENO, &bytes[..n]);\n" + line):
+            text = program("report")
+            self.assertEqual(text.count(line), 1)
+            self.assertNotEqual(list(calls.program_faults("report", text.replace(line, wrong))), [], wrong)
+
+    def test_a_function_that_calls_itself(self):
+        text = program("report").replace("    write(bytes, count", "    answer(bytes, count);\n    write(bytes, count")
+        self.assertNotEqual(list(calls.program_faults("report", text)), [])
+
+
+if __name__ == "__main__":
+    unittest.main()
