@@ -29,7 +29,7 @@ READERS = "crates/program/proofs/"
 
 TAKEN = re.compile(r"(?<![\w'-])taken(?![\w'-])")
 USE = re.compile(r"\buse Rattle.program(?:·specs)?((?:\.\w+)*)(\.\{)?")
-FUNCTION = re.compile(r"^(?P<head>(?:pub )?(?:extern \"C\" )?)fn (?P<name>\w+)(?P<rest>.*?)^\{", re.M | re.S)
+FUNCTION = re.compile(r"^(?P<head>(?:pub )?(?:extern \"C\" )?)fn (?P<name>\w+)(?P<rest>.*?)(?:^\{| \{$)", re.M | re.S)
 LOOP = re.compile(r"\b(?:while|for|loop)\b")
 
 

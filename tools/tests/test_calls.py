@@ -54,6 +54,11 @@ class Requires(unittest.TestCase):
         self.assertEqual(calls.demanding(public + ASKED.replace("pub fn", "fn"), exported=False), [])
         self.assertEqual(calls.demanding("pub fn a()\n{\n}\n// requires nothing\n" + ASKED, exported=False), ["arrive"])
 
+    def test_a_function_without_clauses_before_it(self):
+        before = "fn a(x: u64) {\n    b(x)\n}\n\n"
+        self.assertEqual(calls.demanding(before + ASKED, exported=False), ["arrive"])
+        self.assertEqual(calls.demanding("pub " + before + ASKED.replace("pub fn", "fn"), exported=False), [])
+
     def test_a_word_of_a_comment_is_no_clause(self):
         self.assertEqual(calls.demanding("pub fn a() // requires nothing\n{\n}\n", exported=False), [])
 
