@@ -10,7 +10,8 @@ line says what the edit would break.
 
 With --logs, after `rt must-fail` or `rt ci`, the first error of each log under
 target/must-fail is looked at. It must show a goal that fails: two types that
-differ, a computed test that is false, or values at which `omega`'s goal fails.
+differ, an equation or a computed test that is false, or values at which `omega`'s
+goal fails.
 Where the prover only found no proof, the edited statement may still be true: then
 a line `# why: ..` of the edit must say why it is false, and is printed. A name or
 a field that is gone, a need that has another name, or a file that does not parse
@@ -42,10 +43,12 @@ NO_FACTS = {
     "an argument too many or too few": r"takes \d+ argument|is not a function|too many arguments",
 }
 
-# First errors that show a goal that fails: two types that differ, in a fact or in a computed test, or values of omega.
+# First errors that show a goal that fails: values of omega; two types that differ, in a fact or in a computed test; or
+# what a `rw` leaves of an equation.
 FACTS = {
     "values at which the goal fails": r"`omega`: .* All of that holds, and the goal fails",
     "two types that differ": r"the two types (first )?differ|expected type `.*but this has type `",
+    "an equation whose ends differ": r"must be a path whose two ends are equal, and `.*` is none",
 }
 
 # Every other first error: the prover gave up, and the edited statement may be true.

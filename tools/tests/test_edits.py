@@ -24,9 +24,20 @@ ORDER_EXCHANGED = """\
 /crates/findings/proofs/Agree.antt:260:5: error: `row-agrees`: as printed, the two types first differ where one has \
 `rowFinding` (expected), right after `Checks (`, and the other has `Rattle.findings.specs.Lines._orElse_` (found)
 """
+TOWN_AS_WORDS = """\
+/crates/boundary/proofs/CellNumbers.antt:113:18: error: `row-untold`: give a proof of that as the last argument, \
+`rw L t` (`rw L ?` shows it as a hole's goal), or add what is missing to the list
+  `rw` has no last argument, so what it leaves must be a path whose two ends are equal, and `Path RowCellsAnswer \
+(row.Refused 28 0) (handedRow w NoTravel)` is none
+"""
 LAST_LEFT_OUT = """\
 /crates/speciation/proofs/split/Proof.antt:43:51: error: `returns`: `omega`: the goal does not follow from what it \
 read. All of that holds, and the goal fails, at `c .before .loop .i` = 28. It read 9 hypotheses about numbers
+"""
+KILOGRAM_AS_GRAM = """\
+/crates/marking/proofs/exponent_of/Proof.antt:19:16: error: `returns-3`: list the missing equation with its arguments, \
+or rewrite by `rw` or `simp`
+  `cc` met a bound of its own before the equations had joined `borrow.Fn.Function.resV` to `exponent`
 """
 ONE_UNIT_LESS = """\
 /crates/bounds/proofs/PowerBound.antt:174:27: error: `product-below`: `omega` found no proof, and no values at which \
@@ -122,15 +133,23 @@ class RefusalTest(unittest.TestCase):
                 self.assertEqual(shown.said.partition(": ")[0], "refused by a fact, two types that differ")
                 self.assertEqual(shown.fault, "")
 
+    def test_ends_differ(self):
+        shown = edits.refusal(TOWN_AS_WORDS, "")
+        self.assertEqual(shown.said.partition(": ")[0], "refused by a fact, an equation whose ends differ")
+        self.assertEqual(shown.fault, "")
+
     def test_values(self):
         shown = edits.refusal(LAST_LEFT_OUT, "")
         self.assertEqual(shown.said.partition(": ")[0], "refused by a fact, values at which the goal fails")
         self.assertEqual(shown.fault, "")
 
     def test_no_proof_found(self):
-        shown = edits.refusal(ONE_UNIT_LESS, "")
-        self.assertEqual(shown.said, "")
-        self.assertIn("not proved; no counterexample shown, and no line `# why:` says why it is false", shown.fault)
+        for log in (ONE_UNIT_LESS, KILOGRAM_AS_GRAM):
+            with self.subTest(log=log):
+                shown = edits.refusal(log, "")
+                self.assertEqual(shown.said, "")
+                self.assertIn("not proved; no counterexample shown, and no line `# why:` says why it is false",
+                              shown.fault)
 
     def test_no_proof_found_of_what_is_false(self):
         shown = edits.refusal(ONE_UNIT_LESS, "643 was measured")
