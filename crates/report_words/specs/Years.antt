@@ -2,7 +2,7 @@
 use mathlib.Core.Bool.{Bool}
 use mathlib.Core.List.{List, _++_}
 use mathlib.Core.Path.{_≡_}
-use Prim.Native.Nat.{ℕ, suc, zero, _+_, _*_, _/_, _%_, _^_, _≤_, _<_}
+use Prim.Native.Nat.{ℕ, suc, zero, _+_, _*_, _-_, _/_, _%_, _^_, _≤_, _<_}
 use lib.ListN.{length, getD, take, drop}
 use Rattle.numbers.specs.Lists.{tab, sum}
 use Rattle.exact.specs.declared.Season.{Season}
@@ -26,6 +26,10 @@ seasonAdded s season words k =
 -- all words of the rows fit 64 bits then
 pub record SeasonFits (s : List ℕ) (season : Season) (words : List ℕ) : Type 0 where
   pub word-fits : (k : ℕ) → k < 6 * rowsOf s → seasonAdded s season words k < 2 ^ 64
+
+-- word k of the rows, a figure of one vehicle, for all vehicles of its row in milligrams: a low rounded down, a high rounded up
+abbrev pub inMilligrams : List ℕ → List ℕ → ℕ → ℕ
+inMilligrams s words k = (getD words k 0 * (rowAt s (k / 6)) .vehicles + k % 2 * (10 ^ 9 - 1)) / 10 ^ 9
 
 -- the first n words replaced by those of f
 abbrev pub filled : (ℕ → ℕ) → ℕ → List ℕ → List ℕ
