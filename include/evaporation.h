@@ -207,6 +207,25 @@ struct evp_text_check evp_text(const uint8_t *sheet, size_t sheet_bytes, uint64_
 struct evp_factor_band evp_factor(const uint8_t *sheet, size_t sheet_bytes, uint64_t season, uint64_t row,
                                   uint64_t factor);
 
+/* All seven factors of a season and a row. */
+struct evp_row_factors {
+    uint64_t number;    /* of enum evp_number, as evp_factor has it */
+    uint64_t place;     /* as above */
+    uint64_t bands[14]; /* low and high of factors 1 to 7 in micrograms; zeros where the call is refused */
+};
+
+/* The bands of factors 1 to 7 that evp_factor would answer, one after another. */
+struct evp_row_factors evp_row_factors(const uint8_t *sheet, size_t sheet_bytes, uint64_t season, uint64_t row);
+
+/* All factors of a sheet, season by season and row by row: 14 words each, as in evp_row_factors. Accepted: the first
+ * 14 * seasons * rows words are written, those beyond keep what they had. Refused, with EVP_ROOM where the words are
+ * too few: all words keep what they had. */
+struct evp_check evp_factors(const uint8_t *sheet, size_t sheet_bytes, uint64_t *words, size_t words_count);
+
+/* The report of each season alone, one after another: EVP_WORDS_OF(rows) words each, in the order of evp_report, with
+ * the exact masses of that season in each row's bands. Accepted and refused as evp_factors. */
+struct evp_check evp_report_seasons(const uint8_t *sheet, size_t sheet_bytes, uint64_t *words, size_t words_count);
+
 /* The species of Table 3-14 in printed order: ten alkanes, ten alkenes, two alkines, seven aromatics. */
 #define EVP_SPECIES 29
 

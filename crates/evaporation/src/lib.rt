@@ -12,6 +12,7 @@ ghost use Rattle.boundary.specs.Export.{ReportNumbers, FactorNumbers};
 ghost use Rattle.boundary.specs.TextExport.{TextNumbers};
 ghost use Rattle.boundary.specs.Version.{libraryVersion};
 
+mod bulk;
 pub mod filed;
 pub mod map;
 mod pool;
