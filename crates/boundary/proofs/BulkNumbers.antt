@@ -8,7 +8,7 @@ use Rattle.numbers.specs.Lists.{at}
 use Rattle.sheet.specs.declared.Check.{Check}
 use Rattle.sheet.specs.declared.Check.the-variants.{Pass, Refused}
 use Rattle.sheet.specs.Check.{numberOf, placeOf}
-use Rattle.inventory.specs.FactorCall.{factorAnswer}
+use Rattle.inventory.specs.FactorAnswers.{factorAnswer}
 use Rattle.factor_table.specs.declared.RowFactors.{RowFactors}
 use Rattle.factor_table.specs.RowFactors.{bandWords, lowPlace, highPlace, rowCheck, rowAnswered, rowAnswer, oneOf, RowFactorsCall}
 use Rattle.factor_table.specs.Factors.{FactorsCall}

@@ -8,8 +8,9 @@ use Rattle.numbers.specs.Lists.{at}
 use Rattle.sheet.specs.Bytes.{seasonsOf, rowsOf}
 use Rattle.sheet.specs.Check.{numberOf, placeOf}
 use Rattle.sheet.specs.Demands.{Says}
-use Rattle.report_words.specs.Report.{reportLength}
-use Rattle.inventory.specs.FactorCall.{factorAnswer, FactorBand}
+use Rattle.report_words.specs.Categories.{reportLength}
+use Rattle.inventory.specs.FactorAnswers.{factorAnswer}
+use Rattle.inventory.specs.FactorBand.{FactorBand}
 use Rattle.inventory.specs.ReportCall.{written}
 use Rattle.factor_table.specs.declared.RowFactors.{RowFactors}
 use Rattle.factor_table.specs.RowFactors.{lowPlace, highPlace, rowDemands, rowAnswer}

@@ -10,10 +10,10 @@ pub fn row_factors_numbers(a: RowFactors) -> EvpRowFactors
 {
     let check = a.check;
     let bands = a.bands;
-    let told = check_numbers(check);
+    let numbers = check_numbers(check);
     EvpRowFactors {
-        number: told.number,
-        place: told.place,
+        number: numbers.number,
+        place: numbers.place,
         bands: bands,
     }
 }

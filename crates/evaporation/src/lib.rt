@@ -22,8 +22,8 @@ mod shared;
 mod sheets;
 pub mod species;
 
-// Version 1.0.0: a million for each major, a thousand for each minor.
-const VERSION: u64 = 1000000;
+// Version 1.1.0: a million for each major, a thousand for each minor.
+const VERSION: u64 = 1001000;
 
 // The version of the library, which its header names too.
 #[no_mangle]

@@ -15,8 +15,8 @@ use Rattle.sheet.specs.Bytes.{cellsOf, seasonAt, rowAt}
 use Rattle.sheet.specs.Sheet.{outside}
 use Rattle.sheet.proofs.Accepted.{Bytes}
 use Rattle.inventory.specs.declared.FactorAnswer.the-variants as answer
-use Rattle.inventory.specs.FactorCall.{numbered, factorCheck, unitsAt, factorAnswer, FactorBand}
-use Rattle.inventory.specs.FactorCall.{answerNumber, answerLow, answerHigh}
+use Rattle.inventory.specs.FactorBand.{numbered, FactorBand, answerNumber, answerLow, answerHigh}
+use Rattle.inventory.specs.FactorAnswers.{factorCheck, unitsAt, factorAnswer}
 use Rattle.inventory.proofs.FactorPromise.{band-is, promised}
 use Rattle.factor_table.specs.RowFactors.{side, bandOf, bandWords, lowPlace, highPlace, rowCheck}
 

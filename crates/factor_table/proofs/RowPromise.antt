@@ -10,7 +10,8 @@ use Rattle.sheet.specs.declared.Check.the-variants.{Pass, Refused}
 use Rattle.sheet.specs.Check.{numberOf, placeOf}
 use Rattle.sheet.specs.Demands.{Says}
 use Rattle.sheet.proofs.Accepted.{Bytes}
-use Rattle.inventory.specs.FactorCall.{factorCheck, factorAnswer, FactorBand}
+use Rattle.inventory.specs.FactorAnswers.{factorCheck, factorAnswer}
+use Rattle.inventory.specs.FactorBand.{FactorBand}
 use Rattle.inventory.proofs.CallConditions.{factor-judged, factor-says, number-zero}
 use Rattle.inventory.proofs.FactorPromise.{refusal-is}
 use Rattle.factor_table.specs.declared.RowFactors.{RowFactors}

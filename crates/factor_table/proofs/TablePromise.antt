@@ -19,7 +19,8 @@ use Rattle.sheet.proofs.Conditions.{sheet-judged, no-zero}
 use Rattle.sheet.proofs.Stages.{go}
 use Rattle.sheet.proofs.Accepted.{Bytes}
 use Rattle.inventory.specs.declared.FactorAnswer.the-variants as answer
-use Rattle.inventory.specs.FactorCall.{factorCheck, factorAnswer, FactorBand}
+use Rattle.inventory.specs.FactorAnswers.{factorCheck, factorAnswer}
+use Rattle.inventory.specs.FactorBand.{FactorBand}
 use Rattle.inventory.specs.ReportCall.{written}
 use Rattle.inventory.proofs.CallConditions.{number-zero}
 use Rattle.inventory.proofs.Written.{written-first}

@@ -12,7 +12,8 @@ use Rattle.sheet.specs.Check.{refuse, _then_, numberOf, placeOf}
 use Rattle.sheet.specs.Sheet.{sheetCheck}
 use Rattle.sheet.specs.Demands.{Demands, demand, _next_, Says, demands}
 use Rattle.inventory.specs.declared.FactorAnswer.the-variants as answer
-use Rattle.inventory.specs.FactorCall.{factorAnswer, FactorBand}
+use Rattle.inventory.specs.FactorAnswers.{factorAnswer}
+use Rattle.inventory.specs.FactorBand.{FactorBand}
 use Rattle.inventory.specs.ReportCall.{written}
 use Rattle.factor_table.specs.RowFactors.{bandWords, lowPlace, highPlace}
 

@@ -11,7 +11,8 @@ use Rattle.sheet.specs.Demands.{Demands, Says}
 use Rattle.factors.specs.Units.{lowMicrograms, highMicrograms}
 use Rattle.inventory.specs.declared.FactorAnswer.{FactorAnswer}
 use Rattle.inventory.specs.declared.FactorAnswer.the-variants as answer
-use Rattle.inventory.specs.FactorCall.{factorCheck, factorDemands, unitsAt, factorAnswer, FactorBand}
+use Rattle.inventory.specs.FactorAnswers.{factorCheck, unitsAt, factorAnswer}
+use Rattle.inventory.specs.FactorBand.{factorDemands, FactorBand}
 use Rattle.factor_table.specs.declared.RowFactors.{RowFactors}
 
 -- a factor in micrograms: 0 for its low, rounded down, and any other number for its high, rounded up

@@ -39,20 +39,11 @@ fn season_factors(
     ensures { λ _. ⌜ now (words .exit) ≡ seasonFactors (now (s .entry)) j ⌝ }
 {
     let prepared = prepare(tables, grid, season_at(s, j), true);
-    let day = prepared.day;
     let at = prepared.at;
     let rows = rows_of(s);
     let mut i: usize = 0;
     while i < rows {
-        let units = row_units(
-            tables,
-            grid,
-            &prepared.list,
-            &day,
-            at,
-            row_at(s, i),
-            kept[i],
-        );
+        let units = row_units(tables, grid, &prepared.list, at, row_at(s, i), kept[i]);
         put_bands(words, BAND_WORDS * i, units);
         i += 1;
     }

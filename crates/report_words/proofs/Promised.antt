@@ -13,9 +13,8 @@ use Rattle.masses.specs.AnyCounts.{Every, InRange}
 use Rattle.masses.proofs.MassWidth.{no-vehicles}
 use Rattle.masses.proofs.AnyCounts.{any-masses}
 use Rattle.report_words.specs.Report.{wordsOf, subtotal, grandTotal, report}
-use Rattle.report_words.specs.Categories.{car, lightDuty, twoWheeler, anyClass, counted}
+use Rattle.report_words.specs.Categories.{car, lightDuty, twoWheeler, anyClass, counted, category}
 use Rattle.report_words.specs.Promise.{RowPromise, rowsSum, categoryWord, SumsPromise, ReportPromise}
-use Rattle.report_words.specs.Categories.{category}
 use Rattle.report_words.proofs.ReportPlaces.{row-word-at, category-word-at, total-at}
 use Rattle.sheet_factors.proofs.AcceptedRange.{cells-least, row-shares, in-range, every-season}
 

@@ -10,8 +10,9 @@ use lib.ListN.{getD}
 use Rattle.numbers.specs.Lists.{tab, at, sum}
 use Rattle.numbers.proofs.Lists.{tab-length, getD-tab, sum-ext}
 use Rattle.sheet.specs.Bytes.{seasonsOf, rowsOf, rowAt}
-use Rattle.report_words.specs.Report.{reportLength, wordsOf, counted, subtotal, grandTotal, anyClass, report}
-use Rattle.report_words.specs.Years.{seasonFigure, category}
+use Rattle.report_words.specs.Categories.{reportLength, counted, anyClass, category}
+use Rattle.report_words.specs.Report.{wordsOf, subtotal, grandTotal, report}
+use Rattle.report_words.specs.Years.{seasonFigure}
 use Rattle.report_words.proofs.ReportPlaces.{row-word-at, category-word-at, total-at}
 use Rattle.report_words.proofs.YearWords.{word-from-year}
 use Rattle.report_sums.specs.Sums.{bufferSum}

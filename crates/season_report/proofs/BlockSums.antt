@@ -10,8 +10,7 @@ use lib.Seq.{sets, sets-eq, take-at, drop-at, drop-drop, getD-take, getD-append-
 use Rattle.numbers.specs.Lists.{tab, at}
 use Rattle.numbers.proofs.Lists.{tab-length, getD-tab, tab-ext}
 use Rattle.sheet.specs.Bytes.{rowsOf, rowAt}
-use Rattle.report_words.specs.Report.{counted}
-use Rattle.report_words.specs.Years.{category}
+use Rattle.report_words.specs.Categories.{counted, category}
 use Rattle.report_sums.specs.Sums.{bufferSum, sumWord, summed, threeWord, totalled, resummed}
 use Rattle.season_report.specs.Seasons.{sumsOf, totalOf, withSums}
 

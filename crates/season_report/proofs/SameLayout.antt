@@ -10,8 +10,8 @@ use lib.Seq.{ext-getD}
 use Rattle.numbers.specs.Lists.{tab, at}
 use Rattle.numbers.proofs.Lists.{tab-length, getD-tab, tab-ext}
 use Rattle.sheet.specs.Bytes.{seasonsOf, rowsOf, cellsOf, seasonsFrom, seasonList, rowAt}
-use Rattle.report_words.specs.Report.{reportLength, wordsOf, subtotal, grandTotal, report}
-use Rattle.report_words.specs.Years.{category}
+use Rattle.report_words.specs.Categories.{reportLength, category}
+use Rattle.report_words.specs.Report.{wordsOf, subtotal, grandTotal, report}
 use Rattle.report_words.proofs.ReportPlaces.{report-length, row-word-at, category-word-at, total-at}
 use Rattle.report_sums.specs.Sums.{bufferSum}
 use Rattle.season_report.specs.Seasons.{seasonWord, sumsOf, totalOf, withSums, seasonReport}

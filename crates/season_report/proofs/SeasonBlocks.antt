@@ -10,14 +10,15 @@ use Rattle.numbers.proofs.Lists.{tab-length, getD-tab, tab-ext}
 use Rattle.exact.specs.Masses.{diurnal, soak, running}
 use Rattle.sheet.specs.Limits.{daysLimit}
 use Rattle.sheet.specs.Bytes.{seasonsOf, rowsOf, cellsOf, seasonAt, rowAt}
-use Rattle.sheet.specs.Sheet.{vehiclesBefore}
+use Rattle.sheet.specs.RunningSums.{vehiclesBefore}
 use Rattle.sheet.proofs.Fleet.{vehicles-most}
 use Rattle.sheet.proofs.Accepted.{Bytes, Accepted}
-use Rattle.masses.specs.Figures.{yearFigure, lowFigure, highFigure, rowFigures, allDays}
+use Rattle.masses.specs.Figures.{yearFigure, lowFigure, highFigure, rowFigures}
+use Rattle.masses.specs.Bands.{allDays}
 use Rattle.masses.specs.Day.{dayFigures}
 use Rattle.masses.proofs.MassSizes.{vehicleMost, yearMost, RowSized, word-most, year-fits}
 use Rattle.sheet_factors.proofs.AcceptedRange.{row-shares, sized}
-use Rattle.report_words.specs.Report.{counted}
+use Rattle.report_words.specs.Categories.{counted}
 use Rattle.report_words.specs.Years.{seasonFigure, seasonAdded, SeasonFits, inMilligrams, filled}
 use Rattle.report_words.proofs.Filled.{filled-less, first-at}
 use Rattle.report_words.proofs.YearWords.{row-year-most}

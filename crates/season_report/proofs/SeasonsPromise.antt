@@ -24,9 +24,8 @@ use Rattle.sheet.proofs.Accepted.{Bytes, Accepted, accepted}
 use Rattle.masses.specs.Figures.{rowFigures}
 use Rattle.masses.proofs.MassWidth.{mass-band, no-vehicles}
 use Rattle.sheet_factors.proofs.AcceptedRange.{row-shares, enclosed}
-use Rattle.report_words.specs.Report.{reportLength, counted}
+use Rattle.report_words.specs.Categories.{reportLength, counted, category}
 use Rattle.report_words.specs.Promise.{rowsSum, categoryWord}
-use Rattle.report_words.specs.Years.{category}
 use Rattle.report_words.proofs.Promised.{sums-hold}
 use Rattle.report_sums.specs.Sums.{bufferSum}
 use Rattle.inventory.specs.ReportCall.{written}

@@ -13,10 +13,10 @@ use Rattle.sheet.specs.Bytes.{seasonsOf, rowsOf, cellsOf, seasonAt, rowAt}
 use Rattle.sheet.specs.Check.{refuse, _then_, numberOf, placeOf}
 use Rattle.sheet.specs.Sheet.{sheetCheck}
 use Rattle.sheet.specs.Demands.{Demands, demand, _next_, Says, demands}
-use Rattle.masses.specs.Figures.{rowFigures, MassBand}
-use Rattle.report_words.specs.Report.{reportLength}
+use Rattle.masses.specs.Figures.{rowFigures}
+use Rattle.masses.specs.Bands.{MassBand}
+use Rattle.report_words.specs.Categories.{reportLength, category}
 use Rattle.report_words.specs.Promise.{SumsPromise}
-use Rattle.report_words.specs.Years.{category}
 use Rattle.report_sums.specs.Sums.{bufferSum}
 use Rattle.inventory.specs.ReportCall.{written}
 

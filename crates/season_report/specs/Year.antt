@@ -6,7 +6,8 @@ use Rattle.numbers.specs.Fraction.{Fraction, _≈ᶠ_, _+ᶠ_, whole}
 use Rattle.numbers.specs.Lists.{tab, at, sum}
 use Rattle.exact.specs.Masses.{Mechanism, mass}
 use Rattle.sheet.specs.Bytes.{seasonsOf, rowsOf, cellsOf, seasonList, rowAt}
-use Rattle.report_words.specs.Report.{report, reportLength}
+use Rattle.report_words.specs.Report.{report}
+use Rattle.report_words.specs.Categories.{reportLength}
 use Rattle.season_report.specs.Seasons.{alone, withSums, seasonReport}
 
 -- the exact masses of the first k seasons of row i, each of that season alone, added up

@@ -17,7 +17,7 @@ ghost use Rattle.sheet.specs.declared.Check.the-variants.{Pass};
 ghost use Rattle.sheet.specs.Bytes.{seasonsOf, rowsOf};
 ghost use Rattle.sheet.specs.Sheet.{sheetCheck};
 ghost use Rattle.sheet_factors.specs.Lent.{SheetLent, RowsKept};
-ghost use Rattle.report_words.specs.Report.{reportLength};
+ghost use Rattle.report_words.specs.Categories.{reportLength};
 ghost use Rattle.inventory.specs.ReportCall.{written};
 ghost use Rattle.season_report.specs.Seasons.{seasonReport, reportSeasons, seasonsCheck, SeasonsCall};
 

@@ -10,7 +10,7 @@ use Rattle.sheet.specs.Bytes.{seasonsOf, rowsOf}
 use Rattle.sheet.proofs.Accepted.{accepted}
 use Rattle.sheet.proofs.Stages.{stop, go}
 use Rattle.sheet.proofs.Places.{parking-there, rows-fit}
-use Rattle.report_words.specs.Report.{reportLength}
+use Rattle.report_words.specs.Categories.{reportLength}
 use Rattle.inventory.proofs.CallConditions.{refused, allowed}
 use Rattle.season_report.specs.Seasons.{seasonsCheck}
 use Rattle.season_report.proofs.seasons_check.Statement.{statement}

@@ -8,7 +8,7 @@ use lib.ListN.{length, take, drop, length-take, length-drop}
 use Rattle.sheet.specs.Bytes.{seasonsOf, rowsOf}
 use Rattle.sheet.proofs.Accepted.{accepted}
 use Rattle.sheet.proofs.Places.{parking-there, rows-fit}
-use Rattle.report_words.specs.Report.{reportLength}
+use Rattle.report_words.specs.Categories.{reportLength}
 use Rattle.blocks.proofs.Blocks.{filledBlocks, blocks-none, blocks-kept, blocks-put}
 use Rattle.season_report.specs.Seasons.{seasonReport}
 use Rattle.season_report.proofs.SeasonsPromise.{block-length, all-written}

@@ -12,8 +12,7 @@ use Rattle.sheet.proofs.Accepted.{Bytes, accepted}
 use Rattle.sheet.proofs.Places.{parking-there, rows-fit, season-there, row-there}
 use Rattle.row_factors.specs.Seven.{sevenUnits}
 use Rattle.masses.proofs.FigureSizes.{units-in-range}
-use Rattle.sheet_factors.specs.Lent.{SeasonLent}
-use Rattle.sheet_factors.proofs.SeasonWork.{season-lent, alike}
+use Rattle.sheet_factors.proofs.SeasonWork.{SeasonLent, season-lent, alike}
 use Rattle.blocks.proofs.Blocks.{filledBlocks, blocks-none}
 use Rattle.factor_table.specs.RowFactors.{bandWords}
 use Rattle.factor_table.specs.Factors.{seasonFactors}
@@ -23,21 +22,21 @@ use Rattle.factor_table.proofs.table.season_factors.Statement.{statemen
 use Rattle.factor_table.proofs.table.season_factors.Tie as tie
 
 abbrev Inv-loop : tie.InvT-loop
-Inv-loop tables grid kept s j words₀ prepared day at rows i₀ words i =
+Inv-loop tables grid kept s j words₀ prepared at rows i₀ words i =
     (i ≤ rows) × (length words ≡ length words₀) × (words ≡ filledBlocks (bandWords s j) 14 (bands-length s j) words₀ i)
 
 abbrev μ-loop : tie.MeasureT-loop
-μ-loop tables grid kept s j words₀ prepared day at rows i₀ words i = rows - i
+μ-loop tables grid kept s j words₀ prepared at rows i₀ words i = rows - i
 
 -- from inside the loop back to before it, from there to where the season was prepared, and to the start
 abbrev inside : tie.After-row-at Inv-loop μ-loop → tie.In-loop Inv-loop μ-loop
-inside c = c .before .before .before .before
+inside c = c .before .before .before
 
 abbrev ahead : tie.In-loop Inv-loop μ-loop → tie.After-rows-of Inv-loop μ-loop
 ahead c = c .before .before
 
 abbrev made : tie.After-rows-of Inv-loop μ-loop → tie.After-prepare Inv-loop μ-loop
-made c = c .before .before .before
+made c = c .before .before
 
 abbrev start : tie.After-prepare Inv-loop μ-loop → tie.Start Inv-loop μ-loop
 start c = c .before .before .before .before
@@ -58,7 +57,7 @@ season-is : (c : tie.After-prepare Inv-loop μ-loop)
 season-is c = rw (c .before .season-at .ensures .0) at (c .prepare .ensures .0)
 
 ready : (c : tie.After-prepare Inv-loop μ-loop)
-    → let x = start c .args in SeasonLent (x .s .now) (x .tables .now) (x .grid .now) (c .prepare .result .day) (c .prepare .result .at)
+    → let x = start c .args in SeasonLent (x .s .now) (x .tables .now) (x .grid .now) (c .prepare .result .at)
 ready c =
     let p = start c .pre in
     season-lent (bytes (c .before .before)) (p .0) (p .1) (season-is c) (c .prepare .ensures .1)
@@ -135,9 +134,9 @@ season-factors-spec =
     μ-loop
     (λ c κs. let p = c .before .before .pre in season-there _ (p .0 .passes) (p .1))
     (λ c κs. let p = c .before .before .before .pre in (p .0 .tables-are, p .0 .grid-ready, in-range c))
-    (λ c κs. omega (arith, parking-there _ (start (c .before .before) .pre .0 .passes)))
+    (λ c κs. omega (arith, parking-there _ (start (c .before) .pre .0 .passes)))
     (λ c. let x = start (made c) .args in (search needs, refl, blocks-none _ 14 (bands-length (x .s .now) (x .j)) _))
-    (λ c κs. row-there _ (start (made (ahead (c .before .before .before))) .pre .0 .passes) (there (c .before .before .before)))
+    (λ c κs. row-there _ (start (made (ahead (c .before .before))) .pre .0 .passes) (there (c .before .before)))
     (λ c. omega (arith, placed c))
     (λ c. omega (arith, placed c))
     row-units-requires

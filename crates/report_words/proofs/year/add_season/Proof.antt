@@ -11,8 +11,7 @@ use Rattle.sheet.specs.Bytes.{rowsOf, cellsOf, seasonAt, rowAt}
 use Rattle.sheet.proofs.Accepted.{Bytes, accepted}
 use Rattle.sheet.proofs.Places.{parking-there, rows-fit, season-there, row-there}
 use Rattle.masses.specs.Day.{dayFigures}
-use Rattle.sheet_factors.proofs.SeasonWork.{SeasonLent}
-use Rattle.sheet_factors.proofs.SeasonWork.{season-lent, use-in-range}
+use Rattle.sheet_factors.proofs.SeasonWork.{SeasonLent, season-lent, use-in-range}
 use Rattle.report_words.specs.Years.{seasonAdded, SeasonFits, filled}
 use Rattle.report_words.proofs.Filled.{filled-none, filled-all}
 use Rattle.report_words.proofs.SeasonWords.{row-sums-fit, row-stored}
