@@ -30,8 +30,8 @@ one-numbers (Refused number place) w k l m e =
     let high = getD-replicate {A = ℕ} 14 (highPlace k) 0 0 (omega arith) in
     rw (e, low, high) refl
 
-pub row-factors-numbers : {s : List ℕ} {season row : ℕ} {a : RowFactors} {r : EvpRowFactors} → RowFactorsCall s season row a → r ≡ rowFactorsNumbers a
-    → RowFactorsNumbers s season row r
+pub row-factors-numbers : {s : List ℕ} {season row : ℕ} {a : RowFactors} {r : EvpRowFactors} → RowFactorsCall s season row a
+    → r ≡ rowFactorsNumbers a → RowFactorsNumbers s season row r
 unfolding rowFactorsNumbers rowAnswer
 row-factors-numbers {s} {season} {row} {a} h e = record {
   answer-is = e ∙ ap rowFactorsNumbers (h .answer-is);
@@ -41,7 +41,8 @@ row-factors-numbers {s} {season} {row} {a} h e = record {
       rw e (ap factorNumbers (sym (h .same k l m)) ∙ one-numbers (rowCheck s season row) (bandWords s season row) k l m (h .answer-is));
 }
 
-pub factors-numbers : {s old words : List ℕ} {c : Check} {r : EvpCheck} → FactorsCall s old words c → r ≡ checkNumbers c → FactorsNumbers s old words r
+pub factors-numbers : {s old words : List ℕ} {c : Check} {r : EvpCheck} → FactorsCall s old words c → r ≡ checkNumbers c
+    → FactorsNumbers s old words r
 factors-numbers a e =
     let n = e ∙ check-is _ in
     record {
@@ -51,7 +52,8 @@ factors-numbers a e =
       bands = rw n (a .bands);
     }
 
-pub seasons-numbers : {s old words : List ℕ} {c : Check} {r : EvpCheck} → SeasonsCall s old words c → r ≡ checkNumbers c → SeasonsNumbers s old words r
+pub seasons-numbers : {s old words : List ℕ} {c : Check} {r : EvpCheck} → SeasonsCall s old words c → r ≡ checkNumbers c
+    → SeasonsNumbers s old words r
 seasons-numbers a e =
     let n = e ∙ check-is _ in
     record {

@@ -54,8 +54,8 @@ pub fn add_season(
 )
     requires { ⌜ SheetLent (now s) (now tables) (now grid) × (j < seasonsOf (now s)) × (6 * rowsOf (now s) ≤ length (now words))
         × SeasonFits (now s) (seasonAt (now s) j) (now words) × RowsKept (now s) (now kept) ⌝ }
-    ensures { λ _. ⌜ now (words .exit)
-        ≡ filled (seasonAdded (now (s .entry)) (seasonAt (now (s .entry)) j) (now (words .entry))) (6 * rowsOf (now (s .entry))) (now (words .entry)) ⌝ }
+    ensures { λ _. ⌜ now (words .exit) ≡ filled (seasonAdded (now (s .entry)) (seasonAt (now (s .entry)) j) (now (words .entry)))
+        (6 * rowsOf (now (s .entry))) (now (words .entry)) ⌝ }
 {
     let prepared = prepare(tables, grid, season_at(s, j), true);
     let at = prepared.at;

@@ -122,7 +122,8 @@ module _ (s : List ℕ) where
   unfolding grandTotal category
   totals-within m h =
       let word : ℕ → ℕ → ℕ = λ t j. bufferSum s (rows j) (category 3) (rowsOf s) t in
-      let each : sum (λ (j : ℕ). totalOf (sumsOf s (rows j)) m) (seasonsOf s) ≡ sum (λ (j : ℕ). word m j + word (2 + m) j + word (4 + m) j) (seasonsOf s) =
+      let each : sum (λ (j : ℕ). totalOf (sumsOf s (rows j)) m) (seasonsOf s)
+      ≡ sum (λ (j : ℕ). word m j + word (2 + m) j + word (4 + m) j) (seasonsOf s) =
       sum-ext (seasonsOf s) (λ j l.
       rw (
         all-rows j m (18 + m) (omega arith) refl,

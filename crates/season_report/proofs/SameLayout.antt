@@ -61,7 +61,8 @@ module _ (s : List ℕ) where
                   let m : ℕ = (k - 6 * rowsOf s) % 6 in
                   let place : k ≡ 6 * (rowsOf s + c) + m = omega arith in
                   ap (at (report s)) place ∙ category-word-at s c m (omega arith) (omega arith) ∙
-                  sym (category-word s rows long k c m (omega arith) (omega arith) place ∙ sum-is (category c) (rowsOf s) m (omega arith) (omega arith))
+                  sym (category-word s rows long k c m (omega arith) (omega arith) place ∙
+                  sum-is (category c) (rowsOf s) m (omega arith) (omega arith))
               | yes in-totals ↦
                   let m : ℕ = k - (6 * rowsOf s + 24) in
                   let place : k ≡ 6 * rowsOf s + 24 + m = omega arith in

@@ -87,7 +87,8 @@ module _ {s : List ℕ} (bytes : Bytes s) (a : Accepted s) (j : ℕ) (there : j 
         );
   }
     where
-      most : (f : ℕ → Bool) (m : ℕ) → m < 6 → bufferSum s (tab (seasonWord s j) (6 * rowsOf s)) f (rowsOf s) m ≤ vehicleMost * vehiclesBefore s (rowsOf s)
+      most : (f : ℕ → Bool) (m : ℕ) → m < 6
+          → bufferSum s (tab (seasonWord s j) (6 * rowsOf s)) f (rowsOf s) m ≤ vehicleMost * vehiclesBefore s (rowsOf s)
       most f m h =
           sum-most s (tab (seasonWord s j) (6 * rowsOf s)) f (rowsOf s) m
           (λ i row. rw (season-word-at i m row h) (word-most (row-sized i row) m))

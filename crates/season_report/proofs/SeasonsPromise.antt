@@ -159,7 +159,11 @@ module _ {s : List ℕ} (bytes : Bytes s) (a : Accepted s) (j : ℕ) (there : j 
   grand m h =
       holds (6 * (rowsOf s + 4) + m) (omega arith) ∙
       total-word s rows (tab-length _ (6 * rowsOf s)) (6 * (rowsOf s + 4) + m) m h (omega arith) ∙
-      rw (all-rows m (18 + m) (omega arith) refl, all-rows (m + 2) (20 + m) (omega arith) (omega arith), all-rows (m + 4) (22 + m) (omega arith) (omega arith)) refl
+      rw (
+        all-rows m (18 + m) (omega arith) refl,
+        all-rows (m + 2) (20 + m) (omega arith) (omega arith),
+        all-rows (m + 4) (22 + m) (omega arith) (omega arith),
+      ) refl
 
   pub season-promise : SeasonPromise s j words
   season-promise = record { each-row = row-promise; sums = sums-hold a category-sum grand }

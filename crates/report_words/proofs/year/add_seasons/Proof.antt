@@ -33,7 +33,13 @@ add-season-requires c κs =
     let n = 6 * rowsOf (start .args .s .now) in
     let first = ap (take n) (l .inv .2) ∙ filled-less _ _ n n (omega arith) in
     let s = start .args .s .now in
-    (p .0, omega arith, omega (arith, p .1 .room), season-fits s (l .words) (l .j) refl first (bytes (c .before .before)) (accepted s (p .0 .passes)) (omega arith), p .2)
+    let a = accepted s (p .0 .passes) in (
+      p .0,
+      omega arith,
+      omega (arith, p .1 .room),
+      season-fits s (l .words) (l .j) refl first (bytes (c .before .before)) a (omega arith),
+      p .2,
+    )
 
 loop-again : tie.Need-loop-again Inv-loop μ-loop
 loop-again c =
