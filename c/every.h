@@ -9,7 +9,7 @@
 
 static uint8_t sheet[EVP_SHEET_BYTES], half[EVP_SHEET_BYTES], pooled[EVP_SHEET_BYTES];
 static uint8_t text[EVP_TEXT_BYTES], owners[1000];
-static uint64_t words[EVP_REPORT_WORDS], milligrams[EVP_SPECIES];
+static uint64_t words[EVP_REPORT_WORDS], many[EVP_FACTOR_WORDS], milligrams[EVP_SPECIES];
 static size_t sheet_bytes, half_bytes;
 static unsigned seasons, rows; /* of the sheet */
 
@@ -28,6 +28,15 @@ static uint64_t factor(void) {
             refused |= evp_factor(sheet, sheet_bytes, seasons - 1, i * rows / 10, k).number;
     return refused;
 }
+/* all factors of ten rows */
+static uint64_t row_factors(void) {
+    uint64_t refused = 0;
+    for (uint64_t i = 0; i < 10; i++)
+        refused |= evp_row_factors(sheet, sheet_bytes, seasons - 1, i * rows / 10).number;
+    return refused;
+}
+static uint64_t factors(void) { return evp_factors(sheet, sheet_bytes, many, EVP_FACTOR_WORDS).number; }
+static uint64_t report_seasons(void) { return evp_report_seasons(sheet, sheet_bytes, many, EVP_FACTOR_WORDS).number; }
 static uint64_t species(void) { return evp_species(UINT64_MAX, milligrams, EVP_SPECIES).number; }
 static uint64_t species_of(void) { return evp_species_of(sheet, sheet_bytes, words, EVP_REPORT_WORDS).number; }
 static uint64_t cells_of_row(void) {
@@ -86,7 +95,8 @@ static const struct {
 } calls[] = {
     {"evp_library_version", library_version, 1}, {"evp_check_sheet", check_sheet, 1},
     {"evp_report_words", report_words, 1}, {"evp_report", report, 1}, {"evp_text", report_text, 1},
-    {"evp_factor", factor, 70}, {"evp_species", species, 1}, {"evp_species_of", species_of, 1},
+    {"evp_factor", factor, 70}, {"evp_row_factors", row_factors, 10}, {"evp_factors", factors, 1},
+    {"evp_report_seasons", report_seasons, 1}, {"evp_species", species, 1}, {"evp_species_of", species_of, 1},
     {"evp_cells_of_row", cells_of_row, 1}, {"evp_add_cells", add_cells, 1}, {"evp_arrive", arrive, 1},
     {"evp_depart", depart, 1}, {"evp_pool", pool, 1}, {"evp_shared_open", shared_open, 1},
     {"evp_shared_arrive", shared_arrive, 1}, {"evp_shared_depart", shared_depart, 1},

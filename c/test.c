@@ -1,5 +1,6 @@
 /* The calls from C. Two sample sheets of version 1: their reports and factors against the values below, the text of
- * the first against document 01's lines, and refusals of each call. Then the same for the sheets of version 2 that
+ * the first against document 01's lines, all factors of each and the reports of their seasons against the calls for one
+ * factor and for the year, and refusals of each call. Then the same for the sheets of version 2 that
  * have the products of their lists as a grid, and for these in versions 3 and 4, without a mileage, which must answer
  * alike. Then a sample of version 3 with mileages; species; the cells of a row of the second sample, their sum, and
  * cells that are refused; a ledger on the second sample, in versions 1 and 4, and a shared one; two sheets of version
@@ -22,7 +23,7 @@
 static uint8_t sheet[EVP_SHEET_BYTES + 1];
 static size_t sheet_bytes;
 
-static uint64_t words[EVP_REPORT_WORDS];
+static uint64_t words[EVP_REPORT_WORDS], many[EVP_FACTOR_WORDS + 1];
 
 /* What the words hold before a call. */
 #define UNTOUCHED UINT64_C(0x5555555555555555)
@@ -92,6 +93,79 @@ static void expect_factors(uint64_t row, const uint64_t expected[7][2]) {
         expect("low of the factor", answer.low, expected[factor - 1][0]);
         expect("high of the factor", answer.high, expected[factor - 1][1]);
     }
+}
+
+/* All factors of a row, and those of the sheet, of which this is the part of a season and row: what evp_factor says. */
+static void expect_row_factors(uint64_t season, uint64_t row, const uint64_t *part) {
+    struct evp_factor_bands answer = evp_row_factors(sheet, sheet_bytes, season, row);
+    expect("number of a row's factors", answer.number, EVP_ACCEPTED);
+    expect("place of a row's factors", answer.place, 0);
+    for (uint64_t factor = 1; factor <= 7; factor++) {
+        struct evp_factor_band band = evp_factor(sheet, sheet_bytes, season, row, factor);
+        expect("low among a row's factors", answer.bands[2 * factor - 2], band.low);
+        expect("high among a row's factors", answer.bands[2 * factor - 1], band.high);
+        expect("low among all factors", part[2 * factor - 2], band.low);
+        expect("high among all factors", part[2 * factor - 1], band.high);
+    }
+}
+
+/* All factors of the sheet in a buffer with a word more, and with a word less than they need. */
+static void expect_all_factors(size_t seasons, size_t rows) {
+    const size_t count = EVP_FACTOR_WORDS_OF(seasons, rows);
+    struct evp_check answer;
+    many[0] = many[count] = UNTOUCHED;
+    answer = evp_factors(sheet, sheet_bytes, many, count - 1);
+    expect("all factors without room", answer.number, EVP_ROOM);
+    expect("place without room", answer.place, 0);
+    expect("a word without room", many[0], UNTOUCHED);
+    answer = evp_factors(sheet, sheet_bytes, many, count + 1);
+    expect("number of all factors", answer.number, EVP_ACCEPTED);
+    expect("place of all factors", answer.place, 0);
+    expect("a word beyond the factors", many[count], UNTOUCHED);
+    for (size_t season = 0; season < seasons; season++)
+        for (size_t row = 0; row < rows; row++)
+            expect_row_factors(season, row, many + 14 * (rows * season + row));
+    expect("factors of no season", evp_row_factors(sheet, sheet_bytes, seasons, 0).number, EVP_ABSENT);
+    expect("factors of no row", evp_row_factors(sheet, sheet_bytes, 0, rows).number, EVP_ABSENT);
+    expect("no band of no row", evp_row_factors(sheet, sheet_bytes, 0, rows).bands[13], 0);
+}
+
+/* The reports of the seasons: the year's low is at least the sum of their lows, its high at most the sum of their
+ * highs; of one season both are equal. */
+static void expect_seasons(size_t seasons, size_t rows) {
+    const size_t count = EVP_SEASON_WORDS_OF(seasons, rows), one = EVP_WORDS_OF(rows);
+    struct evp_check answer;
+    many[0] = many[count] = UNTOUCHED;
+    answer = evp_report_seasons(sheet, sheet_bytes, many, count - 1);
+    expect("the seasons without room", answer.number, EVP_ROOM);
+    expect("place without room", answer.place, 0);
+    expect("a word without room", many[0], UNTOUCHED);
+    answer = evp_report_seasons(sheet, sheet_bytes, many, count + 1);
+    expect("number of the seasons", answer.number, EVP_ACCEPTED);
+    expect("place of the seasons", answer.place, 0);
+    expect("a word beyond the seasons", many[count], UNTOUCHED);
+    expect("the year", evp_report(sheet, sheet_bytes, words, EVP_REPORT_WORDS).number, EVP_ACCEPTED);
+    for (size_t i = 0; i < one; i++) {
+        uint64_t sum = 0;
+        for (size_t season = 0; season < seasons; season++)
+            sum += many[one * season + i];
+        expect("a year within its seasons", i % 2 == 0 ? sum <= words[i] : words[i] <= sum, 1);
+        expect("a year of few roundings", (i % 2 == 0 ? words[i] - sum : sum - words[i]) < 3 * seasons * rows, 1);
+        if (seasons == 1)
+            expect("a word of the one season", many[i], words[i]);
+    }
+}
+
+/* Both, and neither for a sheet that lacks its last byte. */
+static void expect_many(size_t seasons, size_t rows) {
+    expect_all_factors(seasons, rows);
+    expect_seasons(seasons, rows);
+    many[0] = UNTOUCHED;
+    expect("factors of a cut sheet", evp_factors(sheet, sheet_bytes - 1, many, EVP_FACTOR_WORDS).number, EVP_LENGTH);
+    expect("seasons of a cut sheet", evp_report_seasons(sheet, sheet_bytes - 1, many, EVP_FACTOR_WORDS).number,
+           EVP_LENGTH);
+    expect("row of a cut sheet", evp_row_factors(sheet, sheet_bytes - 1, 0, 0).number, EVP_LENGTH);
+    expect("a word of a cut sheet", many[0], UNTOUCHED);
 }
 
 /* Document 01's example: no vehicles, so all 32 words are 0. */
@@ -193,6 +267,7 @@ static void expect_refused(const char *what, uint64_t number, uint64_t place) {
     clear_words();
     struct evp_check answer = evp_report(sheet, sheet_bytes, words, EVP_REPORT_WORDS);
     struct evp_factor_band factor = evp_factor(sheet, sheet_bytes, 0, 0, 1);
+    struct evp_factor_bands factors = evp_row_factors(sheet, sheet_bytes, 0, 0);
     struct evp_check check = evp_check_sheet(sheet, sheet_bytes);
     struct evp_composition species = evp_species_of(sheet, sheet_bytes, words, EVP_REPORT_WORDS);
     struct evp_text_check text = evp_text(sheet, sheet_bytes, words, EVP_REPORT_WORDS, NULL, 0);
@@ -210,6 +285,14 @@ static void expect_refused(const char *what, uint64_t number, uint64_t place) {
     expect(what, evp_report_words(sheet, sheet_bytes), 0);
     expect(what, factor.number, number);
     expect(what, factor.place, place);
+    expect(what, factors.number, number);
+    expect(what, factors.place, place);
+    for (size_t i = 0; i < 14; i++)
+        expect(what, factors.bands[i], 0);
+    expect(what, evp_factors(sheet, sheet_bytes, words, EVP_REPORT_WORDS).number, number);
+    expect(what, evp_factors(sheet, sheet_bytes, words, EVP_REPORT_WORDS).place, place);
+    expect(what, evp_report_seasons(sheet, sheet_bytes, words, EVP_REPORT_WORDS).number, number);
+    expect(what, evp_report_seasons(sheet, sheet_bytes, words, EVP_REPORT_WORDS).place, place);
     expect_untouched(0);
 }
 
@@ -249,6 +332,7 @@ static const uint64_t odometer_factors[7][2] = {
 static void expect_odometer(void) {
     const size_t first_row = EVP_GRID_END + 2 * 8, load = first_row + 16, mileage = first_row + 20;
     expect_factors(0, odometer_factors);
+    expect_many(2, count_at(6) % 256);
     put_count(mileage + 2, 0xffff);
     expect_refused("too many kilometres", EVP_MILEAGE, first_row);
     put_count(mileage + 2, 0);
@@ -339,6 +423,7 @@ static void expect_all_species(void) {
 static void expect_example(void) {
     expect_report(example_words, EVP_WORDS_OF(1));
     expect_factors(0, example_factors);
+    expect_many(1, 1);
     expect_refusals(1);
 }
 
@@ -346,6 +431,7 @@ static void expect_table(size_t seasons_start) {
     expect_report(table_words, EVP_WORDS_OF(3));
     for (uint64_t row = 0; row < 3; row++)
         expect_factors(row, table_factors);
+    expect_many(1, 3);
     expect_refusals(3);
     expect_place(seasons_start);
 }
@@ -648,6 +734,11 @@ static void expect_nulls(void) {
     expect("a text without words", evp_text(sheet, sheet_bytes, NULL, 0, NULL, 0).number, EVP_ROOM);
     expect("a text in nothing", evp_text(sheet, sheet_bytes, words, EVP_REPORT_WORDS, NULL, 0).number, EVP_ACCEPTED);
     expect("a factor of nothing", evp_factor(NULL, 0, 0, 0, 1).number, EVP_HEAD_SHORT);
+    expect("a row's factors of nothing", evp_row_factors(NULL, 0, 0, 0).number, EVP_HEAD_SHORT);
+    expect_answer("all factors of nothing", evp_factors(NULL, 0, NULL, 0), EVP_HEAD_SHORT, 0);
+    expect_answer("all factors in nothing", evp_factors(sheet, sheet_bytes, NULL, 0), EVP_ROOM, 0);
+    expect_answer("the seasons of nothing", evp_report_seasons(NULL, 0, NULL, 0), EVP_HEAD_SHORT, 0);
+    expect_answer("the seasons in nothing", evp_report_seasons(sheet, sheet_bytes, NULL, 0), EVP_ROOM, 0);
     expect_answer("species in nothing", evp_species(1, NULL, 0), EVP_ROOM, 0);
     expect("the species of nothing", evp_species_of(NULL, 0, NULL, 0).number, EVP_HEAD_SHORT);
     expect("the species without words", evp_species_of(sheet, sheet_bytes, NULL, 0).number, EVP_ROOM);
@@ -735,7 +826,7 @@ static void expect_texts(void) {
     expect_records(1);
     expect_records(4);
     expect("the version", evp_library_version(), EVP_LIBRARY_VERSION);
-    expect("version 1.0.0", EVP_LIBRARY_VERSION, 1000000);
+    expect("version 1.1.0", EVP_LIBRARY_VERSION, 1001000);
 }
 
 /* All of it; 0 where a file cannot be read. */

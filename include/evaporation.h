@@ -1,8 +1,9 @@
 /* The calls of the evaporation workbook for a program in C or C++: the check of a sheet, its report, in words or as a
- * text, one emission factor, the species of a mass or of a sheet, cells of a map made of a row's words, a ledger, in
- * which vehicles arrive and depart and the report is kept in step, a ledger that eight participants and a marker
- * share, two sheets pooled into one, why a sheet is refused, and what a band says of a filed mass. Behind the calls
- * stand texts for their numbers, as functions of this header.
+ * text, the report of each season, one emission factor, all factors of a row or of a sheet, the species of a mass or
+ * of a sheet, cells of a map made of a row's words, a ledger, in which vehicles arrive and depart and the report is
+ * kept in step, a ledger that eight participants and a marker share, two sheets pooled into one, why a sheet is
+ * refused, and what a band says of a filed mass. Behind the calls stand texts for their numbers, as functions of this
+ * header.
  *
  * Link with -levaporation, or with what `pkg-config --cflags --libs evaporation` says. The static and the shared
  * library are made of one proved crate, for x86-64 Linux, and need only the C library. docs/LIBRARY.md has first
@@ -44,10 +45,10 @@ extern "C" {
  * has more calls, or accepts a version of the sheet that was refused before, and answers the same for all else; a new
  * major may answer otherwise. */
 #define EVP_LIBRARY_MAJOR 1
-#define EVP_LIBRARY_MINOR 0
+#define EVP_LIBRARY_MINOR 1
 #define EVP_LIBRARY_PATCH 0
 
-/* The three as one number, 1000000 for 1.0.0. */
+/* The three as one number, 1001000 for 1.1.0. */
 #define EVP_LIBRARY_VERSION \
     (UINT64_C(1000000) * EVP_LIBRARY_MAJOR + UINT64_C(1000) * EVP_LIBRARY_MINOR + EVP_LIBRARY_PATCH)
 
@@ -69,6 +70,13 @@ uint64_t evp_library_version(void);
 /* The words of the report of a sheet with this many rows. */
 #define EVP_WORDS_OF(rows) (6 * EVP_SIZE_OF(rows) + 26)
 
+/* The words that evp_factors and evp_report_seasons write for a sheet with this many seasons and rows; and the most,
+ * those of the longest sheet. */
+#define EVP_FACTOR_WORDS_OF(seasons, rows) (14 * EVP_SIZE_OF(seasons) * EVP_SIZE_OF(rows))
+#define EVP_SEASON_WORDS_OF(seasons, rows) (EVP_SIZE_OF(seasons) * EVP_WORDS_OF(rows))
+#define EVP_FACTOR_WORDS 168000
+#define EVP_SEASON_WORDS 72312
+
 /* No text is longer, in bytes: 151 for each of 1,000 rows, and 622. */
 #define EVP_TEXT_BYTES 151622
 
@@ -79,8 +87,9 @@ uint64_t evp_library_version(void);
  * the first row and so on. 8 and 9 are of version 1 alone, 24 from version 2 on; 21 of versions 1 and 2, 25 from
  * version 3 on; 6 of versions 1 to 3, 26 of version 4. What each call asks, in this order:
  *   evp_check_sheet, evp_report_words, evp_explain   the sheet
- *   evp_report, evp_text, evp_species_of             the sheet, EVP_ROOM
- *   evp_factor                                       the sheet, EVP_ABSENT
+ *   evp_report, evp_report_seasons, evp_factors,
+ *   evp_text, evp_species_of                         the sheet, EVP_ROOM
+ *   evp_factor, evp_row_factors                      the sheet, EVP_ABSENT
  *   evp_species                                      EVP_ROOM
  *   evp_cells_of_row                                 EVP_TRAVEL, EVP_CELL
  *   evp_add_cells                                    EVP_CELL
@@ -124,8 +133,8 @@ enum evp_number {
                               * is none, as one exact 0, a band whose low is not below its high, a kind above 2, and a
                               * double that is no whole number from 0 to EVP_MASS_LIMIT; place 0 */
     EVP_DIFFER = 32,         /* the seasons or the parking of the two sheets differ; place 0 */
-    EVP_ROOM = 22,           /* fewer words than the report has, fewer than 29 for the species, fewer bytes than the
-                              * pooled sheet has; place 0 */
+    EVP_ROOM = 22,           /* fewer words than the report, the seasons' reports or the factors have, fewer than 29 for
+                              * the species, fewer bytes than the pooled sheet has; place 0 */
     EVP_RIGHT = 30,          /* the call is without the right to the shared ledger; place 0 */
     EVP_COUNT = 29,          /* no such row, a departure larger than its count, or an arrival after which the row would
                               * have more than 10,000,000 vehicles or, in version 4, all rows more than 100,000,000;
@@ -147,7 +156,8 @@ enum evp_pool_sheet {
 #define EVP_POOL_BYTES(first_bytes, second_bytes, seasons) \
     (EVP_SIZE_OF(first_bytes) + EVP_SIZE_OF(second_bytes) - EVP_GRID_END - 8 * EVP_SIZE_OF(seasons))
 
-/* The answer of the check, of the report call, of the species call, and of the calls on a ledger. */
+/* The answer of the check, of the report calls, of the call for all factors, of the species call, and of the calls on
+ * a ledger. */
 struct evp_check {
     uint64_t number; /* of enum evp_number */
     uint64_t place;  /* the byte of the sheet where it stops; 0 where it is accepted */
@@ -159,6 +169,13 @@ struct evp_factor_band {
     uint64_t place;  /* as above */
     uint64_t low;    /* micrograms, at most the exact factor; 0 where the sheet is refused */
     uint64_t high;   /* micrograms, at least the exact factor, at most low + 10; 0 where the sheet is refused */
+};
+
+/* The answer of the call for the factors of a row. */
+struct evp_factor_bands {
+    uint64_t number;    /* of enum evp_number */
+    uint64_t place;     /* as above */
+    uint64_t bands[14]; /* low and high of factor 1, of factor 2 and so on, in micrograms; zeros where it is refused */
 };
 
 /* The answer of the text call. */
@@ -206,6 +223,26 @@ struct evp_text_check evp_text(const uint8_t *sheet, size_t sheet_bytes, uint64_
  * carburettor warm, 4 carburettor hot; running (a trip): 5 injection, 6 carburettor warm, 7 carburettor hot. */
 struct evp_factor_band evp_factor(const uint8_t *sheet, size_t sheet_bytes, uint64_t season, uint64_t row,
                                   uint64_t factor);
+
+/* The seven factors of a season and a row, both counted from 0, in one call: for each factor the low and the high that
+ * evp_factor returns, and its number and place where it refuses. */
+struct evp_factor_bands evp_row_factors(const uint8_t *sheet, size_t sheet_bytes, uint64_t season, uint64_t row);
+
+/* The factors of all seasons and rows in one call, in micrograms: season by season, in each season row by row, in each
+ * row the low and the high of factors 1 to 7. The low of factor k of a season and a row, both counted from 0, is word
+ * 14 * (rows * season + row) + 2 * (k - 1), and its high the word after it; both are those of evp_factor.
+ *
+ * Accepted: the first EVP_FACTOR_WORDS_OF(seasons, rows) words are written, those beyond keep what they had. Refused,
+ * with EVP_ROOM where there are fewer words: all words keep what they had. */
+struct evp_check evp_factors(const uint8_t *sheet, size_t sheet_bytes, uint64_t *words, size_t words_count);
+
+/* The report of each season: for each season, in their order, EVP_WORDS_OF(rows) words as evp_report has them, of the
+ * masses on the days of that season alone. The exact masses of the seasons add up to those of the year. The words need
+ * not: each season is rounded by itself, and the lows add up to at most the year's low, the highs to at least its high.
+ *
+ * Accepted: the first EVP_SEASON_WORDS_OF(seasons, rows) words are written, those beyond keep what they had. Refused,
+ * with EVP_ROOM where there are fewer words: all words keep what they had. */
+struct evp_check evp_report_seasons(const uint8_t *sheet, size_t sheet_bytes, uint64_t *words, size_t words_count);
 
 /* The species of Table 3-14 in printed order: ten alkanes, ten alkenes, two alkines, seven aromatics. */
 #define EVP_SPECIES 29

@@ -15,6 +15,7 @@ from collections.abc import Iterator, Sequence
 from ctypes import POINTER, c_char_p, c_double, c_size_t, c_uint8, c_uint64
 from enum import IntEnum
 from functools import cache
+from itertools import islice
 from pathlib import Path
 from typing import NamedTuple
 
@@ -24,6 +25,7 @@ SHEET_BYTES = 25_256  # of the longest sheet
 REPORT_WORDS = 6_026  # of its report
 TEXT_BYTES = 151_622
 LAST_WORDS = 26  # of a report, behind its rows
+FACTORS = 7  # of a season and row
 SPECIES = (
     "ethane", "propane", "i-butane", "n-butane", "i-pentane", "n-pentane", "2-methylpentane", "3-methylpentane",
     "n-hexane", "n-heptane",
@@ -227,6 +229,7 @@ def _struct(name: str, *members: str | tuple) -> type[ctypes.Structure]:
 
 _Check = _struct("evp_check", "number", "place")
 _FactorBand = _struct("evp_factor_band", "number", "place", "low", "high")
+_FactorBands = _struct("evp_factor_bands", "number", "place", ("bands", c_uint64 * (2 * FACTORS)))
 _TextCheck = _struct("evp_text_check", "number", "place", "bytes")
 _PoolCheck = _struct("evp_pool_check", "number", "place", "sheet", "bytes")
 _Composition = _struct("evp_composition", "number", "place", "total", ("milligrams", c_uint64 * len(SPECIES)))
@@ -254,6 +257,9 @@ CALLS: dict[str, tuple] = {
     "evp_report": (_Check, *_SHEET, *_WORDS),
     "evp_text": (_TextCheck, *_SHEET, *_WORDS, *_CHANGED),
     "evp_factor": (_FactorBand, *_SHEET, c_uint64, c_uint64, c_uint64),
+    "evp_row_factors": (_FactorBands, *_SHEET, c_uint64, c_uint64),
+    "evp_factors": (_Check, *_SHEET, *_WORDS),
+    "evp_report_seasons": (_Check, *_SHEET, *_WORDS),
     "evp_species": (_Check, c_uint64, *_WORDS),
     "evp_species_of": (_Composition, *_SHEET, *_WORDS),
     "evp_cells_of_row": (_RowCells, _RowWords, _Travel),
@@ -373,6 +379,32 @@ class Library:
         """A factor, 1 to 7, of a season and a row counted from 0, in micrograms."""
         answer = _accepted(self._call("factor", sheet, season, row, factor))
         return Band(answer.low, answer.high)
+
+    def row_factors(self, sheet: bytes, season: int, row: int) -> list[Band]:
+        """The seven factors of a season and a row counted from 0, in micrograms, as `factor` returns them."""
+        return list(_bands(_accepted(self._call("row_factors", sheet, season, row)).bands))
+
+    def _shape(self, sheet: bytes) -> tuple[int, int]:
+        """The seasons and rows of a sheet; none where it is refused."""
+        words = self._call("report_words", sheet)
+        return (sheet[5], (words - LAST_WORDS) // 6) if words else (0, 0)
+
+    def factors(self, sheet: bytes) -> list[list[list[Band]]]:
+        """The factors of all seasons and rows: `factors(sheet)[season][row]` is `row_factors(sheet, season, row)`."""
+        seasons, rows = self._shape(sheet)
+        words = (c_uint64 * (2 * FACTORS * seasons * rows))()
+        _accepted(self._call("factors", sheet, words))
+        bands = _bands(words[:])
+        return [[list(islice(bands, FACTORS)) for _ in range(rows)] for _ in range(seasons)]
+
+    def report_seasons(self, sheet: bytes) -> list[Report]:
+        """The report of each season alone. Each is rounded by itself: the lows add up to at most the year's low, the
+        highs to at least its high."""
+        seasons, rows = self._shape(sheet)
+        size = 6 * rows + LAST_WORDS
+        words = (c_uint64 * (seasons * size))()
+        _accepted(self._call("report_seasons", sheet, words))
+        return [report_of(words[size * season:size * (season + 1)]) for season in range(seasons)]
 
     def species(self, total: int) -> list[int]:
         """The masses of SPECIES of a mass, in milligrams."""

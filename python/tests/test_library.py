@@ -21,9 +21,10 @@ from tools.reckoning import species as second_species
 HEADER = (TOP / "include" / "evaporation.h").read_text(encoding="utf-8")
 STRUCTS = {
     "evp_check": library._Check, "evp_factor_band": library._FactorBand, "evp_pool_check": library._PoolCheck,
-    "evp_text_check": library._TextCheck, "evp_composition": library._Composition,
-    "evp_row_words": library._RowWords, "evp_travel": library._Travel, "evp_cell": library._Cell,
-    "evp_row_cells": library._RowCells, "evp_cell_sum": library._CellSum, "evp_row": library._Row,
+    "evp_factor_bands": library._FactorBands, "evp_text_check": library._TextCheck,
+    "evp_composition": library._Composition, "evp_row_words": library._RowWords, "evp_travel": library._Travel,
+    "evp_cell": library._Cell, "evp_row_cells": library._RowCells, "evp_cell_sum": library._CellSum,
+    "evp_row": library._Row,
     "evp_totals": library._Totals, "evp_filed": library._Filed, "evp_verdict": library._Verdict,
     "evp_finding": library._Finding,
 }
@@ -171,6 +172,66 @@ class ReportTest(unittest.TestCase):
         with self.assertRaises(Refusal) as caught:
             LIBRARY.factor(data, 9, 0, 1)
         self.assertEqual(caught.exception.number, Number.ABSENT)
+
+
+class BulkTest(unittest.TestCase):
+    """The calls that answer for a whole row or sheet: all factors, and the report of each season."""
+
+    def test_as_the_factor_call(self):
+        for path in samples():
+            data = path.read_bytes()
+            factors = LIBRARY.factors(data)
+            self.assertEqual((len(factors), {len(rows) for rows in factors}), (data[5], {layout.row_count(data)}))
+            for season, rows in enumerate(factors):
+                for row, found in enumerate(rows):
+                    one = [LIBRARY.factor(data, season, row, k) for k in range(1, library.FACTORS + 1)]
+                    self.assertEqual((found, LIBRARY.row_factors(data, season, row)), (one, one), path)
+
+    def test_exact_factors(self):
+        data = sample("odometer")
+        second = reckoning.read(data)
+        for season, rows in enumerate(LIBRARY.factors(data)):
+            for row in (0, len(rows) - 1):
+                for k, band in enumerate(rows[row], 1):
+                    exact = 10 ** 6 * reckoning.factor(second, season, row, k)
+                    self.assertTrue(band.low <= exact <= band.high <= band.low + 10)
+
+    def test_exact_seasons(self):
+        """Each row's exact masses of a season alone lie in that season's bands."""
+        data = sample("odometer")
+        second = reckoning.read(data)
+        reports = LIBRARY.report_seasons(data)
+        self.assertEqual(len(reports), len(second.seasons))
+        for season, report in zip(second.seasons, reports):
+            alone = second._replace(seasons=(season,))
+            for row in (0, len(report.rows) - 1):
+                for band, exact in zip(report.rows[row], reckoning.masses(alone, row)):
+                    self.assertTrue(band.low <= 1000 * exact <= band.high)
+
+    def test_year_within_its_seasons(self):
+        for path in samples():
+            data = path.read_bytes()
+            year, seasons = LIBRARY.report(data), LIBRARY.report_seasons(data)
+            pairs = [(year.total, [season.total for season in seasons])]
+            pairs += [(band, [season.rows[row][m] for season in seasons])
+                      for row, masses in enumerate(year.rows) for m, band in enumerate(masses)]
+            for band, parts in pairs:
+                self.assertTrue(sum(part.low for part in parts) <= band.low, path)
+                self.assertTrue(band.high <= sum(part.high for part in parts), path)
+            if len(seasons) == 1:
+                self.assertEqual(seasons, [year])
+
+    def test_refusals(self):
+        data = sample("region")
+        for call in (LIBRARY.factors, LIBRARY.report_seasons, lambda cut: LIBRARY.row_factors(cut, 0, 0)):
+            for cut in (b"", data[:7], data[:-1]):
+                with self.assertRaises(Refusal) as caught:
+                    call(cut)
+                self.assertEqual(str(caught.exception), str(LIBRARY.check(cut)))
+        for season, row in ((data[5], 0), (0, layout.row_count(data))):
+            with self.assertRaises(Refusal) as caught:
+                LIBRARY.row_factors(data, season, row)
+            self.assertEqual((caught.exception.number, caught.exception.place), (Number.ABSENT, 0))
 
 
 PROGRAMS = TOP / "target" / "bin"

@@ -15,6 +15,13 @@ pub struct FactorBand {
 }
 
 #[repr(C)]
+pub struct FactorBands {
+    pub number: u64,
+    pub place: u64,
+    pub bands: [u64; 14],
+}
+
+#[repr(C)]
 pub struct TextCheck {
     pub number: u64,
     pub place: u64,
@@ -136,6 +143,9 @@ extern "C" {
         text_bytes: usize,
     ) -> TextCheck;
     pub fn evp_factor(sheet: *const u8, sheet_bytes: usize, season: u64, row: u64, factor: u64) -> FactorBand;
+    pub fn evp_row_factors(sheet: *const u8, sheet_bytes: usize, season: u64, row: u64) -> FactorBands;
+    pub fn evp_factors(sheet: *const u8, sheet_bytes: usize, words: *mut u64, words_count: usize) -> Check;
+    pub fn evp_report_seasons(sheet: *const u8, sheet_bytes: usize, words: *mut u64, words_count: usize) -> Check;
     pub fn evp_species(total: u64, milligrams: *mut u64, count: usize) -> Check;
     pub fn evp_species_of(sheet: *const u8, sheet_bytes: usize, words: *mut u64, words_count: usize) -> Composition;
     pub fn evp_cells_of_row(words: RowWords, travel: Travel) -> RowCells;

@@ -24,6 +24,7 @@
 //! `_into` take no memory, the others make vectors for what they answer.
 #![forbid(improper_ctypes)]
 
+mod bulk;
 mod cells;
 mod ffi;
 mod ledger;
@@ -32,6 +33,9 @@ mod pool;
 mod refusal;
 mod report;
 
+pub use bulk::{
+    factor_words_of, factors, factors_into, report_seasons, report_seasons_into, row_factors, season_words_of, Factors,
+};
 pub use cells::{add_cells, cells_of_row, Cell, RowCells, Travel, MASS_LIMIT};
 pub use ledger::{Ledger, RowRead, SharedLedger, Who};
 pub use marking::{explain, mark, Filed, Finding, Unit, Verdict};

@@ -44,6 +44,12 @@ def factor_lines(library, sheet: bytes):
         yield band if isinstance(band, str) else "%d %d" % band
 
 
+def bulk_lines(library, sheet: bytes):
+    yield from map(words, (library.row_factors(sheet, 0, 0), *library.factors(sheet)[-1]))
+    for season in library.report_seasons(sheet):
+        yield from map(words, (*season.rows, season.all, (season.total,)))
+
+
 def ledger_lines(library, sheet: bytes):
     ledger = library.ledger(sheet)
     yield answer(ledger.arrive, 0, 12) or "arrived"
@@ -68,7 +74,7 @@ def lines(library, sheet: bytes):
     yield composition
     yield " ".join(map(str, library.explain(sheet)))
     yield from factor_lines(library, sheet)
-    for part in (report_lines, ledger_lines):
+    for part in (report_lines, bulk_lines, ledger_lines):
         try:
             yield from part(library, sheet)
         except Refusal as refusal:

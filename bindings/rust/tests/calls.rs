@@ -98,6 +98,8 @@ fn limits_and_names_are_those_of_the_header() {
         ("EVP_REPORT_WORDS", REPORT_WORDS as u64),
         ("EVP_TEXT_BYTES", TEXT_BYTES as u64),
         ("EVP_STACK_BYTES", STACK_BYTES as u64),
+        ("EVP_FACTOR_WORDS", factor_words_of(12, 1000) as u64),
+        ("EVP_SEASON_WORDS", season_words_of(12, 1000) as u64),
         ("EVP_SPECIES", SPECIES.len() as u64),
     ] {
         assert!(header.contains(&format!("#define {name} {value}\n")), "{name}");
@@ -171,6 +173,42 @@ fn what_the_sheet_does_not_have_is_absent() {
     assert_eq!(factor(&sheet, 1, 0, Factor::Diurnal).unwrap_err().number, Number::Absent);
     assert_eq!(factor(&sheet, 0, 0, Factor::Diurnal), Ok(Band { low: 3_875_007, high: 3_875_009 }));
     assert_eq!(report(&sheet).unwrap().row(3), None);
+}
+
+#[test]
+fn all_factors_are_those_of_the_factor_call() {
+    let sheet = sample("odometer");
+    let all = factors(&sheet).unwrap();
+    assert_eq!(all.words().len(), factor_words_of(all.season_count(), all.row_count()));
+    for season in 0..all.season_count() {
+        for row in 0..all.row_count() {
+            let one = Factor::ALL.map(|one| factor(&sheet, season as u64, row as u64, one).unwrap());
+            assert_eq!(all.row(season, row), Some(one));
+            assert_eq!(row_factors(&sheet, season as u64, row as u64), Ok(one));
+        }
+    }
+    assert_eq!((all.row(all.season_count(), 0), all.row(0, all.row_count())), (None, None));
+    let absent = Refusal { number: Number::Absent, place: 0 };
+    assert_eq!(row_factors(&sheet, 0, all.row_count() as u64), Err(absent));
+    let (mut words, room) = (vec![7; all.words().len() - 1], Refusal { number: Number::Room, place: 0 });
+    assert_eq!(factors_into(&sheet, &mut words), Err(room));
+    assert!(words.iter().all(|&word| word == 7));
+}
+
+#[test]
+fn the_year_is_within_its_seasons() {
+    let sheet = sample("odometer");
+    let (year, seasons) = (report(&sheet).unwrap(), report_seasons(&sheet).unwrap());
+    assert_eq!(seasons.len(), usize::from(sheet[5]));
+    for (i, &word) in year.words().iter().enumerate() {
+        let sum: u64 = seasons.iter().map(|season| season.words()[i]).sum();
+        assert!(if i % 2 == 0 { sum <= word } else { word <= sum }, "word {i}: {word} and {sum}");
+    }
+    let sheet = sample("table-3-5-day");
+    assert_eq!(report_seasons(&sheet), Ok(vec![report(&sheet).unwrap()]));
+    let (mut words, room) = (vec![7; season_words_of(1, 3) - 1], Refusal { number: Number::Room, place: 0 });
+    assert_eq!(report_seasons_into(&sheet, &mut words), Err(room));
+    assert!(words.iter().all(|&word| word == 7));
 }
 
 #[test]

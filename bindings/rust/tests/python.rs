@@ -47,6 +47,19 @@ fn report_lines(sheet: &[u8]) -> Result<Vec<String>, Refusal> {
     Ok(lines)
 }
 
+fn bulk_lines(sheet: &[u8]) -> Result<Vec<String>, Refusal> {
+    let seven = |bands: [Band; 7]| bands.map(band).join(" ");
+    let all = factors(sheet)?;
+    let last = all.season_count() - 1;
+    let mut lines = vec![seven(row_factors(sheet, 0, 0)?)];
+    lines.extend((0..all.row_count()).map(|row| seven(all.row(last, row).unwrap())));
+    for season in report_seasons(sheet)? {
+        lines.extend(season.rows().chain([season.totals().all]).map(words));
+        lines.push(band(season.total()));
+    }
+    Ok(lines)
+}
+
 fn done(answer: Result<(), Refusal>, what: &str) -> String {
     answer.map_or_else(refused, |()| what.into())
 }
@@ -93,7 +106,7 @@ fn lines(Sample { name, sheet }: &Sample) -> Vec<String> {
     }));
     lines.push(finding(sheet));
     lines.extend(Factor::ALL.map(|one| factor(sheet, 0, 1, one).map_or_else(refused, band)));
-    for part in [report_lines(sheet), ledger_lines(sheet)] {
+    for part in [report_lines(sheet), bulk_lines(sheet), ledger_lines(sheet)] {
         lines.extend(part.unwrap_or_else(|refusal| vec![refused(refusal)]));
     }
     lines.push(pooled(sheet, sheet));

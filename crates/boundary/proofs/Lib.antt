@@ -8,3 +8,4 @@ pub mod ChangeNumbers
 pub mod PoolNumbers
 pub mod SharedNumbers
 pub mod MarkNumbers
+pub mod BulkNumbers

@@ -9,3 +9,4 @@ pub mod PoolExport
 pub mod Shared
 pub mod MarkExport
 pub mod Version
+pub mod Bulk

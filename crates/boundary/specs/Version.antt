@@ -5,6 +5,6 @@ use Prim.Native.Nat.{ℕ, _+_, _*_}
 unfoldable pub versionNumber : ℕ → ℕ → ℕ → ℕ
 versionNumber major minor patch = 1000000 * major + 1000 * minor + patch
 
--- 1.0.0
+-- 1.1.0
 unfoldable pub libraryVersion : ℕ
-libraryVersion = versionNumber 1 0 0
+libraryVersion = versionNumber 1 1 0

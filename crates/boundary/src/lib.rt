@@ -22,6 +22,14 @@ pub struct EvpFactor {
     pub high: u64,
 }
 
+// The same, with the low and the high of factors 1 to 7 in micrograms; zeros where the sheet is refused.
+#[repr(C)]
+pub struct EvpRowFactors {
+    pub number: u64,
+    pub place: u64,
+    pub bands: [u64; 14],
+}
+
 // Number and place are those of the report, number 0 where the text is one; and how many bytes the text has.
 #[repr(C)]
 pub struct EvpText {

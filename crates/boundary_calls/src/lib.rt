@@ -8,6 +8,7 @@ ghost use mathlib.Core.Path.{_≡_};
 ghost use Rattle.boundary.specs.Export.{checkNumbers, factorNumbers};
 ghost use Rattle.boundary.specs.TextExport.{textNumbers};
 
+pub mod bulk;
 pub mod filed;
 pub mod map;
 pub mod pool;

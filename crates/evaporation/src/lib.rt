@@ -12,6 +12,7 @@ ghost use Rattle.boundary.specs.Export.{ReportNumbers, FactorNumbers};
 ghost use Rattle.boundary.specs.TextExport.{TextNumbers};
 ghost use Rattle.boundary.specs.Version.{libraryVersion};
 
+mod bulk;
 pub mod filed;
 pub mod map;
 mod pool;
@@ -21,8 +22,8 @@ mod shared;
 mod sheets;
 pub mod species;
 
-// Version 1.0.0: a million for each major, a thousand for each minor.
-const VERSION: u64 = 1000000;
+// Version 1.1.0: a million for each major, a thousand for each minor.
+const VERSION: u64 = 1001000;
 
 // The version of the library, which its header names too.
 #[no_mangle]

@@ -13,9 +13,8 @@ use Rattle.masses.specs.AnyCounts.{Every, InRange}
 use Rattle.masses.proofs.MassWidth.{no-vehicles}
 use Rattle.masses.proofs.AnyCounts.{any-masses}
 use Rattle.report_words.specs.Report.{wordsOf, subtotal, grandTotal, report}
-use Rattle.report_words.specs.Categories.{car, lightDuty, twoWheeler, anyClass, counted}
+use Rattle.report_words.specs.Categories.{car, lightDuty, twoWheeler, anyClass, counted, category}
 use Rattle.report_words.specs.Promise.{RowPromise, rowsSum, categoryWord, SumsPromise, ReportPromise}
-use Rattle.report_words.specs.Categories.{category}
 use Rattle.report_words.proofs.ReportPlaces.{row-word-at, category-word-at, total-at}
 use Rattle.sheet_factors.proofs.AcceptedRange.{cells-least, row-shares, in-range, every-season}
 
@@ -62,6 +61,25 @@ one-of-three (suc (suc (suc (suc (suc (suc (suc zero))))))) x l m = omega arith
 one-of-three (suc (suc (suc (suc (suc (suc (suc (suc zero)))))))) x l m = omega arith
 one-of-three (suc (suc (suc (suc (suc (suc (suc (suc (suc zero))))))))) x l m = omega arith
 one-of-three (suc (suc (suc (suc (suc (suc (suc (suc (suc (suc class)))))))))) x l m = absurd (omega arith)
+
+-- Where each category's words are the sums over its rows, and the totals those of three, all is said of the sums that is promised.
+pub sums-hold : {s words : List ℕ} → Accepted s
+    → ((c j : ℕ) → c < 4 → j < 6 → categoryWord s words c j ≡ rowsSum s words (category c) j)
+    → ((j : ℕ) → j < 2 → categoryWord s words 4 j ≡ categoryWord s words 3 j + categoryWord s words 3 (j + 2) + categoryWord s words 3 (j + 4))
+    → SumsPromise s words
+unfolding category
+sums-hold {s} {words} a sums grand = record {
+  cars = λ j l. sums 0 j (omega arith) l;
+  light = λ j l. sums 1 j (omega arith) l;
+  two = λ j l. sums 2 j (omega arith) l;
+  all = λ j l. sums 3 j (omega arith) l;
+  add-up = λ j l.
+      rw (sums 0 j (omega arith) l, sums 1 j (omega arith) l, sums 2 j (omega arith) l, sums 3 j (omega arith) l)
+      (sums-add _ _ _ _ (rowsOf s)
+      (λ i row. one-of-three ((rowAt s i) .class) (at words (6 * i + j)) (a .row i row .class-least)
+      (a .row i row .class-most)));
+  grand = grand;
+}
 
 -- An accepted sheet, and a buffer that holds its report.
 module _ {s words : List ℕ} (bytes : Bytes s) (a : Accepted s) (h : Holds s words) where
@@ -112,26 +130,8 @@ module _ {s words : List ℕ} (bytes : Bytes s) (a : Accepted s) (h : Holds s wo
         third,
       ) refl
 
-  -- the sums
-  sums-promise : SumsPromise s words
-  unfolding category
-  sums-promise = record {
-    cars = λ j l. category-sum h 0 j (omega arith) l;
-    light = λ j l. category-sum h 1 j (omega arith) l;
-    two = λ j l. category-sum h 2 j (omega arith) l;
-    all = λ j l. category-sum h 3 j (omega arith) l;
-    add-up = λ j l.
-        rw (
-          category-sum h 0 j (omega arith) l,
-          category-sum h 1 j (omega arith) l,
-          category-sum h 2 j (omega arith) l,
-          category-sum h 3 j (omega arith) l,
-        )
-        (sums-add _ _ _ _ (rowsOf s)
-        (λ i row. one-of-three ((rowAt s i) .class) (at words (6 * i + j)) (a .row i row .class-least)
-        (a .row i row .class-most)));
-    grand = grand-word;
-  }
-
   pub promise : ReportPromise s words
-  promise = record { each-row = row-promise; sums = sums-promise }
+  promise = record {
+    each-row = row-promise;
+    sums = sums-hold a (category-sum h) grand-word;
+  }

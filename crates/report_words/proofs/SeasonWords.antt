@@ -12,19 +12,10 @@ use Rattle.exact.specs.declared.Season.{Season}
 use Rattle.sheet.specs.Bytes.{seasonsOf, rowsOf, cellsOf, seasonAt, rowAt}
 use Rattle.sheet.proofs.Accepted.{Bytes, Accepted}
 use Rattle.masses.specs.Day.{dayFigures}
-use Rattle.report_words.specs.Years.{seasonFigure, yearWord, daysAdded, SumsFit, filled}
+use Rattle.report_words.specs.Years.{seasonFigure, yearWord, daysAdded, SumsFit, seasonAdded, SeasonFits, inMilligrams, filled, reportWord}
 use Rattle.masses.proofs.MassSizes.{year-fits}
 use Rattle.report_words.proofs.Filled.{filled-run, filled-all, filled-beyond, filled-less, first-at}
-use Rattle.report_words.proofs.YearWords.{year-none, year-more, year-word-most}
-
--- word k with what its row loses on the days of a season
-abbrev pub seasonAdded : List ℕ → Season → List ℕ → ℕ → ℕ
-seasonAdded s season words k =
-    getD words k 0 + season .days * getD (dayFigures (cellsOf s) season (rowAt s (k / 6))) (k % 6) 0
-
--- all words of the rows fit 64 bits after a season
-pub record SeasonFits (s : List ℕ) (season : Season) (words : List ℕ) : Type 0 where
-  pub word-fits : (k : ℕ) → k < 6 * rowsOf s → seasonAdded s season words k < 2 ^ 64
+use Rattle.report_words.proofs.YearWords.{year-none, year-more, year-word-most, report-from-year}
 
 -- Row i, where the rows before it have been added.
 module _ (s : List ℕ) (season : Season) (old words : List ℕ) (i : ℕ) (e : words ≡ filled (seasonAdded s season old) (6 * i) old) where
@@ -75,3 +66,10 @@ module _ (s words : List ℕ) (j : ℕ) {season : Season} (same : season ≡ sea
 pub cleared : (s old : List ℕ) → take (6 * rowsOf s) (filled (λ (k : ℕ). 0) (6 * rowsOf s) old) ≡ tab (yearWord s 0) (6 * rowsOf s)
 cleared s old =
     filled-less (λ (k : ℕ). 0) old (6 * rowsOf s) (6 * rowsOf s) (omega arith) ∙ tab-ext (6 * rowsOf s) (λ k l. sym (year-none s k))
+
+-- the figures of all seasons, in milligrams, are the report's words
+pub year-in-milligrams : (s words : List ℕ) → take (6 * rowsOf s) words ≡ tab (yearWord s (seasonsOf s)) (6 * rowsOf s)
+    → filled (inMilligrams s words) (6 * rowsOf s) words ≡ filled (reportWord s) (6 * rowsOf s) words
+year-in-milligrams s words first =
+    ap (λ (r : List ℕ). r ++ drop (6 * rowsOf s) words)
+    (tab-ext (6 * rowsOf s) (λ k h. rw (first-at (yearWord s (seasonsOf s)) words _ k first h) (report-from-year s k h)))

@@ -8,9 +8,9 @@ ghost use Prim.Native.Nat.{_+_, _*_, _/_, _^_, _≤_, _<_};
 ghost use lib.ListN.{length};
 ghost use Rattle.sheet.specs.declared.Check.the-variants.{Pass};
 ghost use Rattle.sheet.specs.Limits.{vehiclesLimit};
-ghost use Rattle.sheet.specs.Bytes.{seasonsOf, rowsOf};
+ghost use Rattle.sheet.specs.Bytes.{rowsOf};
 ghost use Rattle.sheet.specs.Sheet.{sheetCheck};
-ghost use Rattle.report_words.specs.Years.{RowsHold, yearWord, filled, reportWord};
+ghost use Rattle.report_words.specs.Years.{inMilligrams, filled, reportWord};
 
 // Units of 10^-12 g in a milligram.
 const MILLIGRAM: u64 = 1000000000;
@@ -27,10 +27,11 @@ pub fn milligrams(year: u64, vehicles: u64, added: u64) -> u64
     year / MILLIGRAM * vehicles + (year % MILLIGRAM * vehicles + added) / MILLIGRAM
 }
 
-// The figures of the year become words of the report: a low is cut down, a high cut up.
-fn row_words(s: &[u8], words: &mut [u64])
-    requires { ⌜ (sheetCheck (now s) ≡ Pass) × RowsHold (yearWord (now s) (seasonsOf (now s))) (now s) (now words) ⌝ }
-    ensures { λ _. ⌜ now (words .exit) ≡ filled (reportWord (now (s .entry))) (6 * rowsOf (now (s .entry))) (now (words .entry)) ⌝ }
+// The figures of one vehicle become those of a row's vehicles in milligrams, whatever figures they are: a low is cut down, a high cut up.
+pub fn row_words(s: &[u8], words: &mut [u64])
+    requires { ⌜ (sheetCheck (now s) ≡ Pass) × (6 * rowsOf (now s) ≤ length (now words)) ⌝ }
+    ensures { λ _. ⌜ now (words .exit)
+        ≡ filled (inMilligrams (now (s .entry)) (now (words .entry))) (6 * rowsOf (now (s .entry))) (now (words .entry)) ⌝ }
 {
     let n = ROW_WORDS * rows_of(s);
     let mut k: usize = 0;

@@ -14,10 +14,10 @@ ghost use lib.ListN.{length};
 ghost use lib.Seq.{sets};
 ghost use Rattle.numbers.specs.Lists.{tab};
 ghost use Rattle.sheet.specs.declared.Check.the-variants.{Pass};
-ghost use Rattle.sheet.specs.Bytes.{seasonsOf, rowsOf};
+ghost use Rattle.sheet.specs.Bytes.{seasonsOf, rowsOf, seasonAt};
 ghost use Rattle.sheet.specs.Sheet.{sheetCheck};
 ghost use Rattle.sheet_factors.specs.Lent.{SheetLent, RowsKept};
-ghost use Rattle.report_words.specs.Years.{RowsHold, SumsFit, daysAdded, yearWord, filled};
+ghost use Rattle.report_words.specs.Years.{RowsHold, SumsFit, SeasonFits, daysAdded, seasonAdded, yearWord, filled};
 
 // The first n words are set to 0.
 pub fn clear(words: &mut [u64], n: usize)
@@ -44,7 +44,7 @@ pub fn add_days(words: &mut [u64], at: usize, days: u64, figures: [u64; 6])
 }
 
 // Season j, made ready once for all rows: what one vehicle of a row loses on its days is added to the row's six words.
-fn add_season(
+pub fn add_season(
     tables: &[u64; 1907],
     grid: &[u64; 627],
     kept: &[u64; 1000],
@@ -52,9 +52,10 @@ fn add_season(
     j: usize,
     words: &mut [u64],
 )
-    requires { ⌜ SheetLent (now s) (now tables) (now grid) × (j < seasonsOf (now s)) × RowsHold (yearWord (now s) j) (now s) (now words)
-        × RowsKept (now s) (now kept) ⌝ }
-    ensures { λ _. ⌜ now (words .exit) ≡ filled (yearWord (now (s .entry)) (j + 1)) (6 * rowsOf (now (s .entry))) (now (words .entry)) ⌝ }
+    requires { ⌜ SheetLent (now s) (now tables) (now grid) × (j < seasonsOf (now s)) × (6 * rowsOf (now s) ≤ length (now words))
+        × SeasonFits (now s) (seasonAt (now s) j) (now words) × RowsKept (now s) (now kept) ⌝ }
+    ensures { λ _. ⌜ now (words .exit) ≡ filled (seasonAdded (now (s .entry)) (seasonAt (now (s .entry)) j) (now (words .entry)))
+        (6 * rowsOf (now (s .entry))) (now (words .entry)) ⌝ }
 {
     let prepared = prepare(tables, grid, season_at(s, j), true);
     let at = prepared.at;

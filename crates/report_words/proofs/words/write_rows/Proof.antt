@@ -9,7 +9,7 @@ use Rattle.sheet.specs.Bytes.{rowsOf}
 use Rattle.report_words.specs.Years.{filled}
 use Rattle.report_words.proofs.Filled.{filled-less, filled-twice}
 use Rattle.sheet.proofs.Places.{parking-there}
-use Rattle.report_words.proofs.SeasonWords.{cleared}
+use Rattle.report_words.proofs.SeasonWords.{cleared, year-in-milligrams}
 use Rattle.report_words.proofs.words.write_rows.Statement.{statement}
 use Rattle.report_words.proofs.words.write_rows.Tie as tie
 
@@ -30,8 +30,7 @@ row-words-requires : tie.Need-row-words-requires
 row-words-requires c κs =
     let done = c .before .before .before in
     let start = c .before .before .before .before .before .before .before .before .before .before .before .before in
-    let n = 6 * rowsOf (start .args .s .now) in
-    (start .pre .0, record { room = omega (arith, start); words-are = ap (take n) (done .add-year .ensures) ∙ filled-less _ _ n n (omega arith) })
+    (start .pre .0, omega (arith, start))
 
 returns : tie.Need-returns
 returns c =
@@ -40,7 +39,9 @@ returns c =
     let n = 6 * rowsOf (start .args .s .now) in
     filled-twice _ _ _ n n (omega arith)
     (zeros (c .before .before .before .before .before .before .before .before .before .before))
-    (filled-twice _ _ _ n n (omega arith) (year .add-year .ensures) (c .before .before .row-words .ensures))
+    (filled-twice _ _ _ n n (omega arith) (year .add-year .ensures)
+    (c .before .before .row-words .ensures ∙
+    year-in-milligrams (start .args .s .now) _ (ap (take n) (year .add-year .ensures) ∙ filled-less _ _ n n (omega arith))))
 
 pub write-rows-spec : {M : Type 1} → statement M
 write-rows-spec =

@@ -7,16 +7,14 @@ use lib.ListN.{length}
 use Rattle.exact.specs.declared.Season.{Season}
 use Rattle.exact.specs.declared.Row.{Row}
 use Rattle.sheet.specs.Range.{SeasonInRange}
-use Rattle.sheet.specs.Bytes.{cellsOf, seasonAt, rowAt}
+use Rattle.sheet.specs.Bytes.{rowsOf, cellsOf, seasonAt, rowAt}
 use Rattle.sheet.proofs.Accepted.{Bytes, accepted}
 use Rattle.sheet.proofs.Places.{parking-there, rows-fit, season-there, row-there}
 use Rattle.masses.specs.Day.{dayFigures}
-use Rattle.sheet_factors.proofs.SeasonWork.{SeasonLent}
-use Rattle.sheet_factors.proofs.SeasonWork.{season-lent, use-in-range}
-use Rattle.report_words.specs.Years.{filled}
-use Rattle.report_words.proofs.SeasonWords.{seasonAdded}
+use Rattle.sheet_factors.proofs.SeasonWork.{SeasonLent, season-lent, use-in-range}
+use Rattle.report_words.specs.Years.{seasonAdded, SeasonFits, filled}
 use Rattle.report_words.proofs.Filled.{filled-none, filled-all}
-use Rattle.report_words.proofs.SeasonWords.{row-sums-fit, row-stored, season-fits, season-stored}
+use Rattle.report_words.proofs.SeasonWords.{row-sums-fit, row-stored}
 use borrow.Author.Needs.{needs}
 use Rattle.report_words.proofs.year.add_season.Statement.{statement}
 use Rattle.report_words.proofs.year.add_season.Tie as tie
@@ -66,6 +64,14 @@ ready c =
 alike : (season : Season) {r t : Row} {cells counts : List ℕ} → r ≡ t → cells ≡ counts → dayFigures cells season r ≡ dayFigures counts season t
 alike season e f = rw (e, f)
 
+-- and are added alike in equal seasons
+same-season : (s words : List ℕ) {x y : Season} → x ≡ y
+    → filled (seasonAdded s x words) (6 * rowsOf s) words ≡ filled (seasonAdded s y words) (6 * rowsOf s) words
+same-season s words e = rw e refl
+
+same-fits : {s words : List ℕ} {x y : Season} → x ≡ y → SeasonFits s y words → SeasonFits s x words
+same-fits e h = rw e h
+
 -- the figures of row i
 figures : (c : tie.After-row-figures Inv-loop μ-loop)
     → let l = inside (c .before .before) in let x = start (made (ahead l)) .args in
@@ -96,7 +102,7 @@ row-figures-requires c κs =
       record {
         ready = λ h. rw (m .prepare .ensures .0) (m .prepare .ensures .2 refl);
       },
-      s .pre .3 .kept-of _ (omega (arith, there, n .rows-of .ensures .0)),
+      s .pre .4 .kept-of _ (omega (arith, there, n .rows-of .ensures .0)),
     )
 
 -- the words of all rows fit with it
@@ -107,10 +113,9 @@ add-days-requires c κs =
     let n = ahead i in
     let s = start (made n) in
     let x = s .args in
-    let fits = season-fits (x .s .now) (x .words .now) (x .j) (season-is (made n)) (s .pre .2 .words-are) (bytes (made n .before .before))
-    (accepted (x .s .now) (s .pre .0 .passes)) (s .pre .1) in
+    let fits = same-fits (season-is (made n)) (s .pre .3) in
     rw (figures (c .before)) (
-      omega (arith, i .loop-test .taken, n .rows-of .ensures .0, l .inv .1, s .pre .2 .room),
+      omega (arith, i .loop-test .taken, n .rows-of .ensures .0, l .inv .1, s .pre .2),
       row-sums-fit (x .s .now) _ (x .words .now) (l .words) (l .i) (l .inv .2)
           (omega (arith, i .loop-test .taken, n .rows-of .ensures .0)) fits,
     )
@@ -124,7 +129,7 @@ loop-again c =
     let n = ahead i in
     let s = start (made n) in
     let x = s .args in
-    let room : 6 * l .i + 6 ≤ length (x .words .now) = omega (arith, s .pre .2 .room, i .loop-test .taken, n .rows-of .ensures .0) in (
+    let room : 6 * l .i + 6 ≤ length (x .words .now) = omega (arith, s .pre .2, i .loop-test .taken, n .rows-of .ensures .0) in (
       search needs,
       cc,
       rw (figures f) at (done .add-days .ensures) ∙
@@ -138,7 +143,7 @@ returns c =
     let s = start (made n) in
     let x = s .args in
     l .inv .2 ∙ filled-all _ _ _ _ (omega (arith, n .rows-of .ensures .0)) (omega (arith, n .rows-of .ensures .0)) ∙
-    season-stored (x .s .now) (x .words .now) (x .j) (season-is (made n)) (s .pre .2 .words-are)
+    same-season (x .s .now) (x .words .now) (season-is (made n))
 
 pub add-season-spec : {M : Type 1} → statement M
 add-season-spec =

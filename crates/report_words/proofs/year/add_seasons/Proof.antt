@@ -1,14 +1,16 @@
 -- `report_words::year::add_seasons` meets its contract: the words hold the first j seasons.
 -- Assumes nothing.
 use mathlib.Core.Path.{_≡_, refl, _∙_, ap}
-use Prim.Native.Nat.{_*_, _-_, _≤_}
+use Prim.Native.Nat.{_+_, _*_, _-_, _≤_}
 use borrow.Author.Needs.{needs}
 use native.Mathlib.Omega.{arith}
 use lib.ListN.{length, take}
-use Rattle.sheet.specs.Bytes.{seasonsOf, rowsOf}
-use Rattle.report_words.specs.Years.{yearWord, filled}
+use Rattle.sheet.specs.Bytes.{seasonsOf, rowsOf, seasonAt}
+use Rattle.sheet.proofs.Accepted.{Bytes, accepted}
+use Rattle.report_words.specs.Years.{yearWord, seasonAdded, filled}
 use Rattle.report_words.proofs.Filled.{filled-same, filled-less, filled-again}
 use Rattle.sheet.proofs.Places.{parking-there}
+use Rattle.report_words.proofs.SeasonWords.{season-fits, season-stored}
 use Rattle.report_words.proofs.year.add_seasons.Statement.{statement}
 use Rattle.report_words.proofs.year.add_seasons.Tie as tie
 
@@ -19,21 +21,35 @@ Inv-loop tables grid kept s words₀ seasons j₀ words j =
 abbrev μ-loop : tie.MeasureT-loop
 μ-loop tables grid kept s words₀ seasons j₀ words j = seasons - j
 
+-- each element of the sheet is a byte
+bytes : (c : tie.At-loop Inv-loop μ-loop) → Bytes (c .before .before .before .before .args .s .now)
+bytes c = record { byte = λ k. c .before .before .before .shared-slice-known .given k .fits }
+
 add-season-requires : tie.Need-add-season-requires Inv-loop μ-loop
 add-season-requires c κs =
     let l = c .before .before .loop in
     let start = c .before .before .before .before .before .before in
     let p = start .pre in
     let n = 6 * rowsOf (start .args .s .now) in
-    let words = ap (take n) (l .inv .2) ∙ filled-less _ _ n n (omega arith) in
-    (p .0, omega arith, record { room = omega (arith, p .1 .room); words-are = words }, p .2)
+    let first = ap (take n) (l .inv .2) ∙ filled-less _ _ n n (omega arith) in
+    let s = start .args .s .now in
+    let a = accepted s (p .0 .passes) in (
+      p .0,
+      omega arith,
+      omega (arith, p .1 .room),
+      season-fits s (l .words) (l .j) refl first (bytes (c .before .before)) a (omega arith),
+      p .2,
+    )
 
 loop-again : tie.Need-loop-again Inv-loop μ-loop
 loop-again c =
     let l = c .before .before .before .before .before .loop in
     let s = c .before .before .before .before .before .before .before .before .before .args .s .now in
     let n = 6 * rowsOf s in
-    (search needs, cc, c .before .before .add-season .ensures ∙ rw (l .inv .2) (filled-again (yearWord s (l .j)) _ _ n n (omega arith)))
+    let first = ap (take n) (l .inv .2) ∙ filled-less _ _ n n (omega arith) in
+    let one : filled (seasonAdded s (seasonAt s (l .j)) (l .words)) n (l .words) ≡ filled (yearWord s (l .j + 1)) n (l .words)
+    = season-stored s (l .words) (l .j) refl first in
+    (search needs, cc, c .before .before .add-season .ensures ∙ one ∙ rw (l .inv .2) (filled-again (yearWord s (l .j)) _ _ n n (omega arith)))
 
 returns : tie.Need-returns Inv-loop μ-loop
 returns c =

@@ -1,0 +1,1 @@
+// Blocks of words, one after another in a buffer. Definitions and laws; no code.

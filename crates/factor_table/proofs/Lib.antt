@@ -1,0 +1,4 @@
+pub mod Pairs
+pub mod RowPromise
+pub mod SheetTable
+pub mod TablePromise

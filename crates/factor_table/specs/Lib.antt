@@ -1,0 +1,2 @@
+pub mod RowFactors
+pub mod Factors

@@ -1,0 +1,6 @@
+pub mod BlockSums
+pub mod SeasonBlocks
+pub mod SeasonsPromise
+pub mod ExactYear
+pub mod BandsWithin
+pub mod SameLayout

@@ -1,0 +1,2 @@
+pub mod Seasons
+pub mod Year
