@@ -30,7 +30,8 @@ slice-aggregate-write c =
 write-requires : tie.Need-write-requires
 write-requires c κs =
     let p = pools (c .before .before .before .before .before .pool .ensures) (cc) in
-    (c .before .before .before .before .before .before .before .before .before .before .before .pre, (p .passes, rw (c .before .pool-length .ensures) (p .first)))
+    let start = c .before .before .before .before .before .before .before .before .before .before .before in
+    (start .pre, (p .passes, rw (c .before .pool-length .ensures) (p .first)))
 
 pub answer-spec : {M : Type 1} → statement M
 answer-spec =

@@ -12,10 +12,12 @@ was-read true e = refl
 was-read false e = sym e
 
 answer-requires : tie.Need-answer-requires
-answer-requires c κs = (
-  c .before .before .before .before .before .before .before .before .before .before .before .read-argument .ensures .whole (was-read _ (search needs)),
-  c .before .before .before .before .before .read-argument2 .ensures .whole (was-read _ (search needs)),
-)
+answer-requires c κs =
+    let second = c .before .before .before .before .before in
+    let first = second .before .before .before .before .before .before in (
+      first .read-argument .ensures .whole (was-read _ (search needs)),
+      second .read-argument2 .ensures .whole (was-read _ (search needs)),
+    )
 
 pub main-spec : {M : Type 1} → statement M
 main-spec =
