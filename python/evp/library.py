@@ -522,6 +522,6 @@ def load() -> Library:
     """The library, loaded once; FileNotFoundError where there is none."""
     path = find()
     if path is None:
-        raise FileNotFoundError("no %s in %s, and none is installed: bash c/shared makes it, or EVP_LIBRARY names one" % (
-            NAME, " or ".join(map(str, FOLDERS))))
+        raise FileNotFoundError("no %s in %s, and none is installed: bash c/shared makes it, or EVP_LIBRARY names one"
+                                % (NAME, " or ".join(map(str, FOLDERS))))
     return Library(path)
