@@ -39,13 +39,20 @@ WHEEL = "Wheel-Version: 1.0\nGenerator: release/wheel.py\nRoot-Is-Purelib: false
 COMMANDS = "[console_scripts]\nevp = evp.cli:main\n"
 
 
+def read(tar: tarfile.TarFile, member: tarfile.TarInfo) -> bytes:
+    """The bytes of a file."""
+    file = tar.extractfile(member)
+    assert file is not None, "a member that is a file has bytes"
+    return file.read()
+
+
 class Archive:
     """The files of a release, by their names under its folder."""
 
     def __init__(self, path: Path):
         with tarfile.open(path) as tar:
             found = [member for member in tar.getmembers() if member.isfile()]
-            self.files = {member.name.partition("/")[2]: tar.extractfile(member).read() for member in found}
+            self.files = {member.name.partition("/")[2]: read(tar, member) for member in found}
             self.time = next(member.mtime for member in found)
             self.version = found[0].name.split("-")[1]
         if path.name.endswith("-unproved.tar.gz"):
@@ -59,7 +66,7 @@ class Archive:
         """The shared library; ValueError where it needs a later C library than the wheel's tags promise."""
         name = next(name for name in self.files if re.fullmatch(r"lib/libevaporation\.so\.1\.\d+\.\d+", name))
         data = self.files[name]
-        needed = max(tuple(map(int, found)) for found in re.findall(rb"GLIBC_(\d+)\.(\d+)", data))
+        needed = max((int(major), int(minor)) for major, minor in re.findall(rb"GLIBC_(\d+)\.(\d+)", data))
         if needed > GLIBC:
             raise ValueError("%s needs glibc %d.%d, and the wheel's tags promise %d.%d" % (name, *needed, *GLIBC))
         return data
