@@ -1,6 +1,7 @@
 /* What a host asks of the library, tried: reports inside signal handlers that interrupt reports, on an alternate stack
-   of EVP_STACK_BYTES, and reports in children that are forked while other threads are in calls. Each is compared with the
-   report of the same sheet made in peace. Usage: host SHEET.evp; exit status 1 where one differs or too few were made. */
+   of EVP_STACK_BYTES, and reports in children that are forked while other threads are in calls. Each is compared with
+   the report of the same sheet made in peace. Usage: host SHEET.evp; exit status 1 where one differs or too few were
+   made. */
 #include <evaporation.h>
 #include <pthread.h>
 #include <signal.h>
