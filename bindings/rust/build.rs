@@ -1,5 +1,5 @@
-//! Finds the static library libevaporation.a: in the folder that EVAPORATION_LIB names, in a release or the repository
-//! in which this crate stands, or where pkg-config has it installed.
+//! Finds the static library libevaporation.a: in the folder that EVAPORATION_LIB names, in the package of this crate, in
+//! the release or the repository that this crate is in, or where pkg-config has it installed.
 use std::env;
 use std::path::PathBuf;
 use std::process::{exit, Command};
@@ -19,7 +19,7 @@ fn find() -> Option<PathBuf> {
     }
     let here = PathBuf::from(env::var_os("CARGO_MANIFEST_DIR")?);
     let top = here.parent()?.parent()?;
-    let near = [top.join("lib"), top.join("target/lib"), top.join("target/staticlib")];
+    let near = [here.join("lib"), top.join("lib"), top.join("target/lib"), top.join("target/staticlib")];
     near.into_iter().find(|folder| folder.join(NAME).exists()).or_else(installed)
 }
 

@@ -516,17 +516,37 @@ class SharedLedger(_Buffers):
 
 # ------------------------------------------------------------------ where the library is
 
-TOP = Path(__file__).resolve().parents[2]
+HERE = Path(__file__).resolve().parent
+TOP = HERE.parents[1]
 NAME = "libevaporation.so.1"
-FOLDERS = (TOP / "lib", TOP / "target" / "lib")  # of a release, of the repository
+FOLDERS = (HERE, TOP / "lib", TOP / "target" / "lib")  # of a wheel, of a release, of the repository
+_DI_LINKMAP = 2  # RTLD_DI_LINKMAP of <dlfcn.h>
+
+
+class _LinkMap(ctypes.Structure):
+    """The first members of struct link_map in <link.h>."""
+    _fields_ = [("l_addr", c_uint64), ("l_name", c_char_p)]
+
+
+def installed() -> Path | None:
+    """The library that the system's loader finds, by LD_LIBRARY_PATH, ldconfig or in its own folders; else None."""
+    try:
+        handle = ctypes.CDLL(NAME)._handle
+    except OSError:
+        return None
+    found = POINTER(_LinkMap)()
+    if ctypes.CDLL(None).dlinfo(ctypes.c_void_p(handle), _DI_LINKMAP, ctypes.byref(found)):
+        return None
+    return Path(os.fsdecode(found.contents.l_name))
 
 
 def find() -> Path | None:
-    """The library that EVP_LIBRARY names, that of a release, or that of the repository; None where there is none."""
+    """The library that EVP_LIBRARY names, else that of a wheel, of a release, of the repository, or an installed one;
+    None where there is none."""
     named = os.environ.get("EVP_LIBRARY")
     if named:
         return Path(named)
-    return next((folder / NAME for folder in FOLDERS if (folder / NAME).exists()), None)
+    return next((folder / NAME for folder in FOLDERS if (folder / NAME).exists()), None) or installed()
 
 
 @cache
@@ -534,6 +554,6 @@ def load() -> Library:
     """The library, loaded once; FileNotFoundError where there is none."""
     path = find()
     if path is None:
-        raise FileNotFoundError(
-            "no %s in %s or %s: bash c/shared makes it, or EVP_LIBRARY names one" % (NAME, *FOLDERS))
+        raise FileNotFoundError("no %s in %s, and none is installed: bash c/shared makes it, or EVP_LIBRARY names one"
+                                % (NAME, " or ".join(map(str, FOLDERS))))
     return Library(path)

@@ -234,7 +234,7 @@ class MakingTest(DeskTestCase):
     """How the library is made, with a kit that says it has proved what it is asked for."""
 
     def test_shared(self):
-        """Only the calls are exported."""
+        """Only the calls are exported, each with its version node."""
         if not (TOP / "target" / "staticlib" / "libevaporation.a").exists():
             self.skipTest("rt staticlib evaporation was not run")
         self.put("bin/rt", "#!/bin/sh\n").chmod(0o755)
@@ -244,8 +244,8 @@ class MakingTest(DeskTestCase):
         made = self.folder / "lib" / library.NAME
         self.assertEqual(library.Library(made).report(sample("region")), LIBRARY.report(sample("region")))
         listed = subprocess.run(["nm", "-D", "--defined-only", made], capture_output=True, text=True, check=True)
-        names = listed.stdout.split()[2::3]
-        self.assertTrue(names and all(name.startswith("evp_") for name in names), names)
+        names = {line.split()[2] for line in listed.stdout.splitlines()}
+        self.assertEqual(names, {"EVP_1.0", *("%s@@EVP_1.0" % name for name in library.CALLS)})
         self.assertEqual(os.readlink(self.folder / "lib" / "libevaporation.so"), library.NAME)
 
     def make(self, script: str, crates: str = "numbers:\nbounds: numbers\nevaporation: bounds\nreport: io\n"):

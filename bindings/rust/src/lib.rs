@@ -5,7 +5,7 @@
 //! ```
 //! use evaporation::{report, Refusal};
 //!
-//! # let path = concat!(env!("CARGO_MANIFEST_DIR"), "/../../samples/table-3-5-day.evp");
+//! # let path = concat!(env!("CARGO_MANIFEST_DIR"), "/samples/table-3-5-day.evp");
 //! let sheet = std::fs::read(path).expect("the sheet is there");
 //! match report(&sheet) {
 //!     Ok(report) => {

@@ -46,6 +46,11 @@ fn numbers_are_those_of_the_header() {
     }
 }
 
+#[test]
+fn the_sample_of_the_crate_is_that_of_the_repository() {
+    assert_eq!(include_bytes!("../samples/table-3-5-day.evp"), &sample("table-3-5-day")[..]);
+}
+
 /// What a function of the header returns for the names of its cases.
 fn header_cases(header: &str, function: &str) -> Vec<(String, String)> {
     let body = header.split_once(&format!("{function}(uint64_t number")).expect("the function").1;

@@ -3,10 +3,10 @@
 from collections.abc import Callable
 from typing import NamedTuple
 
-from evp.library import TOP
+from evp.library import HERE, TOP
 from evp.pages.render import LINKS, render
 
-SAMPLES = TOP / "samples"
+SAMPLES = HERE / "samples" if (HERE / "samples").is_dir() else TOP / "samples"  # a wheel has its own
 MOST_LINES = 6  # of what was wrong, on a page
 
 
