@@ -25,7 +25,9 @@ esac
 CALLS = "int helper(void) { return 1; }\nint evp_one(void) { return helper(); }\nint evp_two(void) { return 2; }\n"
 NEWER = "EVP_1.0 {\n    global: evp_one;\n    local: *;\n};\nEVP_1.1 {\n    global: evp_two;\n} EVP_1.0;\n"
 CRATES = "# The crates\n\n# Some: of them\nnumbers:\nsheet: numbers\nreport: io sheet\nevaporation: sheet\n"
-LIBRARY = "libevaporation.so.1.0.0"
+OLDER = "EVP_1.0 {\n    global: evp_*;\n    local: *;\n};\n"
+VERSION = subprocess.run(["bash", TOP / "c/version"], capture_output=True, text=True, check=True).stdout.strip()
+LIBRARY = "libevaporation.so." + VERSION
 
 
 @unittest.skipUnless(all(map(shutil.which, ("gcc", "ar", "nm", "readelf"))), "gcc or binutils are not installed")
@@ -40,6 +42,7 @@ class InstallTest(unittest.TestCase):
         self.runs, self.version = Path(folder.name, "runs"), Path(folder.name, "version")
         shutil.copytree(TOP / "c", self.top / "c")
         shutil.copytree(TOP / "include", self.top / "include")
+        self.put("c/exports.map", OLDER)
         self.put("crates.txt", CRATES)
         for name in ("numbers", "sheet", "report"):
             self.put("crates/%s/src/lib.rt" % name, name)
