@@ -25,8 +25,7 @@ esac
 CALLS = "int helper(void) { return 1; }\nint evp_one(void) { return helper(); }\nint evp_two(void) { return 2; }\n"
 NEWER = "EVP_1.0 {\n    global: evp_one;\n    local: *;\n};\nEVP_1.1 {\n    global: evp_two;\n} EVP_1.0;\n"
 CRATES = "# The crates\n\n# Some: of them\nnumbers:\nsheet: numbers\nreport: io sheet\nevaporation: sheet\n"
-VERSION = subprocess.run(["bash", TOP / "c/version"], capture_output=True, text=True, check=True).stdout.strip()
-LIBRARY = "libevaporation.so." + VERSION
+LIBRARY = "libevaporation.so.1.0.0"
 
 
 @unittest.skipUnless(all(map(shutil.which, ("gcc", "ar", "nm", "readelf"))), "gcc or binutils are not installed")
