@@ -3,7 +3,7 @@
 python3 release/wheel.py ARCHIVE [FOLDER]   FOLDER is that of the archive where none is given
 
 The library is the one of the archive, byte for byte. The same archive gives the same wheel: names in order, the time
-of the commit, mode 644. A wheel of an archive that is not proved has the version 1.0.0.dev0, which the proved one
+of the commit, mode 644. A wheel of an archive that is not proved has a version such as 1.0.0.dev0, which the proved one
 replaces.
 """
 
