@@ -32,7 +32,7 @@ Requires-Dist: waitress; extra == 'pages'
 Provides-Extra: pages
 Description-Content-Type: text/markdown
 
-The command `evp` and the package `evp`, with the shared library libevaporation.so.1 in it. `evp page` and `evp desk`
+The command `evp` and the package `evp`, with the shared library libevaporation.so.1 in it. `evp page` and `evp serve`
 need the extra `pages`. PROVED says what was proved of the library.
 """
 WHEEL = "Wheel-Version: 1.0\nGenerator: release/wheel.py\nRoot-Is-Purelib: false\n"
