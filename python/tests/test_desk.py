@@ -763,7 +763,7 @@ class CommandTest(LedgerTestCase):
 class CoursePageTest(LedgerTestCase):
     """docs/COURSE.md, "The afternoon": its commands print what it says, and its answers are given."""
 
-    BLOCK = re.compile(r"^```text\n\$ \./evp desk (.*)\n((?:.*\n)*?)```$", re.M)
+    BLOCK = re.compile(r"^```text\n\$ \./evp serve (.*)\n((?:.*\n)*?)```$", re.M)
     CALLS = (("arrive", 3, 250), ("depart", 11, 90_000), ("arrive", 3, 10_000_000), ("arrive", 4, 1),
              ("arrive", 3, 9_935_000))
 
@@ -785,7 +785,7 @@ class CoursePageTest(LedgerTestCase):
             option, file, *rest = shlex.split(words)
             self.assertEqual((option, file), ("--ledger", self.file.name))
             if "--export" in rest:
-                found = subprocess.run([sys.executable, TOP / "evp", "desk", option, file, *rest], cwd=self.folder,
+                found = subprocess.run([sys.executable, TOP / "evp", "serve", option, file, *rest], cwd=self.folder,
                                        text=True, capture_output=True)
                 self.assertEqual(found.stdout, printed)
                 continue

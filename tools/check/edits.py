@@ -12,10 +12,11 @@ With --logs, after `rt must-fail` or `rt ci`, the first error of each log under
 target/must-fail is looked at. It must show a goal that fails: two types that
 differ, an equation or a computed test that is false, or values at which `omega`'s
 goal fails.
-Where the prover only found no proof, the edited statement may still be true: then
-a line `# why: ..` of the edit must say why it is false, and is printed. A name or
-a field that is gone, a need that has another name, or a file that does not parse
-shows nothing at all.
+Where the prover only found no proof, the edited statement may still be true: it is
+then not called refused by a fact, and is printed with the line `# why: ..` of the
+edit, which says why it is false, or with the remark that no line says it. A name
+or a field that is gone, a need that has another name, or a file that does not
+parse shows nothing at all, and is a fault.
 
 With --try, one edit is tried in seconds: it is done in its crate, `rt dev` is run
 and the crate's files are put back. Its first error is printed.
@@ -53,6 +54,7 @@ FACTS = {
 
 # Every other first error: the prover gave up, and the edited statement may be true.
 NO_COUNTEREXAMPLE = "not proved; no counterexample shown"
+NO_REASON = "no line `# why:` says why it is false"
 
 
 class Fault(NamedTuple):
@@ -167,9 +169,8 @@ def refusal(log: str, why: str) -> Refusal:
     fact = first_of(FACTS, error)
     if fact:
         return Refusal("refused by a fact, %s: %s" % (fact, error[:600]), "")
-    if why:
-        return Refusal("%s; false because %s: %s" % (NO_COUNTEREXAMPLE, why, error[:600]), "")
-    return Refusal("", "%s, and no line `# why:` says why it is false: %s" % (NO_COUNTEREXAMPLE, error[:200]))
+    because = "false because " + why if why else NO_REASON
+    return Refusal("%s; %s: %s" % (NO_COUNTEREXAMPLE, because, error[:600]), "")
 
 
 def changed(changes: Iterable[Change], crate: Path) -> dict[Path, str]:
@@ -221,11 +222,12 @@ def logged(edit: Path) -> Refusal:
 
 
 def unproved(crates: Iterable[str] = ()) -> Iterator[str]:
-    """The edits whose logs show no counterexample and whose files say why they are false, with what they say."""
+    """The edits whose logs show no counterexample, with why they are false where their files say it."""
     for edit in find(crates):
         if logged(edit).said.startswith(NO_COUNTEREXAMPLE):
-            yield "%s: %s; false because %s" % (
-                edit.relative_to(TOP), NO_COUNTEREXAMPLE, reason(edit.read_text(encoding="utf-8")))
+            why = reason(edit.read_text(encoding="utf-8"))
+            yield "%s: %s; %s" % (
+                edit.relative_to(TOP), NO_COUNTEREXAMPLE, "false because " + why if why else NO_REASON)
 
 
 def faults(logs: bool, crates: Iterable[str] = ()) -> Iterator[str]:

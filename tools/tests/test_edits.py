@@ -116,8 +116,8 @@ class TryTest(unittest.TestCase):
 
     def test_no_counterexample(self):
         said, faults = self.tried(1, ONE_UNIT_LESS)
-        self.assertEqual((said, len(faults)), ("", 1))
-        self.assertIn("not proved; no counterexample shown", faults[0])
+        self.assertTrue(said.startswith("not proved; no counterexample shown"), said)
+        self.assertEqual(faults, [])
 
     def test_proved(self):
         self.assertIn("still proved", self.tried(0, "logic=proved\n")[1][0])
@@ -147,9 +147,9 @@ class RefusalTest(unittest.TestCase):
         for log in (ONE_UNIT_LESS, KILOGRAM_AS_GRAM):
             with self.subTest(log=log):
                 shown = edits.refusal(log, "")
-                self.assertEqual(shown.said, "")
-                self.assertIn("not proved; no counterexample shown, and no line `# why:` says why it is false",
-                              shown.fault)
+                self.assertTrue(shown.said.startswith(
+                    "not proved; no counterexample shown; no line `# why:` says why it is false: "), shown.said)
+                self.assertEqual(shown.fault, "")
 
     def test_no_proof_found_of_what_is_false(self):
         shown = edits.refusal(ONE_UNIT_LESS, "643 was measured")
@@ -204,10 +204,11 @@ class LogsTest(unittest.TestCase):
         self.add("differs", GOOD, SHARE_MISREAD)
         self.add("unproved", GOOD, ONE_UNIT_LESS)
         self.add("measured", "# why: 643 was measured\n" + GOOD, ONE_UNIT_LESS)
-        self.assertEqual([fault.partition(",")[0] for fault in edits.faults(True)],
-                         ["crates/a/must-fail/unproved.edit: not proved; no counterexample shown"])
+        self.assertEqual(list(edits.faults(True)), [])
         self.assertEqual(list(edits.unproved()), [
-            "crates/a/must-fail/measured.edit: not proved; no counterexample shown; false because 643 was measured"])
+            "crates/a/must-fail/measured.edit: not proved; no counterexample shown; false because 643 was measured",
+            "crates/a/must-fail/unproved.edit: not proved; no counterexample shown; "
+            "no line `# why:` says why it is false"])
 
     def test_no_log(self):
         self.add("differs", GOOD, SHARE_MISREAD)
