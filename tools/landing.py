@@ -269,7 +269,7 @@ def measure_or_say(given: argparse.Namespace) -> int:
 def parser() -> argparse.ArgumentParser:
     about, _, more = __doc__.partition("\n\n")
     top = argparse.ArgumentParser(prog="python3 -m tools.landing", **described(
-        about + "\n\n" + more, "nice -n 19 python3 -m tools.landing --scratch /tmp/landing 4f3728e 3f15c5b"))
+        about + "\n\n" + more, "nice -n 19 python3 -m tools.landing --scratch ../landing 4f3728e 3f15c5b"))
     top.add_argument("before", metavar="BEFORE", help="the commit before the change")
     top.add_argument("after", metavar="AFTER", help="the commit with the change")
     top.add_argument("--rounds", type=int, default=1, metavar="N",
