@@ -1,4 +1,5 @@
 // What a program in Rust or C can call: the exponential over many exponents at once, with the tables made once.
+use bounds::exp::ExpTables;
 use bounds::exp::exponential;
 use bounds::exp::tables;
 ghost use mathlib.Core.Path.{_≡_};
@@ -8,14 +9,14 @@ ghost use Rattle.bench_exponentials.specs.Total.{served, total};
 // The first exponent that is not served
 const LIMIT: u64 = 2010000000000000;
 
-fn served(tables: &[u64; 1907], x: u64) -> u64
+fn served(tables: &ExpTables, x: u64) -> u64
     requires { ⌜ now tables ≡ entries ⌝ }
     ensures { λ r. ⌜ r ≡ served x ⌝ }
 {
     if x < LIMIT { exponential(tables, x) } else { 0 }
 }
 
-fn total(tables: &[u64; 1907], xs: &[u64]) -> u64
+fn total(tables: &ExpTables, xs: &[u64]) -> u64
     requires { ⌜ now tables ≡ entries ⌝ }
     ensures { λ r. ⌜ r ≡ total (now (xs .entry)) ⌝ }
 {

@@ -4,7 +4,7 @@
 use native.Mathlib.Omega.{arith}
 use Rattle.numbers.specs.Fraction.{Fraction, _<ᶠ_, whole}
 use Rattle.numbers.proofs.Order.{Positive, nonNegative, nonNegative→≤}
-use Rattle.bounds.specs.Laws.{SeriesLaws, EndLaws, WholeLaws, ExponentialLaws, ShortLaws, TangentLaws}
+use Rattle.bounds.specs.Laws.{SeriesLaws, EndLaws, WholeLaws, ExponentialLaws, ShortLaws, ThetaLaws}
 use Rattle.bounds.specs.Laws.{PowerLaws, WeightLaws, Laws}
 pub use Rattle.bounds.proofs.Exponential.{E-cong, E-mono, E-zero, E-positive}
 pub use Rattle.bounds.proofs.Sums.{E-most-1, E-product-above, E-product-below, one-plus}
@@ -14,8 +14,9 @@ pub use Rattle.bounds.proofs.ExponentialBound.{exponentialError-2·3, e
 pub use Rattle.bounds.proofs.ExponentialBound.{exponential-size-1·41, exponential-at-0, exponential-at-1·41}
 pub use Rattle.bounds.proofs.ShortBound.{short-within, short-size}
 pub use Rattle.bounds.proofs.Growth.{exponential-mono}
-pub use Rattle.bounds.proofs.Steepness.{short-most-1, held-to-0, held-to-3}
-pub use Rattle.bounds.proofs.Tangent.{tangent-least, tangent-near}
+pub use Rattle.bounds.proofs.Products.{product-least, product-most}
+pub use Rattle.bounds.proofs.Steepness.{climb-to, short-most-1, held-to-0, held-to-3}
+pub use Rattle.bounds.proofs.ThetaTable.{theta-least, theta-near, theta-most, theta-rounded}
 pub use Rattle.bounds.proofs.WholeExponents.{far-below, far-above, far-gap, far-triple, far-size, far-2, far-14}
 pub use Rattle.bounds.proofs.PowerBound.{power-within, power-size}
 pub use Rattle.bounds.proofs.Root.{power2·5-nonNegative, power2·5-above, power2·5-below, cutRoot-is, root-square-cut, cutRoot-multiple}
@@ -34,6 +35,9 @@ series = record {
   to-0 = E-most-1;
   product-above = λ n h k. E-product-above n (nonNegative h) (nonNegative k);
   product-below = λ n m h k. E-product-below n m (nonNegative h) (nonNegative k);
+  sum-least = λ n z y h k. product-least n z y h (nonNegative k);
+  sum-most = λ n z y h k. product-most n z y h (nonNegative k);
+  slope = climb-to;
   one-plus = λ x h. one-plus x (nonNegative h);
 }
 
@@ -82,8 +86,8 @@ shorter = record {
   held-to-3 = held-to-3;
 }
 
-tangents : TangentLaws
-tangents = record { least = tangent-least; near = tangent-near }
+thetas : ThetaLaws
+thetas = record { least = theta-least; near = theta-near; most = theta-most; rounded = theta-rounded }
 
 powers : PowerLaws
 powers = record {
@@ -107,7 +111,7 @@ laws = record {
   wholes = wholes;
   exponential = computed;
   short = shorter;
-  tangent = tangents;
+  theta = thetas;
   power = powers;
   weights = hourly;
 }

@@ -17,7 +17,8 @@ mod Ends
 mod Weights
 pub mod Line
 pub mod Units
-mod Tangent
+mod Products
+mod ThetaTable
 pub mod Laws
 mod ShortBound
 pub mod ShortLine

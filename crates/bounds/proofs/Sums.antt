@@ -54,23 +54,3 @@ two-terms e = record { cross = omega arith }
 -- 1 + e ≤ E₁(e) for 0 ≤ e
 pub one-plus : (e : Fraction) → NonNegative e → whole 1 +ᶠ e ≤ᶠ E 1 e
 one-plus e h = rw (E-plus 1 h) (two-terms e)
-
--- −(z + e) + e = −z
-back : (z e : Fraction) → negᶠ (z +ᶠ e) +ᶠ e ≈ᶠ negᶠ z
-unfolding negᶠ _+ᶠ_
-back z e = omega arith
-
--- (1 + e)·Eₙ₊₁(z) ≤ Eₙ(z + e) for 0 ≤ e and z + e ≤ 0: both sides times Eₙ(−(z + e)), where the product from below is at hand
-pub chord : (n : ℕ) (z e : Fraction) → NonNegative e → z +ᶠ e ≤ᶠ whole 0 → (whole 1 +ᶠ e) *ᶠ E (n + 1) z ≤ᶠ E n (z +ᶠ e)
-chord n z e e0 top =
-    let start : Fraction = E (n + 1) z in
-    let opposite : Fraction = E n (negᶠ (z +ᶠ e)) in
-    let sum : opposite *ᶠ (whole 1 +ᶠ e) ≤ᶠ E (n + 1) (negᶠ z) =
-    ≤-trans (*-mono-right (positive→nonNegative (E-positive n _)) (one-plus e e0))
-    (≤-trans (E-product-below n 1 (neg-nonNegative top) e0) (E-mono (n + 1) (≈→≤ (back z e)))) in
-    *-cancel (E-positive n (negᶠ (z +ᶠ e)))
-    (≤-by (turn (whole 1 +ᶠ e) start opposite) (≈-trans (E-neg n (z +ᶠ e)) (≈-sym (E-neg (n + 1) z)))
-    (*-mono-right (positive→nonNegative (E-positive (n + 1) z)) sum))
-  where
-    turn : (c f y : Fraction) → c *ᶠ f *ᶠ y ≈ᶠ f *ᶠ (y *ᶠ c)
-    turn c f y = ≈-trans (*-cong (*-comm c f) (≈-refl y)) (≈-trans (*-swap f c y) (*-assoc f y c))

@@ -6,6 +6,7 @@ use Prim.Native.Nat.{ℕ, _+_, _*_, _/_, _%_, _^_}
 use lib.ListN.{getD}
 use Rattle.numbers.specs.Fraction.{Fraction, ten-pos}
 use Rattle.numbers.specs.Lists.{tab}
+use Rattle.bounds.specs.Theta.{thetas}
 
 -- z = x·10⁻¹⁴ − 16
 abbrev pub exponent : ℕ → Fraction
@@ -116,9 +117,9 @@ high h = getD coarse h 0 / 2 ^ 13
 unfoldable pub finest : ℕ → ℕ
 finest j = fine (j * 6103515625) / 2 ^ 10
 
--- all four tables, as the program holds them
+-- the four tables and that of Θ, one after the other, as the program has them
 unfoldable pub entries : List ℕ
-entries = constants ++ (tab high 305 ++ tab finest 1024)
+entries = constants ++ (tab high 305 ++ (tab finest 1024 ++ thetas))
 
 -- E(z)
 unfoldable pub exponential : ℕ → ℕ

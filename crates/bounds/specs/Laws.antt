@@ -11,7 +11,8 @@ use Rattle.bounds.specs.Enclosure.{Within, WithinAll}
 use Rattle.bounds.specs.Exponential.{exponent, exponentLimit, exponential, exponentialError}
 use Rattle.bounds.specs.WholeExponents.{far, farAbove, farUnits}
 use Rattle.bounds.specs.Short.{shortExponent, short, shortLimit, shortError}
-use Rattle.bounds.specs.Line.{units, rising, along, Held, shortAlong}
+use Rattle.bounds.specs.Line.{units, Held}
+use Rattle.bounds.specs.Theta.{theta, thetaExact}
 use Rattle.bounds.specs.Power.{degrees, degreesLimit, power, powerError}
 use Rattle.bounds.specs.Weights.{w, apart}
 use Rattle.bounds.specs.Ahead.{ahead}
@@ -24,9 +25,15 @@ pub record SeriesLaws : Type 0 where
   pub positive : (n : ℕ) (x : Fraction) → whole 0 <ᶠ E n x
   pub at-0 : (n : ℕ) → E n (whole 0) ≈ᶠ whole 1
   pub to-0 : {x : Fraction} (n : ℕ) → x ≤ᶠ whole 0 → E n x ≤ᶠ whole 1
-  -- a sum of exponents from above and from below, and 1 + x
+  -- a sum of exponents of at least 0, from above and from below
   pub product-above : (n : ℕ) {x y : Fraction} → whole 0 ≤ᶠ x → whole 0 ≤ᶠ y → E n (x +ᶠ y) ≤ᶠ E n x *ᶠ E n y
   pub product-below : (n m : ℕ) {x y : Fraction} → whole 0 ≤ᶠ x → whole 0 ≤ᶠ y → E n x *ᶠ E m y ≤ᶠ E (n + m) (x +ᶠ y)
+  -- a sum of an exponent of at most 0 and one of at least 0, between two products
+  pub sum-least : (n : ℕ) (z y : Fraction) → z ≤ᶠ whole 0 → whole 0 ≤ᶠ y → E (n + n) z *ᶠ E n y ≤ᶠ E n (z +ᶠ y)
+  pub sum-most : (n : ℕ) (z y : Fraction) → z ≤ᶠ whole 0 → whole 0 ≤ᶠ y → E n (z +ᶠ y) ≤ᶠ E n z *ᶠ E (n + n) y
+  -- E is its own slope: where x ≤ y ≤ x + d and E(y) is at most steepest, E(y) ≤ E(x) + d·steepest
+  pub slope : {x y : Fraction} (n : ℕ) (d steepest : Fraction) → x ≤ᶠ y → y ≤ᶠ x +ᶠ d → E n y ≤ᶠ steepest → E n y ≤ᶠ E n x +ᶠ d *ᶠ steepest
+  -- 1 + x
   pub one-plus : (x : Fraction) → whole 0 ≤ᶠ x → whole 1 +ᶠ x ≤ᶠ E 1 x
 
 -- E for every n from 40 upward, at the ends of the ranges that an accepted sheet brings
@@ -78,17 +85,14 @@ pub record ShortLaws : Type 0 where
   pub held-to-3 : {x w : ℕ} {z : Fraction} → Held x w z → z ≤ᶠ whole 3 → (n : ℕ) → 40 ≤ n
       → Within (2 ^ 36) (short x) (5797 + (201 * w / 1310720 + 1)) (E n z)
 
--- E along a straight line a + b·m that is at most 0 at m, to the first order from an l that is at most w below m, by the short exponential at l
-pub record TangentLaws : Type 0 where
-  -- b·(m − l)·x + x ≤ E(a + b·m)
-  pub least : (A K : ℕ) {l w : ℕ} (m : Fraction) → Within (2 ^ 40) l w m → K ≤ 22 * 2 ^ 41 → l ≤ 369 * 2 ^ 40 → along A K m ≤ᶠ whole 0
-      → (n : ℕ) → 40 ≤ n
-      → rising K *ᶠ (m -ᶠ units l) *ᶠ units (shortAlong A K l) +ᶠ units (shortAlong A K l) ≤ᶠ E n (along A K m)
-  -- and E is at most the errors and the square of w/4 more
-  pub near : (A K : ℕ) {l w : ℕ} (m : Fraction) → Within (2 ^ 40) l w m → K ≤ 22 * 2 ^ 41 → l ≤ 369 * 2 ^ 40 → along A K m ≤ᶠ whole 0
-      → (n : ℕ) → 40 ≤ n
-      → E n (along A K m) ≤ᶠ rising K *ᶠ (m -ᶠ units l) *ᶠ units (shortAlong A K l)
-      +ᶠ units (shortAlong A K l + (16765 + (w / 4 + 13) * (w / 4 + 16765) / 2 ^ 40))
+-- Θ(t), the number with Θ = E(t·Θ), for t up to a quarter in units of 2⁻⁴⁰
+pub record ThetaLaws : Type 0 where
+  -- the quadratic P of t's cell is just below it for every n from 40 upward: P ≤ E(t·P) ≤ P + 2⁻²⁷
+  pub least : (t : ℕ) → t ≤ 2 ^ 38 → (n : ℕ) → 40 ≤ n → thetaExact t ≤ᶠ E n (units t *ᶠ thetaExact t)
+  pub near : (t : ℕ) → t ≤ 2 ^ 38 → (n : ℕ) → 40 ≤ n → E n (units t *ᶠ thetaExact t) ≤ᶠ thetaExact t +ᶠ units 8192
+  -- it is at most 23/16, and the computed Θ, in units of 2⁻³¹, is P rounded down twice
+  pub most : (t : ℕ) → t ≤ 2 ^ 38 → thetaExact t ≤ᶠ 14375 /10^ 4
+  pub rounded : (t : ℕ) → Within (2 ^ 31) (theta t) 2 (thetaExact t)
 
 -- T^2.5 and its root
 pub record PowerLaws : Type 0 where
@@ -115,6 +119,6 @@ pub record Laws : Type 0 where
   pub wholes : WholeLaws
   pub exponential : ExponentialLaws
   pub short : ShortLaws
-  pub tangent : TangentLaws
+  pub theta : ThetaLaws
   pub power : PowerLaws
   pub weights : WeightLaws

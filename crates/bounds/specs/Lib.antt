@@ -1,5 +1,6 @@
 pub mod Series
 pub mod Enclosure
+pub mod Theta
 pub mod Exponential
 pub mod Power
 pub mod Weights

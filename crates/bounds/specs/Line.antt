@@ -5,7 +5,6 @@ use native.Mathlib.Omega.{arith}
 use Rattle.numbers.specs.Fraction.{Fraction, _+ᶠ_, _*ᶠ_, whole, ratio}
 use Rattle.bounds.specs.Enclosure.{Within}
 use Rattle.bounds.specs.Exponential.{exponent}
-use Rattle.bounds.specs.Short.{short, lineExponent}
 
 pub unit-pos : 0 < 2 ^ 40
 unit-pos = omega arith
@@ -28,7 +27,3 @@ along A K m = exponent A +ᶠ rising K *ᶠ m
 -- z is known as x within w, in units of 2⁻⁵³: x/2⁵³ ≤ z + 16 ≤ (x + w)/2⁵³
 pub record Held (x w : ℕ) (z : Fraction) : Type 0 where
   pub raised : Within (2 ^ 53) x w (z +ᶠ whole 16)
-
--- the short exponential at a + b·l, in units of 2⁻⁴⁰
-abbrev pub shortAlong : ℕ → ℕ → ℕ → ℕ
-shortAlong A K l = short (lineExponent A K l) * 2 ^ 4

@@ -1,12 +1,15 @@
 // The exponential, in units of 2^-40. An exponent z is held as x = (z + 16) * 10^14. With z = (h - 256) / 16 + m / 4096 + p and
 // p below 1 / 4096, E(z) is close to the product of two table entries, at h and at m, and of 1 + p + p^2 / 2. Every step cuts downwards.
 use crate::fixed::mul_above;
+use crate::theta::THETA_WORDS;
+use crate::theta::thetas;
 ghost use mathlib.Core.Path.{_≡_};
 ghost use Prim.Native.Nat.{_*_, _^_, _<_, _≤_, _/_};
 ghost use Rattle.bounds.specs.Series.{E};
 ghost use Rattle.bounds.specs.Enclosure.{WithinAll};
 ghost use lib.ListN.{getD};
 ghost use Rattle.bounds.specs.Exponential.{exponent, middle, constants, entries, rest, quadratic, fine};
+ghost use Rattle.bounds.specs.Theta.{thetas};
 ghost use Rattle.bounds.specs.Exponential.{exponential, exponentLimit, exponentialError};
 
 // 1 / 16, the step of the first table, in units of 10^-14
@@ -22,6 +25,14 @@ const MIDDLE: usize = 322;
 pub const HIGH: usize = 578;
 
 pub const FINEST: usize = 883;
+
+// Where the table of Θ starts, and how many words all tables have.
+pub const THETA: usize = 1907;
+
+pub const TABLE_WORDS: usize = 3446;
+
+// The tables of the exponentials and of Θ, one after the other. `tables` makes them.
+pub type ExpTables = [u64; TABLE_WORDS];
 
 const TWO_13: u64 = 8192;
 
@@ -66,7 +77,7 @@ fn fine(entry: u64, d: u64) -> u64
 }
 
 // E(z) for z below 4.1. The tables are those that `tables` gives.
-pub fn exponential(tables: &[u64; 1907], x: u64) -> u64
+pub fn exponential(tables: &ExpTables, x: u64) -> u64
     requires { ⌜ (now tables ≡ entries) × (x < exponentLimit) ⌝ }
     ensures { λ r. ⌜ (r ≡ exponential x) × (r < 2 ^ 46) × WithinAll (2 ^ 40) r (exponentialError x) (λ n. E n (exponent x)) ⌝ }
 {
@@ -77,7 +88,7 @@ pub fn exponential(tables: &[u64; 1907], x: u64) -> u64
 }
 
 // How far 2^40 E(z) can be above what `exponential` gives for the same x
-pub fn exponential_error(tables: &[u64; 1907], x: u64) -> u64
+pub fn exponential_error(tables: &ExpTables, x: u64) -> u64
     requires { ⌜ (now tables ≡ entries) × (x < exponentLimit) ⌝ }
     ensures { λ r. ⌜ (r ≡ exponentialError x) × (r ≤ 475) ⌝ }
 {
@@ -85,7 +96,7 @@ pub fn exponential_error(tables: &[u64; 1907], x: u64) -> u64
     8 * (tables[h] / ONE + 1) + 3
 }
 
-// The entry at a place of all four tables: a constant, or one of the short exponential, which is made of the constants.
+// The entry at a place of the exponentials' tables: a constant, or one of the short exponential, which is made of the constants.
 fn entry(table: &[u64; 578], place: usize) -> u64
     requires { ⌜ (now table ≡ constants) × (place < 1907) ⌝ }
     ensures { λ r. ⌜ r ≡ getD entries place 0 ⌝ }
@@ -101,15 +112,27 @@ fn entry(table: &[u64; 578], place: usize) -> u64
     fine(table[MIDDLE + m], d) / TWO_10
 }
 
-// The four tables as one value. A caller makes it once and lends it: the constant itself would be built anew wherever it is read.
-pub fn tables() -> [u64; 1907]
+// The word at a place of all tables.
+fn word(table: &[u64; 578], coefficients: &[u64; THETA_WORDS], place: usize) -> u64
+    requires { ⌜ (now table ≡ constants) × (now coefficients ≡ thetas) × (place < 3446) ⌝ }
+    ensures { λ r. ⌜ r ≡ getD entries place 0 ⌝ }
+{
+    if place < THETA {
+        return entry(table, place);
+    }
+    coefficients[place - THETA]
+}
+
+// All tables as one value. A call makes it once and passes it by reference: a constant is built anew wherever it is read.
+pub fn tables() -> ExpTables
     ensures { λ r. ⌜ r ≡ entries ⌝ }
 {
     let table = TABLES;
-    let mut out = [0u64; 1907];
+    let coefficients = thetas();
+    let mut out = [0u64; TABLE_WORDS];
     let mut place: usize = 0;
-    while place < 1907 {
-        out[place] = entry(&table, place);
+    while place < TABLE_WORDS {
+        out[place] = word(&table, &coefficients, place);
         place += 1;
     }
     out

@@ -5,4 +5,5 @@ pub mod hours;
 pub mod order;
 pub mod power;
 pub mod short;
+pub mod theta;
 pub mod whole;

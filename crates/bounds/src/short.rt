@@ -1,6 +1,7 @@
 // The short exponential, in units of 2^-36, for an exponent in binary: z is held as x = (z + 16) * 2^53. With
 // z = (h - 256) / 16 + j / 16384 + p and p below 1 / 16384, E(z) is close to the product of two table entries, at h and at j, and
 // of 1 + p. Two multiplications; every step cuts downwards.
+use crate::exp::ExpTables;
 use crate::exp::FINEST;
 use crate::exp::HIGH;
 use crate::fixed::mul_shift;
@@ -44,7 +45,7 @@ const TWO_9: u64 = 512;
 const TWO_23: u64 = 8388608;
 
 // E(z) for z below 3 and a sixteenth. The tables are those that `tables` gives.
-pub fn short(tables: &[u64; 1907], x: u64) -> u64
+pub fn short(tables: &ExpTables, x: u64) -> u64
     requires { ⌜ (now tables ≡ entries) × (x < shortLimit) ⌝ }
     ensures { λ r. ⌜ (r ≡ short x) × (r < 2 ^ 41) × WithinAll (2 ^ 36) r (shortError x) (λ n. E n (shortExponent x)) ⌝ }
 {

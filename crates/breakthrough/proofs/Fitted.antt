@@ -92,13 +92,12 @@ module _ {season : Season} {row : Row} (s : SeasonInRange season) (r : RowInRang
     saturation-most = saturation-most s r p;
     load-most = r .load-most;
     canister-there = p;
-    balanced = λ km net h. record {
+    balanced = λ km. record {
       ready = λ d l.
           rw (eb, eg, getD-tab (basesOf season row) 25 d l, getD-tab (growthsOf season row) 25 d l) (record {
             base-below = omega (arith, small-base d);
             growth-most = small-growth d;
             saturation-below = saturation-size s r p;
-            net-below = h;
             exponent-most = rw
                 (lineExponent-is (baseAt season row (ahead d)) (growthAt season row (ahead d))
                 (tenthGrams (row .saturation))) at (driven-exponent-most s r (ahead d) (omega arith));

@@ -18,14 +18,13 @@ use Rattle.breakthrough.specs.declared.curves.Curves.{Curves}
 -- what a row's canister keeps of its load, from the mileage alone: no season changes it
 pub record KeptOf (row : Row) (kept : ℕ) : Type 0 where
   pub kept-is : firstKilometres ≤ row .mileage → 0 < halves (row .canister) → kept ≡ netOf (halves (row .canister)) (row .mileage)
-  pub kept-below : kept < 2 ^ 50
 
 -- what the starting loads are found from: with a mileage every exponent up to m_sat is at most 0
 pub record LoadsReady (row : Row) (bases growths : List ℕ) : Type 0 where
   pub saturation-most : row .saturation ≤ 3685
   pub load-most : row .load ≤ row .saturation
   pub canister-there : 0 < halves (row .canister)
-  pub balanced : firstKilometres ≤ row .mileage → (net : ℕ) → net < 2 ^ 50 → BalancesReady bases growths (tenthGrams (row .saturation)) net
+  pub balanced : firstKilometres ≤ row .mileage → BalancesReady bases growths (tenthGrams (row .saturation))
 
 -- Values by distance from 14:00 are those of the mark so far before it. a and 2·b·s are held in units of 2⁻⁴⁴.
 

@@ -1,4 +1,5 @@
 // What breaks through a carbon canister of the vapour of a rise, in units of 2^-40 g.
+use bounds::exp::ExpTables;
 use bounds::fixed::mul_shift;
 use bounds::order::minus;
 use bounds::short::risen;
@@ -40,7 +41,7 @@ fn overflow(c: Curve, rise: u64, x: u64) -> u64
 }
 
 // What breaks through of the vapour of a rise.
-pub fn through(tables: &[u64; 1907], c: Curve, rise: u64) -> u64
+pub fn through(tables: &ExpTables, c: Curve, rise: u64) -> u64
     requires { ⌜ (now tables ≡ entries) × CurveReady c × (rise ≤ 72 * 2 ^ 40) ⌝ }
     ensures { λ r. ⌜ r ≡ through c rise ⌝ }
 {

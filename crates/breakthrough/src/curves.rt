@@ -3,6 +3,7 @@
 use crate::loads::loss_error;
 use crate::loads::start_loads;
 use crate::loads::tenth_grams;
+use bounds::exp::ExpTables;
 use bounds::fixed::mul_shift;
 use bounds::short::binary;
 use bounds::short::line;
@@ -116,7 +117,7 @@ fn rooms(loads: &[u64; 25], saturation: u64) -> [u64; 25]
 }
 
 // What is lost at each distance at the load at parking start, and as much more as it can be off.
-fn first_losses(tables: &[u64; 1907], exponents: &[u64; 25], error: u64) -> [u64; 25]
+fn first_losses(tables: &ExpTables, exponents: &[u64; 25], error: u64) -> [u64; 25]
     requires { ⌜ (now tables ≡ entries) × AllAtMost (19 * 2 ^ 53) (now exponents) × (error ≤ drivenError) ⌝ }
     ensures { λ r. ⌜ r ≡ tab (λ (d : ℕ). short (at (now (exponents .entry)) d) * 2 ^ 4 + error) 25 ⌝ }
 {
@@ -131,7 +132,7 @@ fn first_losses(tables: &[u64; 1907], exponents: &[u64; 25], error: u64) -> [u64
 
 // The canister whose a, 2 b s and load at parking start are these, the first two in units of 2^-44.
 fn curves_of(
-    tables: &[u64; 1907],
+    tables: &ExpTables,
     bases: &[u64; 25],
     growths: &[u64; 25],
     loads: &[u64; 25],
@@ -156,7 +157,7 @@ fn curves_of(
 
 // A row's canister where a and 2 b s are these, the vapour in its tank for a rise of 1, and what it keeps of its load.
 pub fn fit(
-    tables: &[u64; 1907],
+    tables: &ExpTables,
     bases: &[u64; 25],
     growths: &[u64; 25],
     row: Row,

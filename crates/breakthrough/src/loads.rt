@@ -1,9 +1,10 @@
 // The load of a canister at parking start, and how far what is lost there can be above the computed one.
+use bounds::exp::ExpTables;
 use bounds::exp::ONE;
 use exact::Row;
 use fields::classes::halves;
+use starting_loads::loads::starts;
 use starting_loads::mileage::net;
-use starting_loads::steps::starts;
 ghost use mathlib.Core.Path.{_≡_};
 ghost use Prim.Native.Nat.{ℕ, _≤_};
 ghost use Rattle.bounds.specs.Exponential.{entries};
@@ -19,7 +20,7 @@ const FIRST_KILOMETRES: u64 = 17;
 // How far a loss can be above the computed one, in units of 2^-40 g: at a written load, and at one that is found.
 const WRITTEN_ERROR: u64 = 93010;
 
-const DRIVEN_ERROR: u64 = 206405;
+const DRIVEN_ERROR: u64 = 192570;
 
 // Tenths of a gram in units of 2^-40 g, cut.
 pub fn tenth_grams(m: u64) -> u64
@@ -41,7 +42,7 @@ pub fn loss_error(row: Row) -> u64
 }
 
 // What a row's canister keeps of its load, which its mileage says and no season changes; of no account up to 16 km and without canister.
-pub fn kept_of(tables: &[u64; 1907], row: Row) -> u64
+pub fn kept_of(tables: &ExpTables, row: Row) -> u64
     requires { ⌜ (now tables ≡ entries) × (row .mileage ≤ mileageLimit) ⌝ }
     ensures { λ r. ⌜ KeptOf row r ⌝ }
 {
@@ -58,7 +59,7 @@ pub fn kept_of(tables: &[u64; 1907], row: Row) -> u64
 
 // The load at each distance from 14:00, where a and 2 b s are these: found from the mileage, or written. (Up to 16 km both are 0.)
 pub fn start_loads(
-    tables: &[u64; 1907],
+    tables: &ExpTables,
     row: Row,
     kept: u64,
     bases: &[u64; 25],

@@ -2,6 +2,7 @@
 use crate::curve::Curve;
 use crate::curve::through;
 use crate::curves::Curves;
+use bounds::exp::ExpTables;
 use parking::grid::SUM;
 use parking::means::apart_place;
 use parking::season_list::COUNTS;
@@ -19,7 +20,7 @@ ghost use Rattle.breakthrough.specs.Through.{CurvesReady, curveAt, throu
 const CUT: u64 = 4096;
 
 // Of the rise in the parkings of the list: each entry in units of 2^-28 g, as often as it counts, summed.
-pub fn through_list(tables: &[u64; 1907], list: &[u64; 1732], c: Curves) -> u64
+pub fn through_list(tables: &ExpTables, list: &[u64; 1732], c: Curves) -> u64
     requires { ⌜ (now tables ≡ entries) × CurvesReady c × ListFits (72 * 2 ^ 40) (now list) ⌝ }
     ensures { λ r. ⌜ r ≡ byEntry (now (list .entry)) (λ (start : ℕ) (rise : ℕ). through (curveAt c start) rise / 2 ^ 12) ⌝ }
 {
@@ -45,7 +46,7 @@ pub fn through_list(tables: &[u64; 1907], list: &[u64; 1732], c: Curves) -> u64
 // Of the rise when the temperature at the end, or the start, of each parking is raised, the mean in units of 2^-28 g. The raises stand by
 // distance from 14:00.
 pub fn through_raises(
-    tables: &[u64; 1907],
+    tables: &ExpTables,
     grid: &[u64; 627],
     ends: bool,
     raises: &[u64; 25],

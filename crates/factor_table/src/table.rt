@@ -1,5 +1,6 @@
 // The factors of all seasons and rows of a sheet, in one pass.
 use crate::bands::put_bands;
+use bounds::exp::ExpTables;
 use bounds::exp::tables;
 use checks::check_sheet;
 use fields::row_at;
@@ -27,7 +28,7 @@ const BAND_WORDS: usize = 14;
 
 // One season, prepared once for all rows, into a buffer of its size.
 fn season_factors(
-    tables: &[u64; 1907],
+    tables: &ExpTables,
     grid: &[u64; 627],
     kept: &[u64; 1000],
     s: &[u8],
@@ -51,7 +52,7 @@ fn season_factors(
 
 // All seasons, each into its part of the buffer.
 fn all_factors(
-    tables: &[u64; 1907],
+    tables: &ExpTables,
     grid: &[u64; 627],
     kept: &[u64; 1000],
     s: &[u8],

@@ -7,7 +7,7 @@ use native.Mathlib.Omega.{arith}
 use lib.Dec.{leb}
 use borrow.Author.Tests.{le-leb, lt-leb, leb-true, leb-false}
 use Rattle.thresholds.specs.Thresholds.{firstKilometres}
-use Rattle.starting_loads.proofs.Newton.{steps-most}
+use Rattle.starting_loads.proofs.Loaded.{loaded-most}
 use Rattle.exact.specs.declared.Row.{Row}
 use Rattle.starting_loads.specs.Net.{startUnits}
 use Rattle.sheet.specs.Range.{halves}
@@ -39,7 +39,7 @@ tenthGrams-mono h = omega arith
 
 module _ (row : Row) (h : row .load ≤ row .saturation) where
   start-by : (byMileage : Bool) (a k : ℕ) → leb firstKilometres (row .mileage) ≡ byMileage → rowStart row a k ≤ tenthGrams (row .saturation)
-  start-by true a k e = rw (start-driven row a k (leb-true firstKilometres (row .mileage) e)) (steps-most _ _ _ _ _)
+  start-by true a k e = rw (start-driven row a k (leb-true firstKilometres (row .mileage) e)) (loaded-most _ _ _ _)
   start-by false a k e = rw (start-written row a k (leb-false firstKilometres (row .mileage) e)) (tenthGrams-mono h)
 
   -- the load at parking start is at most m_sat

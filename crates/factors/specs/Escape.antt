@@ -33,7 +33,7 @@ abbrev pub writtenError : ℕ
 writtenError = 93010
 
 abbrev pub drivenError : ℕ
-drivenError = 206405
+drivenError = 192570
 
 -- B(m1 + v) − B(m1), from below, where B(m1) can be that far above
 unfoldable pub breakUnits : ℕ → ℕ → ℕ → ℕ → ℕ → ℕ → ℕ → ℕ

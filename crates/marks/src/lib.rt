@@ -1,4 +1,5 @@
 // A season at its 48 marks: temperatures, exponentials and permeation as whole numbers.
+use bounds::exp::ExpTables;
 use bounds::exp::ZERO;
 use bounds::exp::exponential;
 use bounds::fixed::mul_shift;
@@ -124,7 +125,7 @@ fn by_mark(values: &[u64; 25]) -> [u64; 48]
 }
 
 // E(0.0716 T), up to 56 °C.
-fn heat_at(tables: &[u64; 1907], warmth: u64) -> u64
+fn heat_at(tables: &ExpTables, warmth: u64) -> u64
     requires { ⌜ (now tables ≡ entries) × (warmth ≤ 86 * 10 ^ 10) ⌝ }
     ensures { λ r. ⌜ (r ≡ heat warmth) × (r ≤ 56 * 2 ^ 40) ⌝ }
 {
@@ -132,7 +133,7 @@ fn heat_at(tables: &[u64; 1907], warmth: u64) -> u64
 }
 
 // E(0.0716 T) at each distance from 14:00.
-fn heats(tables: &[u64; 1907], warmths: [u64; 25]) -> [u64; 25]
+fn heats(tables: &ExpTables, warmths: [u64; 25]) -> [u64; 25]
     requires { ⌜ (now tables ≡ entries) × AllAtMost (80 * 10 ^ 10) warmths ⌝ }
     ensures { λ r. ⌜ (r ≡ tab (λ (d : ℕ). heat (at warmths d)) 25) × AllAtMost (56 * 2 ^ 40) r ⌝ }
 {
@@ -167,7 +168,7 @@ fn steps(heats: [u64; 48]) -> [u64; 48]
 }
 
 // The rise of E(0.0716 T) at each distance when T is raised.
-fn raises(tables: &[u64; 1907], warmths: [u64; 25], heats: [u64; 25], raise: u64) -> [u64; 25]
+fn raises(tables: &ExpTables, warmths: [u64; 25], heats: [u64; 25], raise: u64) -> [u64; 25]
     requires { ⌜ (now tables ≡ entries) × AllAtMost (80 * 10 ^ 10) warmths × AllAtMost (56 * 2 ^ 40) heats × (raise ≤ 6 * 10 ^ 10) ⌝ }
     ensures { λ r. ⌜ r ≡ tab (λ (d : ℕ). heat (at warmths d + raise) - (at heats d + raisedError)) 25 ⌝ }
 {
@@ -181,7 +182,7 @@ fn raises(tables: &[u64; 1907], warmths: [u64; 25], heats: [u64; 25], raise: u64
 }
 
 // E(0.004 vp), vp in tenths of kPa.
-fn pressure_factor(tables: &[u64; 1907], vp: u64) -> u64
+fn pressure_factor(tables: &ExpTables, vp: u64) -> u64
     requires { ⌜ (now tables ≡ entries) × (vp ≤ vpLimit) ⌝ }
     ensures { λ r. ⌜ (r ≡ pressureFactor vp) × (r < 2 ^ 46) ⌝ }
 {
@@ -223,7 +224,7 @@ fn mark_rates(pressure: u64, warmths: [u64; 25], raise: u64) -> [u64; 48]
 }
 
 // The rises at the marks.
-fn mark_raises(tables: &[u64; 1907], warmths: [u64; 25], heats: [u64; 25], raise: u64) -> [u64; 48]
+fn mark_raises(tables: &ExpTables, warmths: [u64; 25], heats: [u64; 25], raise: u64) -> [u64; 48]
     requires { ⌜ (now tables ≡ entries) × AllAtMost (80 * 10 ^ 10) warmths × AllAtMost (56 * 2 ^ 40) heats × (raise ≤ 6 * 10 ^ 10) ⌝ }
     ensures { λ r. ⌜ r ≡ tab (λ (i : ℕ). heat (at warmths (apart i) + raise) - (at heats (apart i) + raisedError)) 48 ⌝ }
 {
@@ -233,7 +234,7 @@ fn mark_raises(tables: &[u64; 1907], warmths: [u64; 25], heats: [u64; 25], raise
 
 // The values of a season at its marks, each made once for the marks of one temperature. The tables are those that `tables` of `bounds`
 // gives.
-pub fn at_marks(tables: &[u64; 1907], season: Season) -> MarkValues
+pub fn at_marks(tables: &ExpTables, season: Season) -> MarkValues
     requires { ⌜ (now tables ≡ entries) × SeasonInRange season ⌝ }
     ensures { λ r. ⌜ AtMarks season r ⌝ }
 {

@@ -1,4 +1,5 @@
 // One vehicle's loss on one day, in units of 10^-12 g: shares in percent, trips in hundredths, factors in micrograms.
+use bounds::exp::ExpTables;
 use exact::Row;
 use row_factors::micrograms::high_micrograms;
 use row_factors::micrograms::low_micrograms;
@@ -76,7 +77,7 @@ pub fn six_figures(units: [u64; 7], row: Row) -> [u64; 6]
 
 // A row in a season: what one of its vehicles loses on one day.
 pub fn row_figures(
-    tables: &[u64; 1907],
+    tables: &ExpTables,
     grid: &[u64; 627],
     list: &[u64; 1732],
     at: AtSeason,

@@ -1,5 +1,6 @@
 // One row of a report made anew, apart from the others, and the sums with it.
 use crate::write_sums;
+use bounds::exp::ExpTables;
 use bounds::exp::tables;
 use fields::row_at;
 use fields::season_at;
@@ -31,7 +32,7 @@ const CUT_UP: u64 = 999999999;
 
 // What one vehicle of row i loses on a day of season j.
 fn day_of(
-    tables: &[u64; 1907],
+    tables: &ExpTables,
     grid: &[u64; 627],
     s: &[u8],
     j: usize,
@@ -45,7 +46,7 @@ fn day_of(
 }
 
 // What one vehicle of row i loses in the year: its figures of a day, for the days of each season.
-fn year_of(tables: &[u64; 1907], grid: &[u64; 627], s: &[u8], i: usize) -> [u64; 6]
+fn year_of(tables: &ExpTables, grid: &[u64; 627], s: &[u8], i: usize) -> [u64; 6]
     requires { ⌜ SheetLent (now s) (now tables) (now grid) × (i < rowsOf (now s)) ⌝ }
     ensures { λ r. ⌜ r ≡ tab (rowYear (now (s .entry)) i (seasonsOf (now (s .entry)))) 6 ⌝ }
 {

@@ -1,4 +1,5 @@
 // The figures of a year, added up season by season in the six words of each row.
+use bounds::exp::ExpTables;
 use bounds::exp::tables;
 use fields::row_at;
 use fields::rows_of;
@@ -45,7 +46,7 @@ pub fn add_days(words: &mut [u64], at: usize, days: u64, figures: [u64; 6])
 
 // Season j, made ready once for all rows: what one vehicle of a row loses on its days is added to the row's six words.
 pub fn add_season(
-    tables: &[u64; 1907],
+    tables: &ExpTables,
     grid: &[u64; 627],
     kept: &[u64; 1000],
     s: &[u8],
@@ -71,7 +72,7 @@ pub fn add_season(
 
 // All seasons.
 fn add_seasons(
-    tables: &[u64; 1907],
+    tables: &ExpTables,
     grid: &[u64; 627],
     kept: &[u64; 1000],
     s: &[u8],

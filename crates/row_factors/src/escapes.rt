@@ -1,6 +1,7 @@
 // What escapes on average from a row's tank in a season, with a canister and without, in units of 2^-28 g.
 use crate::season::AtSeason;
 use crate::season::Day;
+use bounds::exp::ExpTables;
 use bounds::exp::ZERO;
 use bounds::exp::exponential;
 use bounds::fixed::mul_shift;
@@ -39,7 +40,7 @@ pub struct Escapes {
 const VAPOUR_EXPONENT: u64 = 205000000000;
 
 // Grams of vapour for a rise of 1 in E(0.0716 T).
-fn gain(tables: &[u64; 1907], season: Season, row: Row) -> u64
+fn gain(tables: &ExpTables, season: Season, row: Row) -> u64
     requires { ⌜ (now tables ≡ entries) × SeasonInRange season × RowInRange season row ⌝ }
     ensures { λ r. ⌜ (r ≡ gain season row) × (r ≤ 36 * 2 ^ 40) ⌝ }
 {
@@ -61,7 +62,7 @@ fn open_escapes(gain: u64, rises: [u64; 5]) -> Escapes
 }
 
 // What breaks through in a parking.
-fn parking_through(tables: &[u64; 1907], grid: &[u64; 627], list: &[u64; 1732], c: Curves) -> u64
+fn parking_through(tables: &ExpTables, grid: &[u64; 627], list: &[u64; 1732], c: Curves) -> u64
     requires { ⌜ (now tables ≡ entries) × GridReady (now grid) × CurvesReady c × ListFits (72 * 2 ^ 40) (now list) ⌝ }
     ensures { λ r. ⌜ r ≡ parkingThrough (now (list .entry)) (at (now (grid .entry)) sumPlace) c ⌝ }
 {
@@ -82,7 +83,7 @@ fn growth_of(day: Day, canister: Canister) -> [u64; 25]
 
 // The row's canister.
 fn fitted(
-    tables: &[u64; 1907],
+    tables: &ExpTables,
     grid: &[u64; 627],
     list: &[u64; 1732],
     at: AtSeason,
@@ -100,7 +101,7 @@ fn fitted(
 
 // A car with canister, from which nothing escapes on a trip.
 fn canister_car(
-    tables: &[u64; 1907],
+    tables: &ExpTables,
     grid: &[u64; 627],
     list: &[u64; 1732],
     at: AtSeason,
@@ -122,7 +123,7 @@ fn canister_car(
 
 // A two-wheeler with canister.
 fn canister_two_wheeler(
-    tables: &[u64; 1907],
+    tables: &ExpTables,
     grid: &[u64; 627],
     list: &[u64; 1732],
     at: AtSeason,
@@ -144,7 +145,7 @@ fn canister_two_wheeler(
 
 // A car, with or without canister.
 pub fn car(
-    tables: &[u64; 1907],
+    tables: &ExpTables,
     grid: &[u64; 627],
     list: &[u64; 1732],
     at: AtSeason,
@@ -166,7 +167,7 @@ pub fn car(
 
 // A two-wheeler, with or without canister.
 pub fn two_wheeler(
-    tables: &[u64; 1907],
+    tables: &ExpTables,
     grid: &[u64; 627],
     list: &[u64; 1732],
     at: AtSeason,

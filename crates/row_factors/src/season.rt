@@ -1,4 +1,5 @@
 // What a season gives to every row: its day, the list of its parkings, and the means that no row changes.
+use bounds::exp::ExpTables;
 use breakthrough::curves::bases;
 use breakthrough::curves::growths;
 use exact::Season;
@@ -134,7 +135,7 @@ fn list_where(grid: &[u64; 627], rises: &[u64; 576], read: bool) -> [u64; 1732]
 }
 
 // All that the rows of a season share, made once.
-pub fn prepare(tables: &[u64; 1907], grid: &[u64; 627], season: Season, canisters: bool) -> Prepared
+pub fn prepare(tables: &ExpTables, grid: &[u64; 627], season: Season, canisters: bool) -> Prepared
     requires { ⌜ (now tables ≡ entries) × GridReady (now grid) × SeasonInRange season ⌝ }
     ensures { λ r. ⌜ (r .at .season ≡ season) × Lent (now (tables .entry)) (now (grid .entry)) (r .at)
         × (canisters ≡ true → ListReady (cellsIn (now (grid .entry))) (risesOf season) (r .list)) ⌝ }

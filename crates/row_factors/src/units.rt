@@ -4,6 +4,7 @@ use crate::escapes::car;
 use crate::escapes::two_wheeler;
 use crate::season::AtSeason;
 use crate::season::Means;
+use bounds::exp::ExpTables;
 use exact::Row;
 ghost use mathlib.Core.Path.{_≡_};
 ghost use Prim.Native.Nat.{_+_, _^_, _<_};
@@ -48,7 +49,7 @@ fn two_wheeler_units(e: Escapes, m: Means) -> [u64; 7]
 
 // The seven factors of a row whose canister keeps so much of its load.
 pub fn row_units(
-    tables: &[u64; 1907],
+    tables: &ExpTables,
     grid: &[u64; 627],
     list: &[u64; 1732],
     at: AtSeason,

@@ -1,4 +1,5 @@
 // The report of each season of a sheet, one after another.
+use bounds::exp::ExpTables;
 use bounds::exp::tables;
 use checks::check_sheet;
 use fields::rows_of;
@@ -23,7 +24,7 @@ ghost use Rattle.season_report.specs.Seasons.{seasonReport, reportSeason
 
 // The report of season j alone, into a buffer of its size: the steps of the year's report with one season.
 fn write_season(
-    tables: &[u64; 1907],
+    tables: &ExpTables,
     grid: &[u64; 627],
     kept: &[u64; 1000],
     s: &[u8],
@@ -42,7 +43,7 @@ fn write_season(
 
 // All seasons, each into its part of the buffer.
 fn write_seasons(
-    tables: &[u64; 1907],
+    tables: &ExpTables,
     grid: &[u64; 627],
     kept: &[u64; 1000],
     s: &[u8],

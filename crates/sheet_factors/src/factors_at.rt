@@ -1,6 +1,7 @@
 // The seven factors of a season and a row of an accepted sheet.
 use crate::kept::row_kept;
 use crate::parkings::sheet_grid;
+use bounds::exp::ExpTables;
 use bounds::exp::tables;
 use fields::classes::halves;
 use fields::row_at;
@@ -19,7 +20,7 @@ ghost use Rattle.sheet_factors.specs.Lent.{SheetLent};
 
 // With the tables, the grid and what the row's canister keeps of its load, in units of 2^-28 g.
 pub fn units_with(
-    tables: &[u64; 1907],
+    tables: &ExpTables,
     grid: &[u64; 627],
     s: &[u8],
     season: usize,

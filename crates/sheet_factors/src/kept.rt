@@ -1,4 +1,5 @@
 // What the canisters of an accepted sheet's rows keep of their loads. A mileage says it, whatever the season, so it is found once a row.
+use bounds::exp::ExpTables;
 use breakthrough::loads::kept_of;
 use fields::row_at;
 use fields::rows_of;
@@ -12,7 +13,7 @@ ghost use Rattle.sheet.specs.Sheet.{sheetCheck};
 ghost use Rattle.sheet_factors.specs.Lent.{RowsKept};
 
 // Of one row.
-pub fn row_kept(tables: &[u64; 1907], s: &[u8], row: usize) -> u64
+pub fn row_kept(tables: &ExpTables, s: &[u8], row: usize) -> u64
     requires { ⌜ (now tables ≡ entries) × (sheetCheck (now s) ≡ Pass) × (row < rowsOf (now s)) ⌝ }
     ensures { λ r. ⌜ KeptOf (rowAt (now (s .entry)) row) r ⌝ }
 {
@@ -20,7 +21,7 @@ pub fn row_kept(tables: &[u64; 1907], s: &[u8], row: usize) -> u64
 }
 
 // Of each row.
-pub fn rows_kept(tables: &[u64; 1907], s: &[u8]) -> [u64; 1000]
+pub fn rows_kept(tables: &ExpTables, s: &[u8]) -> [u64; 1000]
     requires { ⌜ (now tables ≡ entries) × (sheetCheck (now s) ≡ Pass) ⌝ }
     ensures { λ r. ⌜ RowsKept (now (s .entry)) r ⌝ }
 {

@@ -121,17 +121,3 @@ module _ (n A K G W : ℕ) {σ : ℕ} {saturation m : Fraction} (top : along A K
     -- a count above σ is at least m
     pub at-most : {k : ℕ} → σ < k → m ≤ᶠ units k
     at-most h = ≤-trans (c .most) (≤-trans (within-below unit-pos full) (units-≤ (omega arith)))
-
-    -- before the first step
-    pub unstepped : Within (2 ^ 40) (min σ G) (2 ^ 40 + W + 1) m
-    unstepped =
-        within-from unit-pos
-        (at-least (omega arith)
-        (λ h. ≤-trans (units-≤ (omega arith)) (≤-trans (+-grows (units G) (lost-nonNegative n A K m)) (≤-trans (≈→≤ (+-comm _ _)) h))))
-        (elim (decLe σ G) [
-          | yes h ↦ at-most (omega arith)
-          | no h ↦
-              ≤-trans (c .near)
-              (≤-trans (+-mono (≤-trans (E-most-1 n along-0) (within-below unit-pos (whole-within (2 ^ 40) 1))) (≤-refl _))
-              (≤-trans (≈→≤ (units-sum _ _)) (units-≤ (omega arith))))
-        ])

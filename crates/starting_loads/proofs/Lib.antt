@@ -1,4 +1,5 @@
 pub mod Bracket
-pub mod Newton
 pub mod Start
 pub mod Empty
+pub mod Loss
+pub mod Loaded

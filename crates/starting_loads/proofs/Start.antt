@@ -19,10 +19,9 @@ use Rattle.exact.specs.Mileage.{g, driven, startingLoad, Reaches}
 use Rattle.thresholds.specs.Thresholds.{firstKilometres, margin, enough, logLower}
 use Rattle.thresholds.proofs.Threshold.{exponents}
 use Rattle.thresholds.proofs.Found.{enough-reaches, enough-least, lower-enough, lower-fails}
-use Rattle.starting_loads.specs.Steps.{stepCount}
 use Rattle.starting_loads.specs.Net.{net, startUnits}
 use Rattle.starting_loads.proofs.Bracket.{startingLoad-balanced}
-use Rattle.starting_loads.proofs.Newton.{leftOpen, stepsWidth, steps-within}
+use Rattle.starting_loads.proofs.Loaded.{loadedWidth, loaded-within}
 
 pub halves-pos : 0 < 2
 halves-pos = omega arith
@@ -55,7 +54,7 @@ netError = 71514
 
 -- how far the starting load can be above the computed one
 abbrev pub startError : ℕ
-startError = 151700
+startError = 140633
 
 -- the cuts of `net`, over bare numbers: v = 8.13·y − 22.92, t = 2·v/h
 low-cut : (h t v y G : ℕ) → v + 2292 * 10 ^ 14 ≡ 813 * y → t * h ≤ 2 * v → G * 5 ^ 16 ≤ t * 2 ^ 24
@@ -86,9 +85,7 @@ module _ (h y : ℕ) (h0 : 0 < h) (y0 : 282 * 10 ^ 12 ≤ y) where
       next : (t : ℕ) → t * 2 ^ 24 ≤ (t * 2 ^ 24 / 5 ^ 16 + 1) * 5 ^ 16
       next t = omega arith
 
--- so far the steps that are taken bring the width down
-start-width : stepsWidth netError stepCount ≤ startError
-unfolding stepsWidth leftOpen
+start-width : loadedWidth netError ≤ startError
 start-width = lit≤ tt
 
 -- a = A, 2·b·s = K and s = h/2 as they are held, number 25 at m_sat, and m_sat as it is held
@@ -124,12 +121,12 @@ module _ (A K h σ M : ℕ) (vp s saturation T : Fraction) (ea : a vp T ≈ᶠ e
         (≤-trans (≈→≥ (drivenExponent-cong x es)) l))
         (λ l. absurd (r (record { far = ≤-trans (enough-reaches M least most n n40) (E-mono n l) })))
 
-    -- the starting load, within 0.14 µg
+    -- the starting load, within 0.13 µg
     pub mileage-within : WithinAll (2 ^ 40) (startUnits (binary A) (binary K) h σ M) startError (λ n. startingLoad n vp s T M saturation)
     mileage-within = record {
       at = λ n n40.
           widen
-          (steps-within n A K G netError n40 hK hσ top full
-          (startingLoad-balanced n A K vp s saturation T n40 ea eb full M G netError (low n n40) (high n n40)) stepCount)
+          (loaded-within n A K G netError n40 hK hσ top full
+          (startingLoad-balanced n A K vp s saturation T n40 ea eb full M G netError (low n n40) (high n n40)))
           start-width;
     }

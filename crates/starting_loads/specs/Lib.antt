@@ -1,3 +1,3 @@
-pub mod Steps
 pub mod Balance
 pub mod Net
+pub mod Loss

@@ -1,3 +1,3 @@
 // The load that a canister starts with, from the mileage.
+pub mod loads;
 pub mod mileage;
-pub mod steps;

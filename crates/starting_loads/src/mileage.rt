@@ -1,4 +1,5 @@
 // What a mileage says of a canister's load: the part of it that is kept, in units of 2^-40 g.
+use bounds::exp::ExpTables;
 use thresholds::log_lower;
 ghost use mathlib.Core.Path.{_≡_};
 ghost use Prim.Native.Nat.{_*_, _^_, _<_, _≤_};
@@ -24,7 +25,7 @@ fn kept(y: u64, halves: u64) -> u64
 }
 
 // The load without what is lost, for a canister with 2 s = halves.
-pub fn net(tables: &[u64; 1907], mileage: u64, halves: u64) -> u64
+pub fn net(tables: &ExpTables, mileage: u64, halves: u64) -> u64
     requires { ⌜ (now tables ≡ entries) × (firstKilometres ≤ mileage) × (mileage ≤ 10 ^ 6) × (0 < halves) ⌝ }
     ensures { λ r. ⌜ (r ≡ netOf halves mileage) × (r < 2 ^ 50) ⌝ }
 {

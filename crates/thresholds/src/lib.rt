@@ -1,4 +1,5 @@
 // The exponent at which E reaches a mileage, in units of 10^-14: it is found downwards from a whole exponent c, by the binary digits of d = c - y.
+use bounds::exp::ExpTables;
 use bounds::exp::ZERO;
 use bounds::exp::exponential;
 use bounds::whole::far_table;
@@ -18,7 +19,7 @@ const NEAR_ERROR: u64 = 35;
 const MARGIN: u64 = 400001;
 
 // M is at most E(c - d).
-fn within(tables: &[u64; 1907], fars: &[u64; 15], mileage: u64, c: usize, d: u64) -> bool
+fn within(tables: &ExpTables, fars: &[u64; 15], mileage: u64, c: usize, d: u64) -> bool
     requires { ⌜ (now tables ≡ entries) × (now fars ≡ far) × (mileage ≤ 10 ^ 6) × (c < 15) × (d ≤ 2 ^ 47) ⌝ }
     ensures { λ r. ⌜ r ≡ within mileage c d ⌝ }
 {
@@ -27,7 +28,7 @@ fn within(tables: &[u64; 1907], fars: &[u64; 15], mileage: u64, c: usize, d: u64
 }
 
 // d with one more binary digit, where M is still at most E(c - d).
-fn digit(tables: &[u64; 1907], fars: &[u64; 15], mileage: u64, c: usize, d: u64, bit: u64) -> u64
+fn digit(tables: &ExpTables, fars: &[u64; 15], mileage: u64, c: usize, d: u64, bit: u64) -> u64
     requires { ⌜ (now tables ≡ entries) × (now fars ≡ far) × (mileage ≤ 10 ^ 6) × (c < 15) × (d + bit ≤ 2 ^ 47) ⌝ }
     ensures { λ r. ⌜ (r ≡ digit mileage c d bit) × (r ≤ d + bit) ⌝ }
 {
@@ -39,7 +40,7 @@ fn digit(tables: &[u64; 1907], fars: &[u64; 15], mileage: u64, c: usize, d: u64,
 }
 
 // The largest d with M at most E(c - d), digit by digit from 2^46 down.
-fn digits(tables: &[u64; 1907], fars: &[u64; 15], mileage: u64, c: usize) -> u64
+fn digits(tables: &ExpTables, fars: &[u64; 15], mileage: u64, c: usize) -> u64
     requires { ⌜ (now tables ≡ entries) × (now fars ≡ far) × (mileage ≤ 10 ^ 6) × (c < 15) ⌝ }
     ensures { λ r. ⌜ (r ≡ digits mileage c 47 0) × (r ≤ 2 ^ 47) ⌝ }
 {
@@ -55,7 +56,7 @@ fn digits(tables: &[u64; 1907], fars: &[u64; 15], mileage: u64, c: usize) -> u64
 }
 
 // The first whole exponent from 3 on with E at least M, and 14 where none before it has.
-fn whole_above(tables: &[u64; 1907], fars: &[u64; 15], mileage: u64) -> usize
+fn whole_above(tables: &ExpTables, fars: &[u64; 15], mileage: u64) -> usize
     requires { ⌜ (now tables ≡ entries) × (now fars ≡ far) × (mileage ≤ 10 ^ 6) ⌝ }
     ensures { λ r. ⌜ (r ≡ wholeAbove mileage) × (3 ≤ r) × (r ≤ 14) ⌝ }
 {
@@ -70,7 +71,7 @@ fn whole_above(tables: &[u64; 1907], fars: &[u64; 15], mileage: u64) -> usize
 }
 
 // A lower bound of the logarithm of the mileage M: E at this exponent is below M for every n from 40 upward, and at least M a margin above it.
-pub fn log_lower(tables: &[u64; 1907], mileage: u64) -> u64
+pub fn log_lower(tables: &ExpTables, mileage: u64) -> u64
     requires { ⌜ (now tables ≡ entries) × (firstKilometres ≤ mileage) × (mileage ≤ 10 ^ 6) ⌝ }
     ensures { λ r. ⌜ (r ≡ logLower mileage) × (282 * 10 ^ 12 ≤ r) × (r ≤ 14 * 10 ^ 14) ⌝ }
 {

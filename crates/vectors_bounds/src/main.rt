@@ -1,5 +1,6 @@
 // Holds the bounds of E and of T^2.5 against exact values that tools/vectors/bounds.py put into standard input: how many are enclosed, and how
 // far the largest lies above its lower bound, of how far it may.
+use bounds::exp::ExpTables;
 use bounds::exp::ZERO;
 use libc::STDIN_FILENO;
 use vectors::input::u64_at;
@@ -82,7 +83,7 @@ fn verdict_of(low: u64, error: u64, v: Vector) -> Verdict
 }
 
 // A tally with one exponent more, where it lies in the range
-fn with_exponent(tables: &[u64; 1907], first: u64, limit: u64, v: Vector, tally: Tally) -> Tally
+fn with_exponent(tables: &ExpTables, first: u64, limit: u64, v: Vector, tally: Tally) -> Tally
     requires { ⌜ (now tables ≡ entries) × (limit ≤ exponentLimit) ⌝ }
 {
     let x = v.held;
@@ -98,7 +99,7 @@ fn with_exponent(tables: &[u64; 1907], first: u64, limit: u64, v: Vector, tally:
 }
 
 // The exponents from the first on that are below the limit
-fn exponentials(tables: &[u64; 1907], first: u64, limit: u64, s: &[u8]) -> Tally
+fn exponentials(tables: &ExpTables, first: u64, limit: u64, s: &[u8]) -> Tally
     requires { ⌜ (now tables ≡ entries) × (limit ≤ exponentLimit) ⌝ }
 {
     let mut tally = Tally::none();

@@ -12,14 +12,14 @@ use Rattle.bounds.proofs.exp.tables.Statement.{statement}
 use Rattle.bounds.proofs.exp.tables.Tie as tie
 
 abbrev Inv-loop : tie.InvT-loop
-Inv-loop table out₀ place₀ out place = Filled (at entries) 1907 place out
+Inv-loop table coefficients out₀ place₀ out place = Filled (at entries) 3446 place out
 
 abbrev μ-loop : tie.MeasureT-loop
-μ-loop table out₀ place₀ out place = 1907 - place
+μ-loop table coefficients out₀ place₀ out place = 3446 - place
 
-entry-requires : tie.Need-entry-requires Inv-loop μ-loop
+word-requires : tie.Need-word-requires Inv-loop μ-loop
 unfolding coarse middle constants
-entry-requires c κs = (refl, omega arith)
+word-requires c κs = (refl, c .before .before .before .before .thetas .ensures, omega arith)
 
 pub tables-spec : {M : Type 1} → statement M
 tables-spec =
@@ -27,8 +27,9 @@ tables-spec =
     (tie.spec
     Inv-loop
     μ-loop
-    (λ c. filled-none _ (replicate 1907 0) refl)
-    entry-requires
+    (λ c κs. search needs)
+    (λ c. filled-none _ (replicate 3446 0) refl)
+    word-requires
     (λ c. search needs) (λ c. search needs) (λ c. search needs) (λ c. search needs)
-    (λ c. filled-more (c .before .before .before .loop .inv) (omega arith) (c .entry .ensures))
+    (λ c. filled-more (c .before .before .before .before .loop .inv) (omega arith) (c .word .ensures))
     (λ c. filled-all (c .before .loop .inv) (omega arith) ∙ tab-at entries entries-length))

@@ -8,17 +8,15 @@ use Rattle.breakthrough.proofs.loads.kept_of.Tie as tie
 returns : tie.Need-returns
 returns c = record {
   kept-is = λ km there. absurd (omega (arith, c .if1 .taken, c .before .halves .ensures .0));
-  kept-below = omega arith;
 }
 
 -- up to 16 km
 returns-2 : tie.Need-returns-2
-returns-2 c = record { kept-is = λ km there. absurd (omega (arith, c .if2 .taken)); kept-below = omega arith }
+returns-2 c = record { kept-is = λ km there. absurd (omega (arith, c .if2 .taken)) }
 
 returns-3 : tie.Need-returns-3
 returns-3 c = record {
   kept-is = λ km there. rw (← (c .before .before .before .before .halves .ensures .0)) (c .net .ensures .0);
-  kept-below = c .net .ensures .1;
 }
 
 pub kept-of-spec : {M : Type 1} → statement M

@@ -9,7 +9,7 @@ use Rattle.breakthrough.proofs.loads.start_loads.Tie as tie
 starts-requires : tie.Need-starts-requires
 starts-requires c κs =
     let s = c .before .before .before in
-    (s .pre .0, rw (c .tenth-grams .ensures) (s .pre .1 .balanced (c .before .if1 .taken) (s .args .kept) (s .pre .2 .kept-below)))
+    (s .pre .0, rw (c .tenth-grams .ensures) (s .pre .1 .balanced (c .before .if1 .taken)))
 
 returns : tie.Need-returns
 returns c =
