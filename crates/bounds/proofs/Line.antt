@@ -47,3 +47,8 @@ along-split A K m m' =
     ≈-by (+-cong (≈-refl (exponent A)) (*-cong (≈-refl (rising K)) (≈-sym (regain m' m))))
     (+-assoc (exponent A) (rising K *ᶠ m) (rising K *ᶠ (m' -ᶠ m)))
     (+-cong (≈-refl (exponent A)) (*-distrib (rising K) m (m' -ᶠ m)))
+
+-- a + b·(m + x) = (a + b·m) + b·x
+pub along-plus : (A K : ℕ) (m x : Fraction) → along A K (m +ᶠ x) ≈ᶠ along A K m +ᶠ rising K *ᶠ x
+unfolding along
+along-plus A K m x = ≈-trans (+-cong (≈-refl _) (*-distrib (rising K) m x)) (≈-sym (+-assoc _ _ _))

@@ -4,9 +4,9 @@ use mathlib.Core.Path.{_≡_, refl}
 use Prim.Native.Nat.{ℕ, _+_, _*_, _-_, _≤_, _<_}
 use native.Mathlib.Decide.{decLe}
 use native.Mathlib.Omega.{arith}
-use native.Mathlib.Nat.{mul-pos, mul-le-mul-left, mul-le-mul-right, le-of-mul-le-mul-left, le-dest}
+use native.Mathlib.Nat.{mul-pos, mul-le-mul-left, le-dest}
 use Rattle.numbers.specs.Fraction.{Fraction, _≤ᶠ_, _≈ᶠ_, _+ᶠ_, _*ᶠ_, whole}
-use Rattle.numbers.proofs.Order.{NonNegative, ≤-by, ≈-refl, ≈-sym, ≈-trans, +-cong, *-cong, ratio, ratio-≈, ratio-≤, ratio-product}
+use Rattle.numbers.proofs.Order.{NonNegative, ≤-by, ≈-trans, +-cong, *-cong, ratio, ratio-≈, ratio-≤, ratio-product}
 use Rattle.bounds.specs.Series.{E}
 use Rattle.bounds.proofs.Product.{den, num, den-pos, num-pos, num-zero, num-grow, product-above, product-below}
 use Rattle.bounds.proofs.Exponential.{E-at}

@@ -12,9 +12,8 @@ use Rattle.bounds.specs.Enclosure.{Within}
 use Rattle.bounds.specs.Exponential.{exponent}
 use Rattle.bounds.specs.Short.{shortExponent, binary, lineOf, lineExponent, reachOf, reach}
 pub use Rattle.bounds.specs.Line.{Held}
-use Rattle.bounds.proofs.Line.{double-unit-pos, rising, along, along-mono}
-use Rattle.bounds.proofs.Units.{unit-pos, units-within}
-use Rattle.bounds.proofs.Within.{widen, within-≈, within-above, ratio-within, +-within, *-within, round-within, div-mono}
+use Rattle.bounds.proofs.Line.{double-unit-pos, rising, along}
+use Rattle.bounds.proofs.Within.{widen, within-≈, ratio-within, +-within, *-within, round-within, div-mono}
 
 -- an equal exponent
 pub held-≈ : {x w : ℕ} {z y : Fraction} → z ≈ᶠ y → Held x w z → Held x w y
@@ -96,12 +95,6 @@ lineWidth w = (4 * w + 189) * 2 ^ 9
 pub line-held : {l w : ℕ} (A K : ℕ) {m : Fraction} → K ≤ 22 * 2 ^ 41 → l ≤ 369 * 2 ^ 40 → w ≤ 2 ^ 40 → Within (2 ^ 40) l w m
     → Held (lineExponent A K l) (lineWidth w) (along A K m)
 line-held {l} {w} A K h g k a = record { raised = widen (line-cut A K a .raised) (omega (arith, mul-le-mul-right w (binary-most K h))) }
-
--- on a line that is at most 0 at m, the exponent that is held at an l below m is at most 0
-pub line-most : (A K : ℕ) {l w : ℕ} (m : Fraction) → Within (2 ^ 40) l w m → K ≤ 22 * 2 ^ 41 → l ≤ 369 * 2 ^ 40 → along A K m ≤ᶠ whole 0
-    → lineExponent A K l ≤ 16 * 2 ^ 53
-line-most A K {l} m a hK hl top =
-    held-most-0 (line-held A K hK hl (omega arith) (units-within l)) (≤-trans (along-mono A K (within-above unit-pos a)) top)
 
 -- b·g for a gain of at most 36 that is known within 313: within six units of 2⁻³⁶
 pub reach-within : {g : ℕ} (K : ℕ) {γ : Fraction} → K ≤ 22 * 2 ^ 41 → g ≤ 36 * 2 ^ 40 → Within (2 ^ 40) g 313 γ

@@ -1,14 +1,13 @@
--- E of a sum of exponents: between products of E, the inverse at the opposite exponent, and the chord: up to an exponent of 0, over a
--- step e, E grows by at least e·E at its start, E there taken one term further.
+-- E of a sum of exponents, between products of E; the inverse at the opposite exponent; and 1 + e.
 use mathlib.Core.Bool.{Bool, true, false}
 use mathlib.Core.Path.{_≡_, ap}
 use Prim.Native.Nat.{ℕ, _+_, _<_}
 use native.Mathlib.Omega.{arith}
 use Rattle.numbers.specs.Fraction.{Fraction, _≤ᶠ_, _≈ᶠ_, _+ᶠ_, negᶠ, _*ᶠ_, whole, _^ᶠ_, _over_, inverse}
 use Rattle.bounds.specs.Series.{factorial, term, S, E}
-use Rattle.numbers.proofs.Order.{NonNegative, positive→nonNegative, nonNegative→≤, test-true, ≤-trans, ≤-by, ≈-refl}
-use Rattle.numbers.proofs.Order.{≈-sym, ≈-trans, ≈→≤, +-nonNegative, neg-nonNegative, *-mono-left, *-mono-right, *-cong}
-use Rattle.numbers.proofs.Order.{*-comm, *-assoc, *-swap, *-cancel, ratio, ratio-positive}
+use Rattle.numbers.proofs.Order.{NonNegative, positive→nonNegative, nonNegative→≤, test-true, ≤-trans, ≤-by, ≈-sym}
+use Rattle.numbers.proofs.Order.{≈-trans, ≈→≤, +-nonNegative, *-mono-left, *-cong, *-comm, *-cancel, ratio}
+use Rattle.numbers.proofs.Order.{ratio-positive}
 use Rattle.bounds.proofs.Exponential.{S-product-above, S-product-below, E-is, E-mono, E-positive, E-zero}
 
 -- Eₙ(y) = Sₙ(y) for 0 ≤ y

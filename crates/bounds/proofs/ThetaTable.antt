@@ -1,21 +1,24 @@
--- The table of Θ: on each cell the quadratic P is at most E(t·P), and 16 units of 2⁻³¹ further it is at least that, for every n from 40 upward. One
--- computed test over the table. With t = (k + s)/2¹¹ and P = p₀ + p₁·s + p₂·s², t·P is k·p₀ and u, which is small: E(t·P) is close to
+-- The table of Θ: for every n from 40 upward the quadratic P of a cell is at most E(t·P), and P + 16·2⁻³¹ is at least that. One computed test
+-- over the table. With t = (k + s)/2¹¹ and P = p₀ + p₁·s + p₂·s², t·P is the sum of k·p₀ and a small u: E(t·P) is close to
 -- E(k·p₀)·(1 + u + u²/2), and both sides are compared as polynomials of s, term by term.
 -- Assumes nothing.
 use mathlib.Core.Bool.{Bool, true, false}
 use mathlib.Core.List.{List, [], _∷_}
-use mathlib.Core.Path.{_≡_, refl, sym, subst, _∙_, ap}
+use mathlib.Core.Path.{_≡_, refl}
 use Prim.Native.Nat.{ℕ, zero, suc, _+_, _*_, _-_, _/_, _%_, _^_, _≤_, _<_}
 use native.Mathlib.Omega.{arith}
-use native.Mathlib.Nat.{div-mul-le-self, pow-zero, pow-suc, add-zero, mul-pos, mul-le-mul, mul-le-mul-left, mul-le-mul-right, le-of-mul-le-mul-left, le-dest, le-trans, le-of-suc-le-suc, not-suc-le-zero}
+use native.Mathlib.Nat.{div-mul-le-self, pow-zero, pow-suc, add-zero, mul-pos, mul-le-mul, mul-le-mul-left}
+use native.Mathlib.Nat.{le-of-mul-le-mul-left, le-dest, le-of-suc-le-suc, not-suc-le-zero}
 use lib.Dec.{T, leb, leb→le, lit<, lit≤}
 use lib.ListN.{length, getD}
 use Rattle.numbers.specs.Fraction.{Fraction, _≤ᶠ_, _≈ᶠ_, _+ᶠ_, _*ᶠ_, _/10^_}
-use Rattle.numbers.proofs.Order.{via, ≤-by, ≤-refl, ≤-trans, ≈-refl, ≈-trans, ≈→≤, ≈→≥, +-mono, ratio, ratio-≤, ratio-≈, ratio-sum, ratio-product}
+use Rattle.numbers.proofs.Order.{via, ≤-by, ≤-refl, ≤-trans, ≈-refl, ≈-trans, ≈→≤, ≈→≥, +-mono, ratio, ratio-≤, ratio-≈}
+use Rattle.numbers.proofs.Order.{ratio-sum, ratio-product}
 use Rattle.bounds.specs.Series.{E, two-pos}
 use Rattle.bounds.specs.Enclosure.{Within}
 use Rattle.bounds.specs.Exponential.{entries}
-use Rattle.bounds.proofs.Product.{den, acc, num, den-pos, num-zero, num-scale, den-scale, product-above, product-below}
+use Rattle.bounds.proofs.Product.{den, acc, num, den-pos, num-zero, num-scale, den-scale, product-above}
+use Rattle.bounds.proofs.Product.{product-below}
 use Rattle.bounds.proofs.Table.{both, both-left, both-right}
 use Rattle.bounds.proofs.Tail.{Near, near, nearTest, top, tail}
 use Rattle.bounds.proofs.Exponential.{E-at, E-mono}
@@ -77,7 +80,8 @@ smaller q k p₀ p₁ p₂ α β e =
     (2 ^ 10 * (q * q) * p₀ + 2 ^ 10 * (q * q) * p₁ + 2 ^ 10 * (q * q) * p₂) ∷
     ((e + 1) * (2 * (q * q) * few)) ∷
     ((e + 1) * (2 * (q * q) * few) + (e + 1) * (2 * q * few * α)) ∷
-    ((e + 1) * (2 * (q * q) * few) + (e + 1) * (2 * q * few * α) + (e + 1) * (2 * q * few * (β + p₂) + (few + 1) * ((α + (β + p₂)) * (α + (β + p₂))))) ∷
+    ((e + 1) * (2 * (q * q) * few) + (e + 1) * (2 * q * few * α)
+    + (e + 1) * (2 * q * few * (β + p₂) + (few + 1) * ((α + (β + p₂)) * (α + (β + p₂))))) ∷
     (p₀ + p₁ + p₂) ∷ []
 
 abbrev larger : ℕ → ℕ → ℕ → ℕ → ℕ → ℕ → ℕ → ℕ → List ℕ
@@ -135,7 +139,8 @@ cancel-low s f w P D M e z x s0 f0 a b c =
     le-of-mul-le-mul-left {k = 2 ^ 10 * s * f}
     (omega (arith, mul-le-mul-left (f * D) a, mul-le-mul-left (e * D) b, c)) (mul-pos (mul-pos (omega arith) s0) f0)
 
-cancel-high : (s f w P D M e z x b : ℕ) → 0 < s → 0 < f → 0 < b → e * z ≤ 2 ^ 10 * s * b * P → x ≤ f * z → 2 ^ 40 * (2 * (f * w * s) * b) * M ≤ e * x * D
+cancel-high : (s f w P D M e z x b : ℕ) → 0 < s → 0 < f → 0 < b → e * z ≤ 2 ^ 10 * s * b * P → x ≤ f * z
+    → 2 ^ 40 * (2 * (f * w * s) * b) * M ≤ e * x * D
     → 2 ^ 31 * w * M ≤ P * D
 cancel-high s f w P D M e z x b s0 f0 b0 a g c =
     le-of-mul-le-mul-left {k = 2 ^ 10 * s * b * f}
@@ -158,7 +163,8 @@ square : (r : ℕ) → r ^ 2 ≡ r * r
 square r = rw (pow-suc r 1, pow-suc r 0, pow-zero r) (omega arith)
 
 -- the tail after u²
-tail-two : (q r n : ℕ) → 2 ≤ n → (1 + few) * r ≤ 1 * (q * 3) → 2 * (q * q) * few * num q r n ≤ den q n * (few * (2 * (q * q) + 2 * (q * r) + r * r) + r * r)
+tail-two : (q r n : ℕ) → 2 ≤ n → (1 + few) * r ≤ 1 * (q * 3)
+    → 2 * (q * q) * few * num q r n ≤ den q n * (few * (2 * (q * q) + 2 * (q * r) + r * r) + r * r)
 unfolding top
 tail-two q r n le t =
     let h : den q 2 * (few * num q r n) ≤ den q n * (few * num q r 2 + 1 * r ^ 2) = tail q r 1 few 2 n t le in
@@ -298,12 +304,14 @@ module _ (t q k p₀ p₁ p₂ e τ n : ℕ) (t0 : 0 < t) (q0 : 0 < q) (n40 : 40
       (cancel-high (q * q) (t * t * (t * t)) (t * t) (P + thetaError * (t * t)) (den Q n) (num Q (t * t * t * (k * p₀) + r) n) (e + 1)
       (2 * (q * q) * few * (t * t) + 2 * q * few * (α * (τ * t) + (β + p₂) * (τ * τ)) + (few + 1) * ((α + (β + p₂)) * (α + (β + p₂)) * (τ * τ)))
       (few * (2 * (Q * Q) + 2 * (Q * r) + r * r) + r * r) few (mul-pos q0 q0) fourth-pos (lit< tt)
-      (gather-high (2 ^ 10 * (q * q) * few) (2 * (q * q) * few) (2 * q * few) (t * t) (τ * t) (τ * τ) (e + 1) p₀ p₁ p₂ α (β + p₂) (few + 1) ((α + (β + p₂)) * (α + (β + p₂))) thetaError
+      (gather-high (2 ^ 10 * (q * q) * few) (2 * (q * q) * few) (2 * q * few) (t * t) (τ * t) (τ * τ) (e + 1) p₀ p₁ p₂ α (β + p₂) (few + 1)
+      ((α + (β + p₂)) * (α + (β + p₂))) thetaError
       (abel t τ _ _ _ _ _ _ h (c .high₀) (c .high₁) (c .high₂)))
       (quadratic-most t q r (α * (τ * t) + (β + p₂) * (τ * τ)) ((α + (β + p₂)) * (α + (β + p₂)) * (τ * τ)) few (numerator-most t τ α β p₂ h)
       (square-most t τ (α + (β + p₂)) r (numerator-all t τ α β p₂ h)))
       (rw sixth at
-      (regroup-high (t * t * t) q (den Q n) (num Q (t * t * t * (k * p₀) + r) n) (few * (2 * (Q * Q) + 2 * (Q * r) + r * r) + r * r) (e + 1) (2 ^ 40) few
+      (regroup-high (t * t * t) q (den Q n) (num Q (t * t * t * (k * p₀) + r) n)
+      (few * (2 * (Q * Q) + 2 * (Q * r) + r * r) + r * r) (e + 1) (2 ^ 40) few
       (sum-most q (t * t * t) (k * p₀) e r n Q-pos n40 (c .level)
       (small-numerator t τ q few (α + (β + p₂)) r h (numerator-all t τ α β p₂ h) (c .small))))))
 
@@ -436,7 +444,8 @@ levels-length = refl
 
 -- every cell passes
 passed : (k : ℕ) → k < 513
-    → Passed (2 ^ 42) k (coefficient k 0) (coefficient k 1) (coefficient k 2) (coefficient k 0 + k * coefficient k 1) (coefficient k 1 + k * coefficient k 2) (getD levels k 0)
+    → Passed (2 ^ 42) k (coefficient k 0) (coefficient k 1) (coefficient k 2)
+    (coefficient k 0 + k * coefficient k 1) (coefficient k 1 + k * coefficient k 2) (getD levels k 0)
 passed k h =
     let z : 0 + k ≡ k = omega arith in
     let w : 3 * k + 0 ≡ 3 * k = omega arith in
@@ -491,27 +500,27 @@ coefficients-most k h = passed k h .fits
 exact-most : (k τ : ℕ) → k < 513 → τ ≤ 2 ^ 29 → onCellExact k τ ≤ 23 * 2 ^ 27 * (2 ^ 29 * 2 ^ 29)
 exact-most k τ h l = sum-all (2 ^ 29) τ _ _ _ _ l (passed k h .fits)
 
--- the computed value is P cut by at most 2 units of 2⁻³¹
+-- the computed value is P, rounded down by at most 2 units of 2⁻³¹
 onCell-below : (k τ : ℕ) → onCell k τ * (2 ^ 29 * 2 ^ 29) ≤ onCellExact k τ
 unfolding onCell
 onCell-below k τ =
     let a : ℕ = coefficient k 2 * τ / 2 ^ 29 in
-    cut (2 ^ 29) τ (coefficient k 0) (coefficient k 1) (coefficient k 2) a ((coefficient k 1 + a) * τ / 2 ^ 29)
+    rounded (2 ^ 29) τ (coefficient k 0) (coefficient k 1) (coefficient k 2) a ((coefficient k 1 + a) * τ / 2 ^ 29)
     (div-mul-le-self (coefficient k 2 * τ) (2 ^ 29)) (div-mul-le-self ((coefficient k 1 + a) * τ) (2 ^ 29))
   where
-    cut : (t τ p₀ p₁ p₂ a b : ℕ) → a * t ≤ p₂ * τ → b * t ≤ (p₁ + a) * τ → (p₀ + b) * (t * t) ≤ p₀ * (t * t) + p₁ * (τ * t) + p₂ * (τ * τ)
-    cut t τ p₀ p₁ p₂ a b h g = omega (arith, mul-le-mul-left τ h, mul-le-mul-left t g)
+    rounded : (t τ p₀ p₁ p₂ a b : ℕ) → a * t ≤ p₂ * τ → b * t ≤ (p₁ + a) * τ → (p₀ + b) * (t * t) ≤ p₀ * (t * t) + p₁ * (τ * t) + p₂ * (τ * τ)
+    rounded t τ p₀ p₁ p₂ a b h g = omega (arith, mul-le-mul-left τ h, mul-le-mul-left t g)
 
 onCell-above : (k τ : ℕ) → τ ≤ 2 ^ 29 → onCellExact k τ ≤ (onCell k τ + 2) * (2 ^ 29 * 2 ^ 29)
 unfolding onCell
 onCell-above k τ l =
     let a : ℕ = coefficient k 2 * τ / 2 ^ 29 in
-    cut (2 ^ 29) τ (coefficient k 0) (coefficient k 1) (coefficient k 2) a ((coefficient k 1 + a) * τ / 2 ^ 29) l
+    rounded (2 ^ 29) τ (coefficient k 0) (coefficient k 1) (coefficient k 2) a ((coefficient k 1 + a) * τ / 2 ^ 29) l
     (next (coefficient k 2 * τ)) (next ((coefficient k 1 + a) * τ))
   where
-    cut : (t τ p₀ p₁ p₂ a b : ℕ) → τ ≤ t → p₂ * τ ≤ (a + 1) * t → (p₁ + a) * τ ≤ (b + 1) * t
+    rounded : (t τ p₀ p₁ p₂ a b : ℕ) → τ ≤ t → p₂ * τ ≤ (a + 1) * t → (p₁ + a) * τ ≤ (b + 1) * t
         → p₀ * (t * t) + p₁ * (τ * t) + p₂ * (τ * τ) ≤ (p₀ + b + 2) * (t * t)
-    cut t τ p₀ p₁ p₂ a b l h g = omega (arith, mul-le-mul-left τ h, mul-le-mul-left t g, mul-le-mul-left t l)
+    rounded t τ p₀ p₁ p₂ a b l h g = omega (arith, mul-le-mul-left τ h, mul-le-mul-left t g, mul-le-mul-left t l)
 
     next : (x : ℕ) → x ≤ (x / 2 ^ 29 + 1) * 2 ^ 29
     next x = omega arith
@@ -574,10 +583,12 @@ module _ {table : List ℕ} (same : table ≡ entries) (t : ℕ) (h : t ≤ 2 ^ 
   first-read : getD table (1907 + 3 * (t / 2 ^ 29)) 0 ≡ coefficient (t / 2 ^ 29) 0
   first-read = let e : 1907 + 3 * (t / 2 ^ 29) + 0 ≡ 1907 + 3 * (t / 2 ^ 29) = omega arith in rw e at (read 0 (omega arith))
 
-  pub read-most : getD table (1907 + 3 * (t / 2 ^ 29)) 0 + getD table (1907 + 3 * (t / 2 ^ 29) + 1) 0 + getD table (1907 + 3 * (t / 2 ^ 29) + 2) 0 ≤ 23 * 2 ^ 27
+  pub read-most : getD table (1907 + 3 * (t / 2 ^ 29)) 0 + getD table (1907 + 3 * (t / 2 ^ 29) + 1) 0
+      + getD table (1907 + 3 * (t / 2 ^ 29) + 2) 0 ≤ 23 * 2 ^ 27
   read-most = rw (first-read, read 1 (omega arith), read 2 (omega arith)) (coefficients-most (t / 2 ^ 29) (omega arith))
 
   pub theta-read : getD table (1907 + 3 * (t / 2 ^ 29)) 0
-      + (getD table (1907 + 3 * (t / 2 ^ 29) + 1) 0 + getD table (1907 + 3 * (t / 2 ^ 29) + 2) 0 * (t % 2 ^ 29) / 2 ^ 29) * (t % 2 ^ 29) / 2 ^ 29 ≡ theta t
+      + (getD table (1907 + 3 * (t / 2 ^ 29) + 1) 0 + getD table (1907 + 3 * (t / 2 ^ 29) + 2) 0 * (t % 2 ^ 29) / 2 ^ 29)
+      * (t % 2 ^ 29) / 2 ^ 29 ≡ theta t
   unfolding theta onCell
   theta-read = rw (first-read, read 1 (omega arith), read 2 (omega arith)) refl

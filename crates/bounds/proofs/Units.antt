@@ -1,8 +1,8 @@
 -- Counts of units of 2⁻⁴⁰ as fractions. Nothing here speaks of E.
-use Prim.Native.Nat.{ℕ, _+_, _*_, _^_, _/_, _≤_}
+use Prim.Native.Nat.{ℕ, _+_, _^_, _≤_}
 use native.Mathlib.Omega.{arith}
-use Rattle.numbers.specs.Fraction.{Fraction, _≤ᶠ_, _≈ᶠ_, _+ᶠ_, _*ᶠ_}
-use Rattle.numbers.proofs.Order.{≤-trans, ≈-refl, ≈-trans, ≈→≤, +-cong, +-assoc, ratio-≤, ratio-mono, ratio-sum, ratio-product}
+use Rattle.numbers.specs.Fraction.{Fraction, _≤ᶠ_, _≈ᶠ_, _+ᶠ_}
+use Rattle.numbers.proofs.Order.{≈-refl, ≈-trans, +-cong, +-assoc, ratio-mono, ratio-sum}
 use Rattle.bounds.specs.Enclosure.{Within}
 pub use Rattle.bounds.specs.Line.{unit-pos, units}
 use Rattle.bounds.proofs.Within.{ratio-within}
@@ -18,13 +18,6 @@ units-sum j k = ratio-sum j k (2 ^ 40) unit-pos
 -- so do those that are added to a value
 pub units-fold : (y : Fraction) (j k : ℕ) → y +ᶠ units j +ᶠ units k ≈ᶠ y +ᶠ units (j + k)
 units-fold y j k = ≈-trans (+-assoc y (units j) (units k)) (+-cong (≈-refl y) (units-sum j k))
-
--- a product of two, cut and one more
-pub units-product : (j k : ℕ) → units j *ᶠ units k ≤ᶠ units (j * k / 2 ^ 40 + 1)
-units-product j k = ≤-trans (≈→≤ (ratio-product j k unit-pos unit-pos)) (ratio-≤ _ _ _ unit-pos (over (j * k)))
-  where
-    over : (y : ℕ) → y * 2 ^ 40 ≤ (y / 2 ^ 40 + 1) * (2 ^ 40 * 2 ^ 40)
-    over y = omega arith
 
 -- a count encloses its units
 pub units-within : (k : ℕ) → Within (2 ^ 40) k 0 (units k)

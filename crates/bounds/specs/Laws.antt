@@ -5,7 +5,7 @@ use mathlib.Core.Path.{_≡_}
 use Prim.Native.Nat.{ℕ, suc, _+_, _*_, _/_, _%_, _^_, _≤_, _<_}
 use lib.Dec.{leb, ltb}
 use lib.ListN.{getD}
-use Rattle.numbers.specs.Fraction.{Fraction, _≤ᶠ_, _<ᶠ_, _≈ᶠ_, _+ᶠ_, negᶠ, _-ᶠ_, _*ᶠ_, _^ᶠ_, whole, _/10^_}
+use Rattle.numbers.specs.Fraction.{Fraction, _≤ᶠ_, _<ᶠ_, _≈ᶠ_, _+ᶠ_, negᶠ, _*ᶠ_, _^ᶠ_, whole, _/10^_}
 use Rattle.bounds.specs.Series.{E, root, cutRoot, power2·5, multiple, CutRootTheorem}
 use Rattle.bounds.specs.Enclosure.{Within, WithinAll}
 use Rattle.bounds.specs.Exponential.{exponent, exponentLimit, exponential, exponentialError}

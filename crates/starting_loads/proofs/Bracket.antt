@@ -2,19 +2,18 @@
 -- before it does not, and both are put into m = g(m) + E(a + b·s·m).
 -- Assumes nothing.
 use mathlib.Core.Logic.{_⊎_, inl, inr, ⊎-elim}
-use Prim.Native.Nat.{ℕ, suc, zero, _+_, _*_, _^_, _≤_, _<_, min}
+use Prim.Native.Nat.{ℕ, suc, zero, _+_, _*_, _^_, _≤_, _<_}
 use native.Mathlib.Omega.{arith}
-use native.Mathlib.Decide.{decLe}
 use native.Mathlib.Nat.{mul-le-mul-right, pow-le-pow-right, le-refl}
 use Rattle.numbers.specs.Fraction.{Fraction, _≤ᶠ_, _≈ᶠ_, _+ᶠ_, _-ᶠ_, _*ᶠ_, whole}
-use Rattle.numbers.proofs.Order.{NonNegative, positive→nonNegative, nonNegative→≤, ≤-refl, ≤-trans, ≈-refl, ≈→≤, ≈→≥, +-mono, +-comm, +-grows}
-use Rattle.numbers.proofs.Order.{+-nonNegative, sub-cong, sub-≤, regain, ratio, ratio-nonNegative}
+use Rattle.numbers.proofs.Order.{NonNegative, positive→nonNegative, nonNegative→≤, ≤-refl, ≤-trans, ≈-refl, ≈→≤, ≈→≥}
+use Rattle.numbers.proofs.Order.{+-mono, +-nonNegative, sub-cong, sub-≤, regain, ratio, ratio-nonNegative}
 use Rattle.bounds.specs.Series.{E, multiple}
 use Rattle.bounds.specs.Enclosure.{Within}
 use Rattle.bounds.specs.Exponential.{exponent}
-use Rattle.bounds.proofs.Laws.{E-cong, E-mono, E-positive, E-most-1}
-use Rattle.bounds.proofs.Within.{within-above, within-below, within-from, within-nonNegative, whole-within}
-use Rattle.bounds.proofs.Units.{unit-pos, units, units-≤, units-sum, units-fold}
+use Rattle.bounds.proofs.Laws.{E-cong, E-mono, E-positive}
+use Rattle.bounds.proofs.Within.{within-above, within-below, within-nonNegative}
+use Rattle.bounds.proofs.Units.{unit-pos, units, units-≤, units-fold}
 use Rattle.bounds.proofs.Line.{rising, along, along-is, along-mono}
 use Rattle.exact.specs.Canister.{a, b}
 use Rattle.exact.specs.Mileage.{multiples, g, startingLoad, Reaches, IsStart, smallest, none-reaches}

@@ -1,27 +1,28 @@
 -- The computed starting load is at most the exact one, and near it.
 -- Assumes nothing.
-use mathlib.Core.Path.{_≡_, refl}
+use mathlib.Core.Path.{_≡_}
 use Prim.Native.Nat.{ℕ, _+_, _*_, _-_, _/_, _^_, _≤_, _<_, min}
 use native.Mathlib.Decide.{decLe}
 use native.Mathlib.Omega.{arith}
 use Rattle.numbers.specs.Fraction.{Fraction, _≤ᶠ_, _≈ᶠ_, _+ᶠ_, _-ᶠ_, _*ᶠ_, whole, _/10^_}
-use Rattle.numbers.proofs.Order.{NonNegative, Positive, positive→nonNegative, nonNegative→≤, whole-nonNegative, decimal-nonNegative, either, ≤-refl, ≤-trans, ≈-refl, ≈-sym}
-use Rattle.numbers.proofs.Order.{≈-trans, ≈→≤, ≈→≥, +-mono, +-cong, +-comm, +-assoc, +-zero, +-grows, sub-nonNegative, ≤-sub, sub-≤, regain}
-use Rattle.numbers.proofs.Order.{*-mono, *-mono-left, *-mono-right, *-cong, *-comm, *-assoc, *-one, *-zero, *-distrib, *-swap, *-nonNegative, solve-most}
-use Rattle.numbers.proofs.Order.{ratio, ratio-≤, ratio-nonNegative, ratio-positive, ratio-sum, ratio-product, ratio-one}
+use Rattle.numbers.proofs.Order.{NonNegative, positive→nonNegative, decimal-nonNegative, either, ≤-refl, ≤-trans, ≈-sym}
+use Rattle.numbers.proofs.Order.{≈-trans, ≈→≤, ≈→≥, +-mono, +-comm, +-assoc, +-zero, +-grows, sub-nonNegative, ≤-sub}
+use Rattle.numbers.proofs.Order.{sub-≤, regain, *-mono-left, *-comm, *-one, *-zero, *-swap, solve-most, ratio, ratio-≤}
+use Rattle.numbers.proofs.Order.{ratio-positive, ratio-sum, ratio-product, ratio-one}
 use Rattle.bounds.specs.Series.{E}
 use Rattle.bounds.specs.Enclosure.{Within}
 use Rattle.bounds.specs.Short.{short, binary, lineExponent}
 use Rattle.bounds.proofs.Laws.{E-cong, E-mono, E-positive, E-most-1, climb-to, short-most-1, held-to-0}
-use Rattle.bounds.proofs.Within.{weaken, within-above, within-below, within-from}
+use Rattle.bounds.proofs.Within.{weaken, within-above, within-from}
 use Rattle.bounds.proofs.Units.{unit-pos, units, units-≤, units-sum, units-fold, units-within}
-use Rattle.bounds.proofs.Line.{rising, along, along-mono, along-split}
+use Rattle.bounds.proofs.Line.{rising, along, along-mono, along-split, along-plus}
 use Rattle.bounds.proofs.ShortLine.{Held, lineWidth, finer, held-most-0, line-held, lineExponent-is}
 use Rattle.starting_loads.specs.Loss.{loss, loaded}
 use Rattle.starting_loads.proofs.Bracket.{lost, Balanced, along-0, at-least, at-most}
-use Rattle.starting_loads.proofs.Loss.{four-pos, quarter, x, x-least, x-near, x-nonNegative, steep, computed-below, computed-near}
+use Rattle.starting_loads.proofs.Loss.{four-pos, quarter, x, x-least, x-near, steep, computed-below}
+use Rattle.starting_loads.proofs.Loss.{computed-near}
 
--- how far the load can be above the computed one, where what is kept is known within W
+-- how far the starting load can be above the computed one, where the net load is known within W
 abbrev pub loadedWidth : ℕ → ℕ
 loadedWidth W = 4 * (W + 33960) / 3 + 1
 
@@ -30,23 +31,18 @@ pub loaded-most : (a k σ l : ℕ) → loaded a k σ l ≤ σ
 unfolding loaded
 loaded-most a k σ l = omega arith
 
--- a + b·s·(m + x)
-along-plus : (A K : ℕ) (m x : Fraction) → along A K (m +ᶠ x) ≈ᶠ along A K m +ᶠ rising K *ᶠ x
-unfolding along
-along-plus A K m x = ≈-trans (+-cong (≈-refl _) (*-distrib (rising K) m x)) (≈-sym (+-assoc _ _ _))
-
-two-pos' : 0 < 2
-two-pos' = omega arith
+half-pos : 0 < 2
+half-pos = omega arith
 
 -- halves and quarters
-half-and-half : ratio 1 2 two-pos' +ᶠ ratio 1 2 two-pos' ≈ᶠ whole 1
-half-and-half = ≈-trans (ratio-sum 1 1 2 two-pos') (ratio-one 2 two-pos')
+half-and-half : ratio 1 2 half-pos +ᶠ ratio 1 2 half-pos ≈ᶠ whole 1
+half-and-half = ≈-trans (ratio-sum 1 1 2 half-pos) (ratio-one 2 half-pos)
 
 quarter-and-rest : ratio 1 4 four-pos +ᶠ ratio 3 4 four-pos ≈ᶠ whole 1
 quarter-and-rest = ≈-trans (ratio-sum 1 3 4 four-pos) (ratio-one 4 four-pos)
 
 -- a quarter of 1.56 is at most a half
-slope-half : ratio 1 4 four-pos *ᶠ 156 /10^ 2 ≤ᶠ ratio 1 2 two-pos'
+slope-half : ratio 1 4 four-pos *ᶠ 156 /10^ 2 ≤ᶠ ratio 1 2 half-pos
 unfolding ratio _*ᶠ_ _/10^_
 slope-half = record { cross = omega arith }
 
@@ -64,7 +60,7 @@ climbed n A K {m} {m'} {bound} h b =
 module _ (n A K G W : ℕ) {σ : ℕ} {saturation m : Fraction} (n40 : 40 ≤ n) (hK : K ≤ 22 * 2 ^ 41) (hσ : σ ≤ 369 * 2 ^ 40)
     (top : along A K saturation ≤ᶠ whole 0) (full : Within (2 ^ 40) σ 1 saturation) (c : Balanced n A K G W saturation m)
   where
-    -- what is kept, up to saturation, and what is lost there, in units of 2⁻³²
+    -- the net load, up to saturation, and the computed loss there, in units of 2⁻³²
     abbrev l : ℕ
     l = min σ G
 
@@ -128,26 +124,26 @@ module _ (n A K G W : ℕ) {σ : ℕ} {saturation m : Fraction} (n40 : 40 ≤ n)
         (≤-trans (≈→≤ (units-sum (found + 1025) 32934)) (units-≤ (omega arith)))))
 
     -- m is not below the load with the exact loss, where G and what is lost are at most m
-    module _ (h : lost n A K m +ᶠ units G ≤ᶠ m) (kept : l ≡ G) where
+    module _ (h : lost n A K m +ᶠ units G ≤ᶠ m) (net-is : l ≡ G) where
       abbrev back : Fraction
       back = raised -ᶠ m
 
-      half-way : m ≤ᶠ raised → raised ≤ᶠ m +ᶠ ratio 1 2 two-pos' *ᶠ back
+      half-way : m ≤ᶠ raised → raised ≤ᶠ m +ᶠ ratio 1 2 half-pos *ᶠ back
       half-way g =
           let d0 : NonNegative back = sub-nonNegative g in
           let b0 : NonNegative (156 /10^ 2) = decimal-nonNegative 156 2 in
-          let slope : rising K *ᶠ back *ᶠ 156 /10^ 2 ≤ᶠ ratio 1 2 two-pos' *ᶠ back =
+          let slope : rising K *ᶠ back *ᶠ 156 /10^ 2 ≤ᶠ ratio 1 2 half-pos *ᶠ back =
           ≤-trans (≈→≤ (*-swap (rising K) back (156 /10^ 2)))
           (*-mono-left d0 (≤-trans (*-mono-left b0 (quarter K hK)) slope-half)) in
-          let lost-more : loss-exact ≤ᶠ lost n A K m +ᶠ ratio 1 2 two-pos' *ᶠ back =
+          let lost-more : loss-exact ≤ᶠ lost n A K m +ᶠ ratio 1 2 half-pos *ᶠ back =
           ≤-trans loss-low (≤-trans (climbed n A K g loss-steep) (+-mono (≤-refl _) slope)) in
-          let all : units l +ᶠ lost n A K m ≤ᶠ m = ≤-trans (≈→≤ (+-comm _ _)) (rw kept h) in
+          let all : units l +ᶠ lost n A K m ≤ᶠ m = ≤-trans (≈→≤ (+-comm _ _)) (rw net-is h) in
           ≤-trans (+-mono (≤-refl (units l)) lost-more) (≤-trans (≈→≥ (+-assoc _ _ _)) (+-mono all (≤-refl _)))
 
       not-back : m ≤ᶠ raised → raised ≤ᶠ m
       not-back g =
           let none : back ≤ᶠ whole 0 =
-          solve-most (ratio 1 2 two-pos') back (ratio-positive two-pos' (omega arith)) half-and-half {x = whole 0} {z = whole 0}
+          solve-most (ratio 1 2 half-pos) back (ratio-positive half-pos (omega arith)) half-and-half {x = whole 0} {z = whole 0}
           (≈→≥ (≈-trans (*-comm _ _) (*-zero _))) (≤-trans (≤-sub m _ (half-way g)) (≈→≥ (+-zero _))) in
           ≤-trans (sub-≤ raised m none) (≈→≤ (+-zero m))
 
@@ -167,7 +163,7 @@ module _ (n A K G W : ℕ) {σ : ℕ} {saturation m : Fraction} (n40 : 40 ≤ n)
         ])
 
     -- m is near the load with the computed loss, where that is below saturation
-    module _ (kept : l ≡ G) (g : units (l + found) ≤ᶠ m) where
+    module _ (net-is : l ≡ G) (g : units (l + found) ≤ᶠ m) where
       abbrev way : Fraction
       way = m -ᶠ units (l + found)
 
@@ -181,7 +177,7 @@ module _ (n A K G W : ℕ) {σ : ℕ} {saturation m : Fraction} (n40 : 40 ≤ n)
           ≤-trans (c .near)
           (≤-trans (+-mono lost-near (≤-refl _))
           (≤-trans (≈→≤ (units-fold _ _ (G + W + 1)))
-          (≤-trans (+-mono (≤-refl _) (units-≤ {k = W + 33960 + (l + found)} (omega (arith, kept))))
+          (≤-trans (+-mono (≤-refl _) (units-≤ {k = W + 33960 + (l + found)} (omega (arith, net-is))))
           (≈→≤ (≈-trans (≈-sym (units-fold _ (W + 33960) (l + found))) (+-comm _ _))))))
 
       way-most : way ≤ᶠ units (loadedWidth W)

@@ -1,22 +1,19 @@
--- The computed loss y·Θ(b·s·y) is at most the exact one, and near it: so the starting load lies at most `loadedWidth` above the computed one.
+-- The computed loss y·Θ(b·s·y) is at most the exact loss at the starting load, and near it.
 -- Assumes nothing.
-use mathlib.Core.Path.{_≡_, refl}
-use Prim.Native.Nat.{ℕ, _+_, _*_, _-_, _/_, _%_, _^_, _≤_, _<_, min}
-use native.Mathlib.Decide.{decLe}
+use Prim.Native.Nat.{ℕ, _+_, _*_, _-_, _/_, _^_, _≤_, _<_}
 use native.Mathlib.Omega.{arith}
-use native.Mathlib.Nat.{mul-le-mul-left, mul-le-mul-right, mul-le-mul, div-mul-le-self}
+use native.Mathlib.Nat.{mul-le-mul-right, mul-le-mul, div-mul-le-self}
 use lib.Dec.{lit≤}
-use Rattle.numbers.specs.Fraction.{Fraction, _≤ᶠ_, _≈ᶠ_, _+ᶠ_, _-ᶠ_, _*ᶠ_, whole, _/10^_}
-use Rattle.numbers.proofs.Order.{NonNegative, Positive, positive→nonNegative, either, ≤-refl, ≤-trans, ≈-refl, ≈-sym, ≈-trans, ≈→≤, ≈→≥}
-use Rattle.numbers.proofs.Order.{+-mono, +-cong, +-comm, +-assoc, +-zero, +-grows, +-nonNegative, sub-nonNegative, ≤-sub, regain, *-mono, *-mono-left, *-mono-right, *-cong}
-use Rattle.numbers.proofs.Order.{*-comm, *-assoc, *-one, *-zero, *-distrib, +-times, *-nonNegative, solve-most, ratio, ratio-≤, ratio-≈}
-use Rattle.numbers.proofs.Order.{ratio-nonNegative, ratio-positive, ratio-sum, ratio-product, ratio-one}
-use Rattle.bounds.specs.Series.{E, two-pos}
+use Rattle.numbers.specs.Fraction.{Fraction, _≤ᶠ_, _+ᶠ_, _*ᶠ_, whole, _/10^_}
+use Rattle.numbers.proofs.Order.{NonNegative, positive→nonNegative, ≤-refl, ≤-trans, ≈-refl, ≈-trans, ≈→≤, ≈→≥, +-mono}
+use Rattle.numbers.proofs.Order.{+-cong, +-nonNegative, *-mono, *-mono-left, *-mono-right, *-assoc, *-distrib, +-times}
+use Rattle.numbers.proofs.Order.{*-nonNegative, ratio, ratio-≤, ratio-nonNegative, ratio-product}
+use Rattle.bounds.specs.Series.{E}
 use Rattle.bounds.specs.Enclosure.{Within}
 use Rattle.bounds.specs.Short.{binary}
 use Rattle.bounds.specs.Theta.{theta, thetaExact}
-use Rattle.bounds.proofs.Laws.{E-mono, E-positive, E-to-0·44, climb-to, product-least, product-most}
-use Rattle.bounds.proofs.Laws.{theta-least, theta-near, theta-most, theta-rounded}
+use Rattle.bounds.proofs.Laws.{E-mono, E-positive, E-to-0·44, climb-to, product-least, product-most, theta-least}
+use Rattle.bounds.proofs.Laws.{theta-near, theta-most, theta-rounded}
 use Rattle.bounds.proofs.Within.{within-above, within-below, within-nonNegative}
 use Rattle.bounds.proofs.Units.{unit-pos, units, units-≤, units-sum, units-fold}
 use Rattle.bounds.proofs.Line.{double-unit-pos, rising}
@@ -40,17 +37,17 @@ feedback-most k y h g =
 
 feedback-low : (k y : ℕ) → feedback k y * 2 ^ 37 ≤ k * y
 unfolding feedback
-feedback-low k y = cut (k / 2 ^ 12) (k / 2 ^ 12 * y / 2 ^ 25) (omega arith) (omega arith)
+feedback-low k y = rounded (k / 2 ^ 12) (k / 2 ^ 12 * y / 2 ^ 25) (omega arith) (omega arith)
   where
-    cut : (p t : ℕ) → p * 2 ^ 12 ≤ k → t * 2 ^ 25 ≤ p * y → t * 2 ^ 37 ≤ k * y
-    cut p t h g = omega (arith, g, mul-le-mul-right y h)
+    rounded : (p t : ℕ) → p * 2 ^ 12 ≤ k → t * 2 ^ 25 ≤ p * y → t * 2 ^ 37 ≤ k * y
+    rounded p t h g = omega (arith, g, mul-le-mul-right y h)
 
 feedback-high : (k y : ℕ) → y ≤ 2 ^ 32 → (k + 1) * y ≤ (feedback k y + 129) * 2 ^ 37
 unfolding feedback
-feedback-high k y l = cut (k / 2 ^ 12) (k / 2 ^ 12 * y / 2 ^ 25) (omega arith) (omega arith)
+feedback-high k y l = rounded (k / 2 ^ 12) (k / 2 ^ 12 * y / 2 ^ 25) (omega arith) (omega arith)
   where
-    cut : (p t : ℕ) → k + 1 ≤ (p + 1) * 2 ^ 12 → p * y ≤ (t + 1) * 2 ^ 25 → (k + 1) * y ≤ (t + 129) * 2 ^ 37
-    cut p t h g = omega (arith, g, l, mul-le-mul-right y h)
+    rounded : (p t : ℕ) → k + 1 ≤ (p + 1) * 2 ^ 12 → p * y ≤ (t + 1) * 2 ^ 25 → (k + 1) * y ≤ (t + 129) * 2 ^ 37
+    rounded p t h g = omega (arith, g, l, mul-le-mul-right y h)
 
 -- y in units of 2⁻⁴⁰
 abbrev pub first : ℕ → Fraction
@@ -190,7 +187,8 @@ module _ (n K y : ℕ) (n40 : 40 ≤ n) (hK : K ≤ 22 * 2 ^ 41) (hy : y ≤ 2 ^
     pub x-least : x ≤ᶠ E n (z +ᶠ e)
     x-least =
         ≤-trans
-        (*-mono (positive→nonNegative (E-positive (n + n) z)) value-nonNegative (within-above unit-pos (near-y (n + n) (omega arith))) (grown-least n n40))
+        (*-mono (positive→nonNegative (E-positive (n + n) z)) value-nonNegative (within-above unit-pos (near-y (n + n) (omega arith)))
+        (grown-least n n40))
         (product-least n z e hz e-nonNegative)
 
     -- E(z + b·s·x) ≤ x and 32934 units

@@ -48,7 +48,7 @@ unfolding ratio _+ᶠ_ _*ᶠ_ _/10^_ inverse
 net-high h y G x h0 k l =
     record { cross = le-of-mul-le-mul-right {k = h} (omega (arith, mul-le-mul-right (x .den) k, l .cross)) h0 }
 
--- how far what is kept can be off, at s = 0.5
+-- how far the net load can be above the computed one, at s = 0.5
 abbrev netError : ℕ
 netError = 71514
 
@@ -56,15 +56,15 @@ netError = 71514
 abbrev pub startError : ℕ
 startError = 140633
 
--- the cuts of `net`, over bare numbers: v = 8.13·y − 22.92, t = 2·v/h
-low-cut : (h t v y G : ℕ) → v + 2292 * 10 ^ 14 ≡ 813 * y → t * h ≤ 2 * v → G * 5 ^ 16 ≤ t * 2 ^ 24
+-- rounding `net` down, over bare numbers: v = 8.13·y − 22.92, t = 2·v/h
+round-low : (h t v y G : ℕ) → v + 2292 * 10 ^ 14 ≡ 813 * y → t * h ≤ 2 * v → G * 5 ^ 16 ≤ t * 2 ^ 24
     → G * h * 10 ^ 16 + 4584 * 10 ^ 14 * 2 ^ 40 ≤ 1626 * y * 2 ^ 40
-low-cut h t v y G e k c = omega (arith, e, k, mul-le-mul-right h c)
+round-low h t v y G e k c = omega (arith, e, k, mul-le-mul-right h c)
 
 -- a margin further, from above
-high-cut : (h t v y G : ℕ) → 0 < h → v + 2292 * 10 ^ 14 ≡ 813 * y → 2 * v < t * h + h → t * 2 ^ 24 ≤ (G + 1) * 5 ^ 16
+round-high : (h t v y G : ℕ) → 0 < h → v + 2292 * 10 ^ 14 ≡ 813 * y → 2 * v < t * h + h → t * 2 ^ 24 ≤ (G + 1) * 5 ^ 16
     → 1626 * (y + margin) * 2 ^ 40 ≤ (G + netError) * h * 10 ^ 16 + 4584 * 10 ^ 14 * 2 ^ 40
-high-cut h t v y G h0 e k c = omega (arith, e, k, h0, mul-le-mul-right h c)
+round-high h t v y G h0 e k c = omega (arith, e, k, h0, mul-le-mul-right h c)
 
 module _ (h y : ℕ) (h0 : 0 < h) (y0 : 282 * 10 ^ 12 ≤ y) where
   -- net h y ≤ (8.13·y − 22.92)/s
@@ -72,7 +72,7 @@ module _ (h y : ℕ) (h0 : 0 < h) (y0 : 282 * 10 ^ 12 ≤ y) where
   unfolding net
   net-above =
       let v : ℕ = 813 * y - 2292 * 10 ^ 14 in
-      low-cut h (2 * v / h) v y (2 * v / h * 2 ^ 24 / 5 ^ 16) (omega arith) (div-mul-le-self (2 * v) h)
+      round-low h (2 * v / h) v y (2 * v / h * 2 ^ 24 / 5 ^ 16) (omega arith) (div-mul-le-self (2 * v) h)
       (div-mul-le-self (2 * v / h * 2 ^ 24) (5 ^ 16))
 
   -- and a margin further it is at most `netError` more
@@ -80,7 +80,7 @@ module _ (h y : ℕ) (h0 : 0 < h) (y0 : 282 * 10 ^ 12 ≤ y) where
   unfolding net
   net-below =
       let v : ℕ = 813 * y - 2292 * 10 ^ 14 in
-      high-cut h (2 * v / h) v y (2 * v / h * 2 ^ 24 / 5 ^ 16) h0 (omega arith) (lt-div-mul-add {a = 2 * v} h0) (next (2 * v / h))
+      round-high h (2 * v / h) v y (2 * v / h * 2 ^ 24 / 5 ^ 16) h0 (omega arith) (lt-div-mul-add {a = 2 * v} h0) (next (2 * v / h))
     where
       next : (t : ℕ) → t * 2 ^ 24 ≤ (t * 2 ^ 24 / 5 ^ 16 + 1) * 5 ^ 16
       next t = omega arith
@@ -88,13 +88,13 @@ module _ (h y : ℕ) (h0 : 0 < h) (y0 : 282 * 10 ^ 12 ≤ y) where
 start-width : loadedWidth netError ≤ startError
 start-width = lit≤ tt
 
--- a = A, 2·b·s = K and s = h/2 as they are held, number 25 at m_sat, and m_sat as it is held
+-- for a = A, 2·b·s = K and s = h/2, number 25 at m_sat, and m_sat as the program has it
 module _ (A K h σ M : ℕ) (vp s saturation T : Fraction) (ea : a vp T ≈ᶠ exponent A) (eb : b vp T *ᶠ s ≈ᶠ rising K) (es : s ≈ᶠ ratio h 2 halves-pos)
     (h0 : 0 < h) (hK : K ≤ 22 * 2 ^ 41) (hσ : σ ≤ 369 * 2 ^ 40) (top : along A K saturation ≤ᶠ whole 0)
     (full : Within (2 ^ 40) σ 1 saturation) (least : firstKilometres ≤ M)
     (most : M ≤ 10 ^ 6)
   where
-    -- what is kept, as it is computed
+    -- the computed net load
     abbrev G : ℕ
     G = net h (logLower M)
 

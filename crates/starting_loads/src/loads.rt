@@ -16,27 +16,25 @@ pub struct Balance {
     // a + 16 and 2 b s, in units of 2^-44.
     pub base: u64,
     pub growth: u64,
-    // The saturating load.
+    // The saturating load in units of 2^-40 g.
     pub saturation: u64,
 }
 
-// From units of 2^-44 to units of 2^-32, and from 2^-65 to 2^-40.
-const TWO_12: u64 = 4096;
+// The divisors from one binary unit to another: Q44 is 2^-44.
+const FROM_Q44_TO_Q32: u64 = 4096;
 
-const TWO_25: u64 = 33554432;
+const FROM_Q65_TO_Q40: u64 = 33554432;
 
-// From units of 2^-63 to units of 2^-40.
-const TWO_23: u64 = 8388608;
+const FROM_Q63_TO_Q40: u64 = 8388608;
 
-// From units of 2^-36 to units of 2^-32.
-const TWO_4: u64 = 16;
+const FROM_Q36_TO_Q32: u64 = 16;
 
 // b s y in units of 2^-40, where y is in units of 2^-32.
 fn feedback(growth: u64, y: u64) -> u64
     requires { ⌜ (growth ≤ 2 ^ 43) × (y ≤ 2 ^ 32) ⌝ }
     ensures { λ r. ⌜ (r ≡ feedback growth y) × (r ≤ 2 ^ 38) ⌝ }
 {
-    growth / TWO_12 * y / TWO_25
+    growth / FROM_Q44_TO_Q32 * y / FROM_Q65_TO_Q40
 }
 
 // The loss at the starting load, where y is the loss at the net load.
@@ -44,7 +42,7 @@ fn loss(tables: &ExpTables, growth: u64, y: u64) -> u64
     requires { ⌜ (now tables ≡ entries) × (growth ≤ 2 ^ 43) × (y ≤ 2 ^ 32) ⌝ }
     ensures { λ r. ⌜ (r ≡ loss growth y) × (r ≤ 2 ^ 41) ⌝ }
 {
-    y * theta(tables, feedback(growth, y)) / TWO_23
+    y * theta(tables, feedback(growth, y)) / FROM_Q63_TO_Q40
 }
 
 // The starting load for this net load, which is at most the saturating load.
@@ -53,7 +51,7 @@ fn loaded(tables: &ExpTables, c: Balance, net: u64) -> u64
     ensures { λ r. ⌜ r ≡ loaded (c .base) (c .growth) (c .saturation) net ⌝ }
 {
     let x = line(c.base, c.growth, net);
-    let y = short(tables, x) / TWO_4;
+    let y = short(tables, x) / FROM_Q36_TO_Q32;
     smaller(c.saturation, net + loss(tables, c.growth, y))
 }
 

@@ -1,4 +1,4 @@
-// What a mileage says of a canister's load: the part of it that is kept, in units of 2^-40 g.
+// The net load that a mileage implies, that is the starting load less the loss at it, in units of 2^-40 g.
 use bounds::exp::ExpTables;
 use thresholds::log_lower;
 ghost use mathlib.Core.Path.{_≡_};
@@ -16,7 +16,7 @@ const TWOS: u64 = 16777216;
 const FIVES: u64 = 152587890625;
 
 // (8.13 y - 22.92) / s, for 2 s = halves.
-fn kept(y: u64, halves: u64) -> u64
+fn net_from(y: u64, halves: u64) -> u64
     requires { ⌜ (282 * 10 ^ 12 ≤ y) × (y ≤ 14 * 10 ^ 14) × (0 < halves) ⌝ }
     ensures { λ r. ⌜ (r ≡ net halves y) × (r < 2 ^ 50) ⌝ }
 {
@@ -24,10 +24,10 @@ fn kept(y: u64, halves: u64) -> u64
     t / FIVES * TWOS + t % FIVES * TWOS / FIVES
 }
 
-// The load without what is lost, for a canister with 2 s = halves.
+// The net load of a canister with 2 s = halves.
 pub fn net(tables: &ExpTables, mileage: u64, halves: u64) -> u64
     requires { ⌜ (now tables ≡ entries) × (firstKilometres ≤ mileage) × (mileage ≤ 10 ^ 6) × (0 < halves) ⌝ }
     ensures { λ r. ⌜ (r ≡ netOf halves mileage) × (r < 2 ^ 50) ⌝ }
 {
-    kept(log_lower(tables, mileage), halves)
+    net_from(log_lower(tables, mileage), halves)
 }

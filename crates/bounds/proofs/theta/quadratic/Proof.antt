@@ -1,5 +1,4 @@
 -- `bounds::theta::quadratic` meets its contract.
-use native.Mathlib.Omega.{arith}
 use borrow.Author.Needs.{needs}
 use Rattle.bounds.proofs.theta.quadratic.Statement.{statement}
 use Rattle.bounds.proofs.theta.quadratic.Tie as tie

@@ -10,4 +10,4 @@ net-spec =
     tie.close
     (tie.spec
     (λ c κs. search needs) (λ c κs. search needs)
-    (λ c. (c .kept .ensures .0 ∙ ap (net _) (c .before .log-lower .ensures .0), c .kept .ensures .1)))
+    (λ c. (c .net-from .ensures .0 ∙ ap (net _) (c .before .log-lower .ensures .0), c .net-from .ensures .1)))

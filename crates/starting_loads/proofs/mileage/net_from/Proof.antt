@@ -1,12 +1,12 @@
--- `starting_loads::mileage::kept` meets its contract: the product is taken in parts that fit.
+-- `starting_loads::mileage::net_from` meets its contract: the product is taken in parts that fit.
 use mathlib.Core.Path.{_≡_}
 use Prim.Native.Nat.{ℕ, _+_, _*_, _-_, _/_, _%_, _^_, _≤_}
 use native.Mathlib.Omega.{arith}
 use native.Mathlib.Nat.{div-le-self}
 use borrow.Author.Needs.{needs}
 use Rattle.starting_loads.specs.Net.{net}
-use Rattle.starting_loads.proofs.mileage.kept.Statement.{statement}
-use Rattle.starting_loads.proofs.mileage.kept.Tie as tie
+use Rattle.starting_loads.proofs.mileage.net_from.Statement.{statement}
+use Rattle.starting_loads.proofs.mileage.net_from.Tie as tie
 
 -- ⌊t·2²⁴/5¹⁶⌋ in parts
 in-parts : (t : ℕ) → t / 152587890625 * 16777216 + t % 152587890625 * 16777216 / 152587890625 ≡ t * 2 ^ 24 / 5 ^ 16
@@ -20,8 +20,8 @@ returns : tie.Need-returns
 unfolding net
 returns c = let t = most c in (in-parts (2 * (813 * c .args .y - 229200000000000000) / c .args .halves), omega arith)
 
-pub kept-spec : {M : Type 1} → statement M
-kept-spec =
+pub net-from-spec : {M : Type 1} → statement M
+net-from-spec =
     tie.close
     (tie.spec
     (λ c. search needs) (λ c. search needs) (λ c. search needs) (λ c. search needs)
