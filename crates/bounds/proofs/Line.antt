@@ -1,4 +1,5 @@
 -- A straight line of exponents, a + b·m: how it grows with m, and how its values are compared. Nothing here speaks of E.
+-- a is given by A, an exponent; 2·b by K, in units of 10⁻¹⁴.
 -- Assumes nothing.
 use Prim.Native.Nat.{ℕ, _+_, _*_, _^_, _≤_, _<_}
 use native.Mathlib.Omega.{arith}
@@ -7,9 +8,18 @@ use Rattle.numbers.proofs.Order.{≤-refl, ≤-trans, ≈-refl, ≈-sym, ≈-tr
 use Rattle.numbers.proofs.Order.{*-mono-right, *-cong, *-assoc, *-distrib, ratio, ratio-mono, ratio-nonNegative}
 use Rattle.bounds.specs.Enclosure.{Within}
 use Rattle.bounds.specs.Exponential.{exponent}
-pub use Rattle.bounds.specs.Line.{double-unit-pos, rising}
-unfoldable pub use Rattle.bounds.specs.Line.{along}
 use Rattle.bounds.proofs.Within.{within-above, within-below, within-from}
+
+pub double-unit-pos : 0 < 2 * 10 ^ 14
+double-unit-pos = omega arith
+
+-- b
+abbrev pub rising : ℕ → Fraction
+rising K = ratio K (2 * 10 ^ 14) double-unit-pos
+
+-- a + b·m
+unfoldable pub along : ℕ → ℕ → Fraction → Fraction
+along A K m = exponent A +ᶠ rising K *ᶠ m
 
 -- a value between two enclosed ones
 pub within-between : {s l w m v u : ℕ} {x y z : Fraction} (p : 0 < s) → Within s l w x → Within s m v z → x ≤ᶠ y → y ≤ᶠ z → m + v ≤ l + u

@@ -167,7 +167,7 @@ module _ {season : Season} {row : Row} (s : SeasonInRange season) (r : RowInRang
     unfolding tenthGrams
     full-most h = omega (arith, saturation-most h)
 
-    -- from 17 km on the steps find the load
+    -- from 17 km on the load follows from the mileage
     driven-load : firstKilometres ≤ row .mileage
         → Within (2 ^ 40)
         (startUnits (binary (baseAt season row i)) (binary (growthAt season row i)) (halves (row .canister))
