@@ -21,7 +21,8 @@ CALCULUS = {"Within", "Units", "Table", "Line", "ShortLine"}
 
 # The definitions by which others speak of a series, of a root or of values computed for one.
 SERIES = {
-    "term", "S", "E", "root", "rootFrom", "coarse", "middle", "constants", "finest", "far", "farAbove", "thetas", "power",
+    "term", "S", "E", "root", "rootFrom", "coarse", "middle", "constants", "finest", "far", "farAbove",
+    "thetas", "power",
 }
 
 # Where the definitions are opened, for the examples and values that must compute; others open them through this file.
