@@ -1,7 +1,7 @@
 -- The refusals of two sheets: their lines, and how the program ends with one.
 -- Assumes nothing.
 use mathlib.Core.Bool.{Bool, true, false}
-use mathlib.Core.List.{List, _++_}
+use mathlib.Core.List.{List, [], _++_}
 use mathlib.Core.Path.{_≡_, refl, sym, _∙_, ap}
 use Prim.Native.Nat.{ℕ, _+_, _^_, _≤_, _<_}
 use native.Mathlib.Omega.{arith}
@@ -12,7 +12,7 @@ use Rattle.program.specs.Writes.{standardOutput, standardError, Writes}
 use Rattle.text.specs.Ascii.{bytes}
 use Rattle.text.specs.Lines.{pairLine}
 use Rattle.text.specs.Put.{Room, Put}
-use Rattle.text.proofs.Putting.{put-none, put-same, put-front}
+use Rattle.text.proofs.Putting.{put-front}
 use Rattle.text.proofs.LineSizes.{pair-most}
 use Rattle.sheet.specs.Limits.{longest}
 use Rattle.pooling.specs.declared.PoolAnswer.{PoolAnswer}
@@ -57,18 +57,15 @@ module _ {answer : PoolAnswer} {number place : ℕ} where
   pooled-status e = rw e refl
 
 -- It stands at the front of the buffer.
-pub none-put : (out : List ℕ) (answer : PoolAnswer) → answer ≡ Accepted → Put out 0 (refusalText answer) out 0 × (0 ≤ 67)
+pub none-told : {answer : PoolAnswer} → answer ≡ Accepted → ([] ≡ refusalText answer) × (0 ≤ 67)
 unfolding refusalText
-none-put out answer e = rw e (put-none out 0, omega arith)
+none-told e = rw e (refl, omega arith)
 
-pub told-put : {old text text' new : List ℕ} {end : ℕ} → Put old 0 text new end → text ≡ text' → length text ≤ 67
-    → Put old 0 text' new end × (end ≤ 67)
-told-put a e h = (put-same a e, omega (arith, a .end-is))
-
-pub put-first : {old text new : List ℕ} {end : ℕ} → end ≤ length old → Put old 0 text new end → take end new ≡ text
-put-first {old} {text} {new} {end} h a =
+pub told : {old text text' new : List ℕ} {end : ℕ} → Put old 0 text new end → text ≡ text' → length text ≤ 67 → 67 ≤ length old
+    → (take end new ≡ text') × (end ≤ 67)
+told {old} {text} {text'} {new} {end} a e most room =
     let end-is : end ≡ length text = omega (arith, a .end-is) in
-    rw (end-is, put-front (omega (arith, end-is)) a) (take-append-seam text (drop (length text) old))
+    (rw (end-is, put-front (omega arith) a) (take-append-seam text (drop (length text) old)) ∙ e, omega (arith, end-is))
 
 -- what is asked of a refusal, of the answer that is at hand
 pub as-answered : {answer found : PoolAnswer} {text : List ℕ} → answer ≡ found → statusOf answer ≡ 1 → text ≡ refusalText answer
@@ -76,16 +73,16 @@ pub as-answered : {answer found : PoolAnswer} {text : List ℕ} → answer ≡ f
 as-answered e s t = rw (← e) (s, t)
 
 -- How the program ends with two sheets that were read.
-module _ (n : ℕ) (first : List ℕ) (m : ℕ) (second : List ℕ) (taken : Taken 1 n first × Taken 2 m second) where
+module _ (n : ℕ) (first : List ℕ) (m : ℕ) (second : List ℕ) (read : Taken 1 n first × Taken 2 m second) where
   sheets : Sheets (take n first) (take m second)
   sheets = record {
     n = n;
     first = first;
-    first-taken = taken .0;
+    first-taken = read .0;
     first-is = refl;
     m = m;
     second = second;
-    second-taken = taken .1;
+    second-taken = read .1;
     second-is = refl;
   }
 

@@ -5,13 +5,13 @@
 use pooling::PoolAnswer;
 use pooling_calls::length::pool_length;
 use program::LONGEST;
+use program::NEITHER;
 use program::ROOM;
 use text::lines::put_pair;
 ghost use mathlib.Core.Path.{_≡_};
 ghost use Prim.Native.Nat.{_≤_};
 ghost use lib.ListN.{length, take};
 ghost use Rattle.program.specs.Reads.{Taken};
-ghost use Rattle.text.specs.Put.{Put};
 ghost use Rattle.sheet.specs.Limits.{longest};
 ghost use Rattle.pooling.specs.declared.PoolAnswer.the-variants.{Accepted};
 ghost use Rattle.pooling.specs.Pool.{pool};
@@ -21,9 +21,6 @@ ghost use Rattle.pool_run.specs.Ran.{PoolRan};
 
 // The bytes of the longest line of a refusal: 22 + 20 + 4 + 20 + 1.
 const LINE: usize = 67;
-
-// The exit status where the answer was not given.
-const NEITHER: u32 = 2;
 
 // Writes what `requires` says and nothing else: the pooled sheet of two that were read and pool.
 fn write_pool(first: &[u8], n: usize, second: &[u8], m: usize, bytes: &[u8]) -> u32
@@ -52,15 +49,34 @@ fn write_refusal(first: &[u8], n: usize, second: &[u8], m: usize, text: &[u8]) -
     NEITHER
 }
 
-// The line of a refusal, at the front of a buffer.
+// The line of a refusal, at the front of a buffer that has room for it; the answer is its length.
 fn put_answer(line: &mut [u8], answer: PoolAnswer) -> usize
-    ensures { λ r. ⌜ Put (now (line .entry)) 0 (refusalText answer) (now (line .exit)) r × (r ≤ 67) ⌝ }
+    requires { ⌜ 67 ≤ length (now line) ⌝ }
+    ensures { λ r. ⌜ (take r (now (line .exit)) ≡ refusalText answer) × (r ≤ 67) ⌝ }
 {
     match answer {
         PoolAnswer::Accepted => 0,
-        PoolAnswer::First(number, place) => put_pair(line, b"first sheet: refused ", number, b" at ", place),
-        PoolAnswer::Second(number, place) => put_pair(line, b"second sheet: refused ", number, b" at ", place),
-        PoolAnswer::Pooled(number, place) => put_pair(line, b"pooled sheet: refused ", number, b" at ", place),
+        PoolAnswer::First(number, place) => put_pair(
+            line,
+            b"first sheet: refused ",
+            number,
+            b" at ",
+            place,
+        ),
+        PoolAnswer::Second(number, place) => put_pair(
+            line,
+            b"second sheet: refused ",
+            number,
+            b" at ",
+            place,
+        ),
+        PoolAnswer::Pooled(number, place) => put_pair(
+            line,
+            b"pooled sheet: refused ",
+            number,
+            b" at ",
+            place,
+        ),
     }
 }
 

@@ -1,10 +1,9 @@
 -- `pool_run::refuse` meets its contract: the line that it hands on is that of the answer.
 -- Assumes nothing.
 use mathlib.Core.Path.{sym}
-use native.Mathlib.Omega.{arith}
 use borrow.Author.Needs.{needs}
 use lib.Seq.{length-take-le}
-use Rattle.pool_run.proofs.Refusing.{put-first, as-answered}
+use Rattle.pool_run.proofs.Refusing.{as-answered}
 use Rattle.pool_run.proofs.refuse.Statement.{statement}
 use Rattle.pool_run.proofs.refuse.Tie as tie
 
@@ -19,7 +18,7 @@ write-refusal-requires c κs =
     let put = c .before .before in
     let start = put .before .before .before .before in
     let asked = start .pre .1 in
-    (start .pre .0, as-answered (asked .0) (asked .1) (put-first (omega (arith, put .put-answer .ensures .1)) (put .put-answer .ensures .0)))
+    (start .pre .0, as-answered (asked .0) (asked .1) (put .put-answer .ensures .0))
 
 pub refuse-spec : {M : Type 1} → statement M
 refuse-spec =
