@@ -53,7 +53,8 @@ def law_faults(place: str, text: str) -> Iterator[str]:
     if "Rattle.program" not in code:
         return
     for name in sorted(set(LAW.findall(code))):
-        yield "%s names `%s`: that is for the functions of program that read and write, and for no other" % (place, name)
+        yield "%s names `%s`: that is for the functions of program that read and write, and for no other" % (
+            place, name)
     if any(path in ("", ".specs") or (path in WHOLE and not names) for path, names in USE.findall(code)):
         yield "%s uses the whole of program's Reads or Writes: it names what it uses of it, in braces" % place
 

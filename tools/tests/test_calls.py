@@ -93,7 +93,8 @@ class Programs(unittest.TestCase):
 
     def test_an_answer_more_or_less(self):
         line = "    answer(&bytes, n)\n"
-        for wrong in ("    answer(&bytes, n);\n" + line, "    NEITHER\n", "    while answer(&bytes, n) == 2 {}\n    0\n",
+        for wrong in ("    answer(&bytes, n);\n" + line, "    NEITHER\n",
+                      "    while answer(&bytes, n) == 2 {}\n    0\n",
                       "    io::write_all(1, &bytes[..n]);\n" + line, "    program::write_out(&bytes);\n" + line):
             text = program("report")
             self.assertEqual(text.count(line), 1)
@@ -110,7 +111,8 @@ class Programs(unittest.TestCase):
         self.assertNotEqual(self.faults("report", text), [])
 
     def test_a_main_is_one_call(self):
-        for body, few in (("    report_run::evp_run();\n", True), ("", False), (2 * "    report_run::evp_run();\n", False),
+        call = "    report_run::evp_run();\n"
+        for body, few in ((call, True), ("", False), (2 * call, False),
                           ("    species_run::evp_run();\n", False)):
             found = list(calls.main_faults("report", "// The program.\nfn main() {\n%s}\n" % body))
             self.assertEqual(found == [], few, body)
