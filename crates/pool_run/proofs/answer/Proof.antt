@@ -18,22 +18,26 @@ slice-aggregate-b : tie.Need-slice-aggregate-b
 slice-aggregate-b c = counted _ _ _ (c .before .before .before .before .pre .1) .1
 
 pool-length-requires : tie.Need-pool-length-requires
-pool-length-requires c κs = pools (c .before .before .before .pool .ensures) (cc) .regions
+pool-length-requires c κs = pools (c .before .before .before .pool .ensures) (c .enum-told .given .1) .regions
 
 array-share-prefix-out : tie.Need-array-share-prefix-out
-array-share-prefix-out c = omega (arith, pools (c .before .before .before .before .pool .ensures) (cc) .fits)
+array-share-prefix-out c =
+    let told = c .before in
+    omega (arith, pools (told .before .before .before .pool .ensures) (told .enum-told .given .1) .fits)
 
 slice-aggregate-write-pool : tie.Need-slice-aggregate-write-pool
 slice-aggregate-write-pool c =
-    let p = pools (c .before .before .before .before .before .pool .ensures) (cc) in
+    let told = c .before .before in
+    let p = pools (told .before .before .before .pool .ensures) (told .enum-told .given .1) in
     rw (c .before .pool-length .ensures) (ap length (sym (p .first)))
 
 write-pool-requires : tie.Need-write-pool-requires
 write-pool-requires c κs =
-    let called = c .before .before .before .before .before in
-    let p = pools (called .pool .ensures) (cc) in
+    let told = c .before .before in
+    let called = told .before .before .before in
+    let p = pools (called .pool .ensures) (told .enum-told .given .1) in
     let start = called .before .before .before .before .before .before in
-    (start .pre, (sym (called .pool .ensures .answer-is) ∙ c .before .before .enum-told .given .1, rw (c .before .pool-length .ensures) (p .first)))
+    (start .pre, (sym (called .pool .ensures .answer-is) ∙ told .enum-told .given .1, rw (c .before .pool-length .ensures) (p .first)))
 
 refuse-requires : tie.Need-refuse-requires
 refuse-requires c κs =
