@@ -139,8 +139,8 @@ class RefusalTest(unittest.TestCase):
         self.assertEqual(shown.fault, "")
 
     def test_indices_differ(self):
-        error = ("A.antt:10:13: error: `returns`: computed as far as they go, the two indices are `2` (the constructor's) "
-                 "and `1` (the expected type's) this `unread` lands at index `2`")
+        error = ("A.antt:10:13: error: `returns`: computed as far as they go, the two indices are "
+                 "`2` (the constructor's) and `1` (the expected type's) this `unread` lands at index `2`")
         self.assertEqual(edits.refusal(LOG % error, "").said.partition(": ")[0],
                          "refused by a fact, two indices that differ")
 
