@@ -9,17 +9,23 @@ use Rattle.pool_run.proofs.put_answer.Tie as tie
 put-pair-requires : tie.Need-put-pair-requires
 put-pair-requires c κs =
     let bound = c .before .before .before .known-told .given in
-    line-room _ _ _ (omega arith) (bound .0 .1) (bound .1 .0 .1)
+    let first = bound .0 .1 in
+    let second = bound .1 .0 .1 in
+    line-room _ _ _ (omega arith) (omega arith) (omega arith)
 
 put-pair-requires-2 : tie.Need-put-pair-requires-2
 put-pair-requires-2 c κs =
     let bound = c .before .before .before .known-told2 .given in
-    line-room _ _ _ (omega arith) (bound .0 .1) (bound .1 .0 .1)
+    let first = bound .0 .1 in
+    let second = bound .1 .0 .1 in
+    line-room _ _ _ (omega arith) (omega arith) (omega arith)
 
 put-pair-requires-3 : tie.Need-put-pair-requires-3
 put-pair-requires-3 c κs =
     let bound = c .before .before .before .known-told3 .given in
-    line-room _ _ _ (omega arith) (bound .0 .1) (bound .1 .0 .1)
+    let first = bound .0 .1 in
+    let second = bound .1 .0 .1 in
+    line-room _ _ _ (omega arith) (omega arith) (omega arith)
 
 returns : tie.Need-returns
 returns c = none-told (c .enum-told .given .1)
@@ -29,27 +35,33 @@ returns-2 c =
     let call = c .before .before in
     let known = call .before .before .before .before in
     let bound = known .known-told .given in
+    let first = bound .0 .1 in
+    let second = bound .1 .0 .1 in
     let start = known .before .before .before .before in
     told (call .put-pair .ensures) (first-text (known .before .answer .given .1))
-    (line-most _ _ _ (omega arith) (bound .0 .1) (bound .1 .0 .1)) (start .pre)
+    (line-most _ _ _ (omega arith) (omega arith) (omega arith)) (start .pre)
 
 returns-3 : tie.Need-returns-3
 returns-3 c =
     let call = c .before .before in
     let known = call .before .before .before .before in
     let bound = known .known-told2 .given in
+    let first = bound .0 .1 in
+    let second = bound .1 .0 .1 in
     let start = known .before .before .before .before in
     told (call .put-pair2 .ensures) (second-text (known .before .answer2 .given .1))
-    (line-most _ _ _ (omega arith) (bound .0 .1) (bound .1 .0 .1)) (start .pre)
+    (line-most _ _ _ (omega arith) (omega arith) (omega arith)) (start .pre)
 
 returns-4 : tie.Need-returns-4
 returns-4 c =
     let call = c .before .before in
     let known = call .before .before .before .before in
     let bound = known .known-told3 .given in
+    let first = bound .0 .1 in
+    let second = bound .1 .0 .1 in
     let start = known .before .before .before .before in
     told (call .put-pair3 .ensures) (pooled-text (known .before .answer3 .given .1))
-    (line-most _ _ _ (omega arith) (bound .0 .1) (bound .1 .0 .1)) (start .pre)
+    (line-most _ _ _ (omega arith) (omega arith) (omega arith)) (start .pre)
 
 pub put-answer-spec : {M : Type 1} → statement M
 put-answer-spec =
