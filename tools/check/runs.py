@@ -1,10 +1,10 @@
 """The programs `report`, `species` and `pool`, run on many sheets.
 
 No contract can say what a program reads and writes, so that runs show it: each
-answers each sheet once and whole, by standard input and by a named file alike. The
-answer of a refused sheet is that of the reference calculation, number and place. A
-report has a line for each row and the sums of its rows; the species are those of its
-last word.
+answers each sheet once and whole, by standard input and by a named file alike, with
+the exit status of its answer. The answer of a refused sheet is that of the reference
+calculation, number and place. A report has a line for each row and the sums of its
+rows; the species are those of its last word.
 """
 
 import subprocess
@@ -26,6 +26,8 @@ ROW_WORDS = 6
 CATEGORIES = {"cars": (1, 2, 3), "light": (4,), "two": (5, 6, 7, 8, 9)}  # the classes of each
 REFUSED_EACH, ACCEPTED_EACH = 20, 10  # of the vectors every so many are run
 LEAST = {"refused": 100, "accepted": 70, "pairs": 100}
+ANSWERED, REFUSED, NEITHER = 0, 1, 2  # the exit statuses
+LINK = "bash c/programs links the programs with their exit status"
 
 
 class Run(NamedTuple):
@@ -153,6 +155,7 @@ def sheet_faults(run: Run, folder: Path) -> Iterator[str]:
     file = folder / "sheet.evp"
     file.write_bytes(run.data)
     report, said, status = answered(BIN / "report", data=run.data)
+    expected_status = ANSWERED if run.refusal is None else REFUSED
     if run.refusal is not None:
         if report != refusal_text(run.refusal):
             yield "report, %s: %r in place of %r" % (run.words, report[:60], refusal_text(run.refusal))
@@ -163,11 +166,13 @@ def sheet_faults(run: Run, folder: Path) -> Iterator[str]:
             yield "report, %s: %s" % (run.words, fault)
             return
         listed = species.text(layout.version_of(run.data), int(report.split()[-1])).encode()
-    if said or status:
-        yield "report, %s: status %d, %r on standard error" % (run.words, status, said)
+    if said or status != expected_status:
+        yield "report, %s: status %d in place of %d (%s), %r on standard error" % (
+            run.words, status, expected_status, LINK, said)
+        return
     for name, expected in (("report", report), ("species", listed)):
         for words, data in (((), run.data), ((file,), b"")):
-            if answered(BIN / name, words, data) != (expected, b"", 0):
+            if answered(BIN / name, words, data) != (expected, b"", expected_status):
                 yield "%s, %s, %s: another answer" % (name, run.words, "by a file" if words else "on standard input")
 
 
@@ -179,18 +184,19 @@ def piece_faults(runs: Iterable[Run]) -> Iterator[str]:
                 yield "%s, %s: another answer where it comes in pieces" % (name, run.words)
     for name in ("report", "species"):
         with open("/dev/full", "wb") as full:
-            said = subprocess.run([BIN / name], input=b"", stdout=full, stderr=subprocess.PIPE, timeout=60).stderr
-        if said.decode() != "%s: cannot write standard output\n" % name:
-            yield "%s: %r on standard error where nothing can be written" % (name, said)
+            done = subprocess.run([BIN / name], input=b"", stdout=full, stderr=subprocess.PIPE, timeout=60)
+        if (done.stderr.decode(), done.returncode) != ("%s: cannot write standard output\n" % name, NEITHER):
+            yield "%s: status %d, %r on standard error where nothing can be written" % (
+                name, done.returncode, done.stderr)
 
 
 def pair_answer(first: bytes, second: bytes) -> tuple[bytes, bytes, int]:
     """What `pool` is to write for two sheets, by the reference calculation."""
     refusal = pool.check(first, second, LONGEST)
     if refusal is None:
-        return pool.pooled(first, second), b"", 0
+        return pool.pooled(first, second), b"", ANSWERED
     sheet, number, place = refusal
-    return b"", ("%s sheet: refused %d at %d\n" % (pool.NAMES[sheet], number, place)).encode(), 0
+    return b"", ("%s sheet: refused %d at %d\n" % (pool.NAMES[sheet], number, place)).encode(), REFUSED
 
 
 def all_pairs() -> list[tuple[str, bytes, bytes]]:
@@ -210,8 +216,8 @@ def pair_faults(pairs: Iterable[tuple[str, bytes, bytes]], folder: Path) -> Iter
             file.write_bytes(data)
         found, expected = answered(BIN / "pool", files), pair_answer(*both)
         if found != expected:
-            yield "pool, %s: %r in place of %r" % (words, [part[:60] for part in found[:2]],
-                                                   [part[:60] for part in expected[:2]])
+            yield "pool, %s: %r in place of %r" % (words, [*(part[:60] for part in found[:2]), found[2]],
+                                                   [*(part[:60] for part in expected[:2]), expected[2]])
     missing = folder / "missing.evp"
     not_there = b"pool: cannot open %s: No such file or directory\n" % str(missing).encode()
     usage = b"usage: pool FIRST SECOND\n"
@@ -220,8 +226,8 @@ def pair_faults(pairs: Iterable[tuple[str, bytes, bytes]], folder: Path) -> Iter
         ([missing, files[1]], not_there), ([files[0], missing], not_there),
     ]
     for given, said in wrong:
-        if answered(BIN / "pool", given) != (b"", said, 0):
-            yield "pool with %d arguments: it does not write %r alone" % (len(given), said)
+        if answered(BIN / "pool", given) != (b"", said, NEITHER):
+            yield "pool with %d arguments: it does not write %r alone, with status %d" % (len(given), said, NEITHER)
 
 
 def few(counts: Counts) -> Iterator[str]:

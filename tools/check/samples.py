@@ -9,8 +9,9 @@ wrong call, a file that is not there and a folder must be said on standard error
 Then all three programs are run on sheets of the vectors and pairs of them, accepted
 and refused, empty and longest: each must write one answer (tools/check/runs.py).
 
-The programs are target/bin/report, target/bin/species and target/bin/pool, as
-`rt check report species pool` or `rt ci` made them.
+The exit status must be 0 for an answer, 1 for a refusal and 2 for neither. The
+programs are target/bin/report, target/bin/species and target/bin/pool, as c/programs
+links them after `rt check report species pool` or `rt ci`.
 """
 
 import re
@@ -19,6 +20,7 @@ import tempfile
 from collections.abc import Iterator, Sequence
 from pathlib import Path
 
+from tools.check.runs import ANSWERED, LINK, NEITHER, REFUSED
 from tools.command import SAMPLES, TOP
 from tools.reckoning import species
 
@@ -30,23 +32,25 @@ INDENT = "    "
 
 
 def printed(program: Path, data: bytes) -> bytes:
-    """What a program prints for a sheet; it must say nothing else."""
+    """What a program prints for a sheet; it must say nothing else, and end with the status of that."""
     run = subprocess.run([program], input=data, capture_output=True, timeout=60)
-    if run.returncode or run.stderr:
-        raise ValueError("%s: status %d, %r on standard error" % (program.name, run.returncode, run.stderr))
+    status = REFUSED if run.stdout.startswith(b"refused ") else ANSWERED
+    if run.returncode != status or run.stderr:
+        raise ValueError("%s: status %d in place of %d (%s), %r on standard error" % (
+            program.name, run.returncode, status, LINK, run.stderr))
     return run.stdout
 
 
-def named(program: Path, *words: str | Path) -> tuple[bytes, str]:
-    """What a program prints for its arguments, and what it says on standard error."""
+def named(program: Path, *words: str | Path) -> tuple[bytes, str, int]:
+    """What a program prints for its arguments, what it says on standard error, and its exit status."""
     run = subprocess.run([program, *words], stdin=subprocess.DEVNULL, capture_output=True, timeout=60)
-    return run.stdout, run.stderr.decode()
+    return run.stdout, run.stderr.decode(), run.returncode
 
 
 def argument_faults(program: Path, sheets: Sequence[Path]) -> Iterator[str]:
     """What a program does otherwise than it should with its arguments."""
     for sheet in sheets:
-        if named(program, sheet) != (printed(program, sheet.read_bytes()), ""):
+        if named(program, sheet) != (printed(program, sheet.read_bytes()), "", ANSWERED):
             yield "%s samples/%s: another answer than on standard input" % (program.name, sheet.name)
     usage = "usage: %s [FILE]   without FILE the sheet is read from standard input\n" % program.name
     with tempfile.TemporaryDirectory() as folder:
@@ -57,8 +61,9 @@ def argument_faults(program: Path, sheets: Sequence[Path]) -> Iterator[str]:
             ((missing,), "%s: cannot open %s: No such file or directory\n" % (program.name, missing)),
             ((folder,), "%s: cannot read %s: Is a directory\n" % (program.name, folder)),
         ):
-            if named(program, *words) != (b"", said):
-                yield "%s %s: it does not say %r and nothing else" % (program.name, " ".join(map(str, words)), said)
+            if named(program, *words) != (b"", said, NEITHER):
+                yield "%s %s: it does not say %r and nothing else, with status %d" % (
+                    program.name, " ".join(map(str, words)), said, NEITHER)
 
 
 def blocks(text: str) -> list[str]:

@@ -138,6 +138,20 @@ class RefusalTest(unittest.TestCase):
         self.assertEqual(shown.said.partition(": ")[0], "refused by a fact, an equation whose ends differ")
         self.assertEqual(shown.fault, "")
 
+    def test_indices_differ(self):
+        error = ("A.antt:10:13: error: `returns`: computed as far as they go, the two indices are "
+                 "`2` (the constructor's) and `1` (the expected type's) this `unread` lands at index `2`")
+        self.assertEqual(edits.refusal(LOG % error, "").said.partition(": ")[0],
+                         "refused by a fact, two indices that differ")
+
+    def test_a_computed_test(self):
+        error = ("A.antt:92:20: error: `start-width`: computed as far as they go, the two sides are "
+                 "`Prim.Unit {?ℓ0}` (left) and `Prim.⊥` (right)")
+        self.assertEqual(edits.refusal(LOG % error, "").said.partition(": ")[0],
+                         "refused by a fact, a computed test that is false")
+        waiting = error.replace("`Prim.⊥`", "`Prim.Unit {0}`")
+        self.assertTrue(edits.refusal(LOG % waiting, "").said.startswith(edits.NO_COUNTEREXAMPLE))
+
     def test_values(self):
         shown = edits.refusal(LAST_LEFT_OUT, "")
         self.assertEqual(shown.said.partition(": ")[0], "refused by a fact, values at which the goal fails")

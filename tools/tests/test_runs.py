@@ -47,7 +47,11 @@ class Programs(unittest.TestCase):
         self.put("report", REPORT)
         self.put("species", self.listed)
 
-    def put(self, name: str, text: bytes, script: str = 'cat "${1:--}" > "$0.read"; cat "$0.text"'):
+    def put(self, name: str, text: bytes, script: str = "", status: int | None = None):
+        """A program that writes a text; it ends with the status of that text, or with another."""
+        if status is None:
+            status = 1 if text.startswith(b"refused") else 0
+        script = script or 'cat "${1:--}" > "$0.read"; cat "$0.text"; exit %d' % status
         (self.folder / (name + ".text")).write_bytes(text)
         (self.folder / name).write_text("#!/bin/sh\n%s\n" % script)
         (self.folder / name).chmod(0o755)
@@ -64,6 +68,21 @@ class Programs(unittest.TestCase):
                 self.put(name, wrong)
                 self.assertNotEqual(self.told(SHEET), [], (name, wrong[:20]))
             self.put(name, right)
+
+    def test_another_exit_status(self):
+        line = b"refused %d at %d\n" % reckoning.check(REFUSED)
+        for name, right in (("report", REPORT), ("species", self.listed)):
+            for status in (1, 2):
+                self.put(name, right, status=status)
+                self.assertNotEqual(self.told(SHEET), [], (name, status))
+            self.put(name, right)
+        for name in ("report", "species"):
+            self.put(name, line)
+        for name in ("report", "species"):
+            for status in (0, 2):
+                self.put(name, line, status=status)
+                self.assertNotEqual(self.told(REFUSED), [], (name, status))
+            self.put(name, line)
 
     def test_a_refused_sheet_is_refused_by_its_number_and_place(self):
         line = b"refused %d at %d\n" % reckoning.check(REFUSED)
@@ -83,14 +102,16 @@ class Programs(unittest.TestCase):
     def test_a_pool_that_takes_the_first_sheet_twice(self):
         first, second = pools.NORTH.data(), pools.SOUTH.data()
         pair = ("north and south", first, second)
-        usage = 'if [ $# != 2 ]; then echo "usage: pool FIRST SECOND" >&2; exit; fi\n' \
-            'for f; do [ -e "$f" ] || { echo "pool: cannot open $f: No such file or directory" >&2; exit; }; done\n'
+        usage = 'if [ $# != 2 ]; then echo "usage: pool FIRST SECOND" >&2; exit 2; fi\n' \
+            'for f; do [ -e "$f" ] || { echo "pool: cannot open $f: No such file or directory" >&2; exit 2; }; done\n'
         self.put("pool", runs.pair_answer(first, second)[0], usage + 'cat "$0.text"')
         self.assertEqual(list(runs.pair_faults([pair], self.folder)), [])
         self.put("pool", runs.pair_answer(first, first)[0], usage + 'cat "$0.text"')
         self.assertEqual(len(list(runs.pair_faults([pair], self.folder))), 1)
-        self.put("pool", b"first sheet: refused 1 at 0\n", usage + 'cat "$0.text" >&2')
+        self.put("pool", b"first sheet: refused 1 at 0\n", usage + 'cat "$0.text" >&2; exit 1')
         self.assertEqual(len(list(runs.pair_faults([pair], self.folder))), 1)
+        self.put("pool", runs.pair_answer(first, second)[0], usage.replace("exit 2", "exit") + 'cat "$0.text"')
+        self.assertEqual(len(list(runs.pair_faults([pair], self.folder))), 5)
 
 
 class Sheets(unittest.TestCase):

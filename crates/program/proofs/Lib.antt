@@ -1,1 +1,2 @@
 mod Taking
+pub mod Tested

@@ -1,8 +1,16 @@
-// What the programs share: a sheet read from the file that an argument names, or from standard input, and what they say
-// on standard error where they cannot. A program's name is handed in for its messages.
+// What the programs share: a sheet read from the file that an argument names, or from standard input, what they say on
+// standard error where they cannot, the write of an answer, and the exit status. A program's name is handed in for its
+// messages.
+use inventory::check::report_check;
 use libc::STDERR_FILENO;
 use libc::STDIN_FILENO;
-ghost use Rattle.program.specs.Reads.{Reads};
+use libc::STDOUT_FILENO;
+use sheet::Check;
+ghost use mathlib.Core.Bool.{false};
+ghost use mathlib.Core.Path.{_≡_};
+ghost use Rattle.program.specs.Ends.{checkStatus, sheetStatus, Answered};
+ghost use Rattle.program.specs.Reads.{Unread, Reads};
+ghost use Rattle.program.specs.Writes.{standardOutput, standardError, Writes};
 
 // The bytes of the longest sheet, of 12 seasons and 1,000 rows: 1,160 + 8 · 12 + 24 · 1,000.
 pub const LONGEST: usize = 25256;
@@ -12,6 +20,9 @@ pub const ROOM: usize = 25257;
 
 // The words of its report, 6 · 1,000 + 26.
 pub const WORDS: usize = 6026;
+
+// The exit status where a sheet could not be read, or not all of an answer could be written.
+pub const NEITHER: u32 = 2;
 
 // Whether the whole input was read, and how many bytes of it stand at the start of the buffer.
 pub struct Input {
@@ -23,6 +34,48 @@ pub struct Input {
 pub fn say(name: &[u8], what: &[u8]) {
     io::write_all(STDERR_FILENO, name);
     io::write_all(STDERR_FILENO, what);
+}
+
+// Writes a program's answer to standard output, and says whether all of it was taken.
+pub fn write_out(text: &[u8]) -> bool
+    ensures { λ r. ⌜ Writes standardOutput (now (text .entry)) r ⌝ }
+{
+    io::write_all(STDOUT_FILENO, text)
+}
+
+// The same for an answer that goes to standard error.
+pub fn write_error(text: &[u8]) -> bool
+    ensures { λ r. ⌜ Writes standardError (now (text .entry)) r ⌝ }
+{
+    io::write_all(STDERR_FILENO, text)
+}
+
+// The exit status of an answer.
+fn check_status(check: Check) -> u32
+    ensures { λ r. ⌜ r ≡ checkStatus check ⌝ }
+{
+    match check {
+        Check::Pass => 0,
+        Check::Refused(_, _) => 1,
+    }
+}
+
+// The exit status of a sheet that was answered: 0 where it is accepted, 1 where it is refused.
+fn sheet_status(s: &[u8]) -> u32
+    ensures { λ r. ⌜ r ≡ sheetStatus (now (s .entry)) ⌝ }
+{
+    check_status(report_check(s, WORDS))
+}
+
+// Writes the text of a sheet to standard output, in one piece, and answers the exit status.
+pub fn write_answer(name: &[u8], s: &[u8], text: &[u8]) -> u32
+    ensures { λ r. ⌜ Answered (now (s .entry)) (now (text .entry)) r ⌝ }
+{
+    if write_out(text) {
+        return sheet_status(s);
+    }
+    say(name, b": cannot write standard output\n");
+    NEITHER
 }
 
 // Whether the input ends here. Where a read failed before, this one fails too, or gives bytes.
@@ -137,4 +190,15 @@ pub fn read_sheet(name: &[u8], bytes: &mut [u8]) -> Input
         };
     }
     read_argument(name, 1, bytes)
+}
+
+// Whether the arguments are two, as `pool` wants them; else the usage is said.
+pub fn two_named(usage: &[u8]) -> bool
+    ensures { λ r. ⌜ (r ≡ false → Unread 1) ⌝ }
+{
+    if os::arg_count() == 3 {
+        return true;
+    }
+    io::write_all(STDERR_FILENO, usage);
+    false
 }
