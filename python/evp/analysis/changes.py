@@ -174,17 +174,17 @@ def _rows_named(rows: Sequence[Record], numbers: Iterable[int], names: Sequence[
 def _in_all(pairs: Sequence[tuple[int, Record, Record]], cells: Sequence[_Cell]) -> Iterator[Change]:
     """The vehicles of all rows that both sheets have, where several rows differ."""
     if len(cells) > 1:
-        sums = [sum(pair[side]["vehicles"] for pair in pairs) for side in (1, 2)]
-        yield Change("all rows of both sheets", "vehicles", *map(apart, sums))
+        before, after = (sum(row["vehicles"] for row in rows) for rows in list(zip(*pairs))[1:])
+        yield Change("all rows of both sheets", "vehicles", apart(before), apart(after))
 
 
 def _list_changes(a: bytes, b: bytes) -> Iterator[Change]:
     """The counts of two lists that differ."""
-    for place, what, keys, unit in ((0, "parkings that last", DURATIONS, " h"), (48, "parkings that end at", HOURS, "")):
+    lists = (0, "parkings that last %s h", DURATIONS), (48, "parkings that end at hour %s", HOURS)
+    for place, name, keys in lists:
         for key, before, after in zip(keys, layout.counts(a, place), layout.counts(b, place)):
             if before != after:
-                name = f"{what} {key}{unit}" if unit else f"{what} hour {key}"
-                yield Change("parking", name, apart(before), apart(after))
+                yield Change("parking", name % key, apart(before), apart(after))
 
 
 def _grid_changes(a: bytes, b: bytes) -> Iterator[Change]:

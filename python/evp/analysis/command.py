@@ -54,8 +54,8 @@ def add_parser(add_command: Callable[..., Any], add: Any) -> None:
                                    "folder of sheets with the year in their names")
     recalculation.add_argument("--semicolon", action="store_true", help="columns separated by ; and a decimal comma")
     sensitivity = add_command(
-        add, "sensitivity", run_sensitivity, "shows how much the uncertainty of the inputs of a sheet or series matters",
-        SENSITIVITY_EXAMPLE, "force")
+        add, "sensitivity", run_sensitivity,
+        "shows how much the uncertainty of the inputs of a sheet or series matters", SENSITIVITY_EXAMPLE, "force")
     sensitivity.add_argument("sheet", metavar="SHEET|FOLDER",
                              help="a sheet, or a folder of sheets with the year in their names")
     sensitivity.add_argument("--inputs", required=True, metavar="FILE", help="csv: which inputs are uncertain")
@@ -102,7 +102,7 @@ def _write_all(folder: str, files: dict[str, bytes], force: bool, sources: Itera
 
 
 def _require() -> None:
-    """Pages need Jinja. Workbooks need openpyxl: Debian's Python goes on where it has both, else there is no workbook."""
+    """Pages need Jinja. Workbooks need openpyxl: where Debian's Python has both it goes on, else none is made."""
     try:
         require("jinja2", "openpyxl")
     except InputError:
@@ -161,14 +161,16 @@ def _sheets(library: Library, name: str) -> list[tuple[str, bytes]]:
 
 
 def _analysis(library: Library, given: Namespace, lines: list[Uncertainty]) -> results.Analysis:
+    sheets = _sheets(library, given.sheet)
     try:
-        plans = [plan_of(name, data, lines) for name, data in _sheets(library, given.sheet)]
+        plans = [plan_of(name, data, lines) for name, data in sheets]
+        check_targets(plans, lines)
     except InputError as error:
-        label = name_shown(given.inputs) if "line " in str(error) or "where:" in str(error) else ""
-        raise InputError(f"{label}: {error}" if label and not str(error).startswith(label) else str(error)) from None
-    check_targets(plans, lines, name_shown(given.inputs))
+        raise InputError(f"{name_shown(given.inputs)}: {error}") from None
     workers = given.workers or default_workers()
-    draws = run_draws(library, plans, lines, given.draws, given.seed, workers, _Progress("draws")) if given.draws else []
+    draws = []
+    if given.draws:
+        draws = run_draws(library, plans, lines, given.draws, given.seed, workers, _Progress("draws"))
     return results.Analysis(tuple(lines), tuple(one_at_a_time(library, plan, lines) for plan in plans), tuple(draws))
 
 
@@ -233,7 +235,7 @@ def _pool_refusal(library: Library, refused: PoolRefused, names: list[str], shee
     index = refused.index
     if refused.refusal.sheet == 3 and index > 1:
         line = commands.pool_refusal(library, refused.refusal, (names[0], names[index]), (sheets[0], sheets[index]))
-        reason = line.partition(": refused ")[2].replace("the two sheets together", "the sheets together")
+        reason = line.partition(": refused ")[2].replace("the two sheets", "the sheets")
         before = ", ".join(name_shown(name) for name in names[:index])
         return f"{before} and {name_shown(names[index])}: refused {reason}"
     pair = (names[0], names[index]), (refused.pooled, sheets[index])

@@ -117,7 +117,8 @@ def _result(cells: dict[str, str]) -> tuple[Key, Result]:
 def results_of(text: str, label: str) -> Results:
     """The figures of a table of results; further columns are not read. Lines of single rows or seasons are left out."""
     first = text.split("\n", 1)[0]
-    reader = csv.DictReader(io.StringIO(text, newline=""), delimiter=";" if first.count(";") > first.count(",") else ",")
+    separator = ";" if first.count(";") > first.count(",") else ","
+    reader = csv.DictReader(io.StringIO(text, newline=""), delimiter=separator)
     missing = [name for name in NEEDED if name not in (reader.fieldnames or ())]
     if missing:
         raise InputError(f"{label}: the column {', '.join(missing)} is missing; evp years makes such a table")

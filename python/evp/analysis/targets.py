@@ -109,8 +109,8 @@ def _check_values(line: Uncertainty, values: Sequence[int], name: str) -> None:
     if len(set(values)) > 1:
         raise InputError(
             f"line {line.line}: {line.name}: the values of {name_shown(name)} differ "
-            f"({number_words(line.input, min(values))} to {number_words(line.input, max(values))}), so that one low and "
-            "high cannot be meant; write an uncertainty, or a line for each")
+            f"({number_words(line.input, min(values))} to {number_words(line.input, max(values))}), and one low and "
+            "high cannot be meant for all; write an uncertainty, or a line for each")
     if not line.low <= values[0] <= line.high:
         raise InputError(f"line {line.line}: {line.name}: {number_words(line.input, values[0])} of {name_shown(name)} "
                          f"is not between {low} and {high}")
@@ -120,7 +120,10 @@ def plan_of(name: str, data: bytes, lines: Sequence[Uncertainty]) -> Plan:
     """The values of an accepted sheet that the lines of a table move."""
     found: dict[int, tuple[str, int, list[int]]] = {}
     for number, line in enumerate(lines):
-        places = _places(line, data)
+        try:
+            places = _places(line, data)
+        except InputError as error:
+            raise InputError(f"line {line.line}: {error}") from None
         if line.kind == "values" and places:
             _check_values(line, [value for _, _, value in places], name)
         for place, field_name, value in places:
@@ -147,12 +150,12 @@ def _loads(data: bytes, found: dict[int, tuple[str, int, list[int]]]) -> list[tu
     return pairs
 
 
-def check_targets(plans: Sequence[Plan], lines: Sequence[Uncertainty], label: str) -> None:
+def check_targets(plans: Sequence[Plan], lines: Sequence[Uncertainty]) -> None:
     """InputError where a line moves nothing in any sheet."""
     used = {number for plan in plans for cell in plan.cells for number in cell.lines}
     for number, line in enumerate(lines):
         if number not in used:
-            raise InputError(f"{label}: line {line.line}: {line.name}: no row or season of the sheet has this input; "
+            raise InputError(f"line {line.line}: {line.name}: no row or season of the sheet has this input; "
                              "evp show lists the rows, and load, saturation and mileage need a canister")
 
 
