@@ -114,8 +114,19 @@ def _result(cells: dict[str, str]) -> tuple[Key, Result]:
     return key, Result(Band(low, high))
 
 
+def _put(results: Results, key: Key, result: Result) -> None:
+    """Adds a figure. A line without a mass, as that of a refused sheet, gives way to one with a mass."""
+    there = results.get(key)
+    if there is not None and there.band is not None:
+        if result.band is not None:
+            raise InputError(f"{key.region} {key.year} {key.category} {key.mechanism} is there twice")
+        return
+    results[key] = result
+
+
 def results_of(text: str, label: str) -> Results:
-    """The figures of a table of results; further columns are not read. Lines of single rows or seasons are left out."""
+    """The figures of a table of results; further columns are not read. A line without year and mass, as that of a sheet
+    without a year in its name, is left out."""
     first = text.split("\n", 1)[0]
     separator = ";" if first.count(";") > first.count(",") else ","
     reader = csv.DictReader(io.StringIO(text, newline=""), delimiter=separator)
@@ -124,16 +135,13 @@ def results_of(text: str, label: str) -> Results:
         raise InputError(f"{label}: the column {', '.join(missing)} is missing; evp years makes such a table")
     results: Results = {}
     for line in reader:
-        cells = {name: (word or "").strip() for name, word in line.items() if isinstance(name, str)
-                 and not isinstance(word, list)}
+        cells = {name: str(line.get(name) or "").strip() for name in reader.fieldnames or ()}
+        if not cells["year"] and not cells["low_mg"]:
+            continue
         try:
-            key, result = _result(cells)
+            _put(results, *_result(cells))
         except InputError as error:
             raise InputError(f"{label}: line {reader.line_num}: {error}") from None
-        if key in results:
-            raise InputError(f"{label}: line {reader.line_num}: {key.region} {key.year} {key.category} {key.mechanism} "
-                             "is there twice")
-        results[key] = result
     if not results:
         raise InputError(f"{label}: there is no line of results")
     return results

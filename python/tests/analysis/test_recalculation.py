@@ -55,6 +55,11 @@ class TestLines(unittest.TestCase):
         line, = recalculation(old, results_of(HEADER + "1990,a,total,,1,2,\n", "new"))
         self.assertEqual((line.verdict, line.note, line.difference), ("refused", "old: refused 15", None))
 
+    def test_lines_without_a_mass(self):
+        """A sheet without a year is left out, and one that was refused gives way to the one that was not."""
+        found = results_of(HEADER + ",a,,,,,x\n1990,a,,,,,x\n1990,a,total,,1,2,\n1990,a,,,,,x\n", "a.csv")
+        self.assertEqual(found, {Key("a", 1990, "total", ""): Result(Band(1, 2))})
+
     def test_faults(self):
         for text, said in (
             ("year,region\n", "the column category, mechanism, low_mg, high_mg is missing"),
