@@ -143,25 +143,22 @@ def run_recalculation(given: Namespace) -> int:
 # ------------------------------------------------------------------ sensitivity
 
 
-def _accepted(library: Library, name: str, data: bytes) -> None:
-    if library.check(data):
-        raise commands.SheetRefused(f"{name_shown(name)}: {explain(library, data).line}")
+Sheets = list[tuple[str, bytes]]
 
 
-def _sheets(library: Library, name: str) -> list[tuple[str, bytes]]:
-    """The sheets to analyse, by name: one, or those of a folder."""
+def _sheets(library: Library, name: str) -> tuple[Sheets, list[str]]:
+    """The sheets to analyse, by name: one, or those of a folder; and a line for each that is refused."""
     if name != "-" and Path(name).is_dir():
-        found = series.sheets_of(Path(name))
-        for sheet in found:
-            _accepted(library, str(sheet.path), sheet.data)
-        return [(sheet.name, sheet.data) for sheet in found]
-    data = read_sheet(name)
-    _accepted(library, name, data)
-    return [(Path(name).name if name != "-" else "standard input", data)]
+        found = [(sheet.name, str(sheet.path), sheet.data) for sheet in series.sheets_of(Path(name))]
+    else:
+        found = [(Path(name).name if name != "-" else "standard input", name, read_sheet(name))]
+    refused = [f"{name_shown(path)}: {explain(library, data).line}" for _, path, data in found if library.check(data)]
+    if len(refused) == len(found):
+        raise commands.SheetRefused("\n".join(commands.limited(refused, "refused sheets")))
+    return [(title, data) for title, _, data in found if not library.check(data)], refused
 
 
-def _analysis(library: Library, given: Namespace, lines: list[Uncertainty]) -> results.Analysis:
-    sheets = _sheets(library, given.sheet)
+def _analysis(library: Library, given: Namespace, lines: list[Uncertainty], sheets: Sheets) -> results.Analysis:
     try:
         plans = [plan_of(name, data, lines) for name, data in sheets]
         check_targets(plans, lines)
@@ -178,7 +175,8 @@ def run_sensitivity(given: Namespace) -> int:
     _require()
     from evp.analysis.pages import counts_of_draws, page_sensitivity
     lines, library = read_uncertainties(given.inputs), commands.get_library()
-    found = _analysis(library, given, lines)
+    sheets, refused = _sheets(library, given.sheet)
+    found = _analysis(library, given, lines, sheets)
     tables: dict[str, workbook.Table] = {"sensitivity": (results.EFFECT_COLUMNS, list(results.effect_lines(found)))}
     if found.draws:
         tables["summary"] = results.SUMMARY_COLUMNS, list(results.summary_lines(found))
@@ -194,7 +192,9 @@ def run_sensitivity(given: Namespace) -> int:
     if found.draws:
         print(counts_of_draws(found.draws, lines))
     print(_made(given.output, files))
-    return commands.FINE
+    for line in commands.limited(refused, "refused sheets"):
+        print(f"evp: left out: {line}", file=sys.stderr)
+    return commands.REFUSED if refused else commands.FINE
 
 
 # ------------------------------------------------------------------ sums and pools

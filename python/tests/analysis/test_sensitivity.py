@@ -264,6 +264,11 @@ class TestCommand(DeskTestCase):
         lines = list(csv.DictReader(io.StringIO(
             (self.folder / "out" / "summary.csv").read_text(encoding="utf-8-sig"))))
         self.assertEqual([line["sheet"] for line in lines], ["1990", "1991"])
+        self.put_sheet("series/1992.evp", TEXT.replace("fill=40", "fill=200"))
+        found = run("sensitivity", self.folder / "series", "--inputs", inputs, "-o", self.folder / "other")
+        self.assert_plain(found, 1)  # a refused sheet is left out, and the others go on
+        self.assertIn("evp: left out: %s/series/1992.evp: refused 15 at 120" % self.folder, found.err)
+        self.assertTrue((self.folder / "other" / "sensitivity.csv").exists())
 
     def test_without_draws(self):
         a, inputs = self.put_sheet("a.evp", TEXT), self.put("inputs.csv", SEVERAL)
