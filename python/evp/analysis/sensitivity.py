@@ -70,12 +70,17 @@ class Sensitivity:
     effects: tuple[Effect, ...]
 
 
+def _total(library: Library, data: bytes) -> Band:
+    """The total of a report, which has its last two words."""
+    return Band(*library.words(data)[-2:])
+
+
 def _end(library: Library, plan: Plan, number: int, move: Move) -> End:
     moves: list[Move | None] = [None] * len(plan.values)
     moves[number] = move
     data, limited = moved(plan, moves)
     try:
-        return End(library.report(data).total, "", bool(limited))
+        return End(_total(library, data), "", bool(limited))
     except Refusal:
         return End(None, explain(library, data).line, bool(limited))
 
@@ -111,7 +116,7 @@ def _try(library: Library, plans: Sequence[Plan], lines: Sequence[Uncertainty], 
     for plan in plans:
         data, limited = moved(plan, _moves(lines, plan, shares))
         limits |= limited
-        totals.append(library.report(data).total)
+        totals.append(_total(library, data))
     return totals, limits
 
 

@@ -4,6 +4,7 @@ from collections.abc import Callable, Sequence
 from dataclasses import dataclass
 from fractions import Fraction
 from math import floor
+from struct import pack_into
 
 from evp import layout
 from evp.analysis.uncertainty import SEASON_INPUTS, TEMPERATURES, Move, Uncertainty
@@ -18,15 +19,14 @@ OWN_LEAST = {"tank": 1, "mileage": 1}  # 0 has another meaning in these fields
 
 
 @dataclass(frozen=True)
-class Cell:
-    """A value of a sheet that lines of the table move: where it is, what it is and what it may be, in parts."""
-    place: int
-    size: int
-    signed: bool
-    value: int
+class Cells:
+    """Values of a sheet that the same lines of the table move: how they are written, what they may be, and where each
+    is with what it is, in parts."""
+    lines: tuple[int, ...]
+    form: str  # of struct
     least: int
     most: int
-    lines: tuple[int, ...]  # which lines of the table, in their order
+    values: tuple[tuple[int, int], ...]
 
 
 @dataclass(frozen=True)
@@ -35,7 +35,7 @@ class Plan:
     name: str
     data: bytes
     values: tuple[int, ...]  # the first value that each line of the table moves; 0 where there is none
-    cells: tuple[Cell, ...]
+    cells: tuple[Cells, ...]
     loads: tuple[tuple[int, int, int], ...]  # places of a load and its m_sat, and a line that moves one of them
 
 
@@ -87,16 +87,15 @@ def _value(name: str, row: Record) -> int | None:
     return row[name]
 
 
-def _places(line: Uncertainty, data: bytes) -> list[tuple[int, str, int]]:
-    """Where the values of a line are in a sheet: place, field and value."""
+def _places(line: Uncertainty, data: bytes, rows: Sequence[Record]) -> list[tuple[int, str, int]]:
+    """Where the values of a line are in a sheet with these rows: place, field and value."""
     if line.input in SEASON_INPUTS:
         chosen = _seasons_chosen(line.where)
         names = ("lowest", "highest") if line.input == TEMPERATURES else (line.input,)
         return [(layout.season_place(data, i) + PLACES[name], name, layout.season(data, i)[name])
                 for i in range(layout.season_count(data)) if chosen(i) for name in names]
     wanted, found = _rows_chosen(line.where), []
-    for i in range(layout.row_count(data)):
-        row = layout.row(data, i)
+    for i, row in enumerate(rows):
         value = _value(line.input, row) if wanted(i, row) else None
         if value is not None:
             found.append((layout.row_place(data, i) + PLACES[line.input], line.input, value))
@@ -116,30 +115,47 @@ def _check_values(line: Uncertainty, values: Sequence[int], name: str) -> None:
                          f"is not between {low} and {high}")
 
 
-def plan_of(name: str, data: bytes, lines: Sequence[Uncertainty]) -> Plan:
-    """The values of an accepted sheet that the lines of a table move."""
-    found: dict[int, tuple[str, int, list[int]]] = {}
+Found = dict[int, tuple[str, int, list[int]]]  # by place: field, value and the lines that move it
+
+
+def _found(name: str, data: bytes, lines: Sequence[Uncertainty]) -> Found:
+    found: Found = {}
+    rows = [layout.row(data, i) for i in range(layout.row_count(data))]
     for number, line in enumerate(lines):
         try:
-            places = _places(line, data)
+            places = _places(line, data, rows)
         except InputError as error:
             raise InputError(f"line {line.line}: {error}") from None
         if line.kind == "values" and places:
             _check_values(line, [value for _, _, value in places], name)
         for place, field_name, value in places:
             found.setdefault(place, (field_name, value, []))[2].append(number)
-    cells = []
+    return found
+
+
+def _cells(field_name: str, lines: tuple[int, ...], values: Sequence[tuple[int, int]]) -> Cells:
+    field = FIELDS[field_name]
+    most = field.most if field.most is not None else field.capacity[1]
+    form = "<" + {1: "b", 2: "h", 4: "i"}[field.size]
+    return Cells(lines, form if field.signed else form.upper(), OWN_LEAST.get(field_name, field.least), most,
+                 tuple(values))
+
+
+def plan_of(name: str, data: bytes, lines: Sequence[Uncertainty]) -> Plan:
+    """The values of an accepted sheet that the lines of a table move."""
+    found = _found(name, data, lines)
+    groups: dict[tuple[str, tuple[int, ...]], list[tuple[int, int]]] = {}
+    firsts: dict[int, int] = {}
     for place, (field_name, value, numbers) in sorted(found.items()):
-        field = FIELDS[field_name]
-        most = field.most if field.most is not None else field.capacity[1]
-        least = OWN_LEAST.get(field_name, field.least)
-        cells.append(Cell(place, field.size, field.signed, value, least, most, tuple(numbers)))
-    firsts = {number: cell.value for cell in reversed(cells) for number in cell.lines}
-    values = tuple(firsts.get(number, 0) for number in range(len(lines)))
-    return Plan(name, data, values, tuple(cells), tuple(_loads(data, found)))
+        groups.setdefault((field_name, tuple(numbers)), []).append((place, value))
+        for number in numbers:
+            firsts.setdefault(number, value)
+    cells = tuple(_cells(field_name, numbers, values) for (field_name, numbers), values in groups.items())
+    return Plan(name, data, tuple(firsts.get(number, 0) for number in range(len(lines))), cells,
+                tuple(_loads(data, found)))
 
 
-def _loads(data: bytes, found: dict[int, tuple[str, int, list[int]]]) -> list[tuple[int, int, int]]:
+def _loads(data: bytes, found: Found) -> list[tuple[int, int, int]]:
     """The rows whose load or m_sat is moved: a load must not pass m_sat."""
     pairs = []
     for i in range(layout.row_count(data)):
@@ -152,35 +168,40 @@ def _loads(data: bytes, found: dict[int, tuple[str, int, list[int]]]) -> list[tu
 
 def check_targets(plans: Sequence[Plan], lines: Sequence[Uncertainty]) -> None:
     """InputError where a line moves nothing in any sheet."""
-    used = {number for plan in plans for cell in plan.cells for number in cell.lines}
+    used = {number for plan in plans for cells in plan.cells for number in cells.lines}
     for number, line in enumerate(lines):
         if number not in used:
             raise InputError(f"line {line.line}: {line.name}: no row or season of the sheet has this input; "
                              "evp show lists the rows, and load, saturation and mileage need a canister")
 
 
-def _rounded(value: Fraction | float | int) -> int:
-    return floor(value + Fraction(1, 2)) if isinstance(value, Fraction) else floor(value + 0.5)
+def _together(moves: Sequence[Move | None], lines: Sequence[int]) -> tuple[Move, int] | None:
+    """The moves of several lines one after another as one, and the last line of them; None where nothing moves."""
+    factor: Fraction | float = 1
+    shift: Fraction | float = 0
+    last = -1
+    for number in lines:
+        move = moves[number]
+        if move is not None:
+            factor, shift, last = factor * move.factor, shift * move.factor + move.shift, number
+    return None if last < 0 else (Move(factor, shift), last)
 
 
 def moved(plan: Plan, moves: Sequence[Move | None]) -> tuple[bytes, set[int]]:
     """The sheet with its values moved, a move for each line of the table, rounded to what a field holds and limited to
     what it may hold; and the lines of which a value was outside its limits."""
     data, limited = bytearray(plan.data), set()
-    for cell in plan.cells:
-        value: Fraction | float | int = cell.value
-        last = -1
-        for number in cell.lines:
-            move = moves[number]
-            if move is not None:
-                value, last = move(value), number
-        if last < 0:
+    for cells in plan.cells:
+        found = _together(moves, cells.lines)
+        if found is None:
             continue
-        wanted = _rounded(value)
-        whole = min(max(wanted, cell.least), cell.most)
-        if whole != wanted:
-            limited.add(last)
-        data[cell.place:cell.place + cell.size] = whole.to_bytes(cell.size, "little", signed=cell.signed)
+        factor, shift, least, most = found[0].factor, found[0].shift + 0.5, cells.least, cells.most
+        for place, value in cells.values:
+            whole = floor(value * factor + shift)
+            if not least <= whole <= most:
+                whole = least if whole < least else most
+                limited.add(found[1])
+            pack_into(cells.form, data, place, whole)
     for load, saturation, line in plan.loads:
         if layout.number_at(data, load, 2) > layout.number_at(data, saturation, 2):
             data[load:load + 2] = data[saturation:saturation + 2]

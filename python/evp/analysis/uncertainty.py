@@ -47,9 +47,6 @@ class Move:
     factor: Fraction | float = 1
     shift: Fraction | float = 0
 
-    def __call__(self, value: Fraction | float | int) -> Fraction | float:
-        return value * self.factor + self.shift
-
 
 def _triangle(u: float) -> float:
     """The value from -1 to 1 that a symmetrical triangular distribution has at the share u."""
