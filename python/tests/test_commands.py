@@ -138,7 +138,7 @@ class CompareTest(DeskTestCase):
         found = run("compare", REGION, REGION)
         self.assertEqual(found.out,
             "A: %s\nB: %s\n\nWith bands apart, 0 of 85 figures are higher in B for certain, "
-            "and 0 lower.\n85 have the same band in both, 0 are open.\n" % (REGION, REGION))
+            "and 0 lower.\n85 have the same band in both, 0 are open.\n\nNo input differs.\n" % (REGION, REGION))
 
     def test_verdicts(self):
         """Higher or lower for certain only where the bands are apart."""

@@ -20,7 +20,7 @@ from evp.analysis.uncertainty import Uncertainty, names_of
 from evp.library import Band, Library, load
 from evp.pages.render import environment, render
 from evp.pages.words import minus
-from evp.wording import apart, counted, name_shown
+from evp.wording import apart, name_shown
 
 TEMPLATES = Path(__file__).resolve().parent / "templates"
 TONNE = 10 ** 9  # milligrams
@@ -183,9 +183,9 @@ def counts_of_draws(draws: Sequence[Draw], lines: Sequence[Uncertainty]) -> str:
     limited = sum(bool(draw.limited) for draw in draws)
     names = names_of(lines)
     which = ", ".join(name for number, name in enumerate(names) if any(number in draw.limited for draw in draws))
-    told = f"{counted(again, 'draw')} refused by the library and drawn again; "
-    return told + (f"in {apart(limited)} of {apart(len(draws))} draws a value was set to the limit of its field "
-                   f"({which})." if limited else "no value was outside the limits of its field.")
+    told = f"Tries that the library refused, and that were drawn again: {apart(again)}. "
+    return told + (f"In {apart(limited)} of {apart(len(draws))} draws a value was set to the limit of its field "
+                   f"({which})." if limited else "No value was outside the limits of its field.")
 
 
 def page_sensitivity(ones: Sequence[Sensitivity], lines: Sequence[Uncertainty], draws: Sequence[Draw], name: str,

@@ -155,10 +155,11 @@ def recalculation_lines(found: list[Recalculated], most: int = 14) -> Iterator[s
         kept = {line.key for line in ranked[:most]}
         shown_lines = [line for line in shown_lines if line.key in kept]
     yield ""
+    wide = max(len(VERDICTS[line.verdict]) for line in shown_lines)
     lines = [("", "old", "new", "difference", "%", "")]
     lines += [(name_of(line.key), mass_words(line.old), mass_words(line.new),
                signed(line.difference) if line.difference else "", percent_words(line.percent),
-               "  " + VERDICTS[line.verdict]) for line in shown_lines]
+               VERDICTS[line.verdict].ljust(wide)) for line in shown_lines]
     yield from aligned(lines, 1)
     if left_out > 0:
         yield f"{apart(left_out)} more with smaller changes; the table has them all."

@@ -254,7 +254,7 @@ class TestCommand(DeskTestCase):
         lines = list(csv.DictReader(io.StringIO((self.folder / "one" / "draws.csv").read_text(encoding="utf-8-sig"))))
         self.assertEqual([line["draw"] for line in lines], list(map(str, range(1, 41))))
         self.assertRegex(found.out, r"\n40 draws: mean [\d.]+ t, 95 % between [\d.]+ t and [\d.]+ t \(-")
-        self.assertRegex(found.out, r"\n\d+ draws? refused by the library and drawn again; ")
+        self.assertRegex(found.out, r"\nTries that the library refused, and that were drawn again: \d+\. ")
         page = (self.folder / "one" / "sensitivity.html").read_text(encoding="utf-8")
         self.assertEqual(Page(page).faults, [])
         self.assertIn("The inputs are not", page)
