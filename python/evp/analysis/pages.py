@@ -15,7 +15,7 @@ from evp.analysis.recalculation import (
     VERDICTS, Recalculated, counts_words, largest, mass_words, name_of, percent_words, totals_of,
 )
 from evp.analysis.sensitivity import Draw, End, Sensitivity, Summary, between, convergence, middle, summary_of
-from evp.analysis.telling import inputs_shown, signed, signed_mg
+from evp.analysis.telling import SAME, inputs_shown, signed, signed_mg, step_words
 from evp.analysis.uncertainty import Uncertainty, names_of
 from evp.library import Band, Library, load
 from evp.pages.render import environment, render
@@ -54,6 +54,7 @@ def changes_fragment(changes: Changes, names: tuple[str, str] = ("A", "B")) -> M
     html = _environment().get_template("changes_part.html").render(
         changes=changes, names=names, total=total if changes.steps else Band(0, 0),
         largest=biggest if len(changes.steps) > 1 else None, whole_bar=whole_bar, step_bar=step_bar,
+        step_words=lambda step: minus(step_words(step)),
         inputs=lambda step: [minus(words) for words in inputs_shown(step.changes)])
     return Markup(html)
 
@@ -197,7 +198,7 @@ def page_sensitivity(ones: Sequence[Sensitivity], lines: Sequence[Uncertainty], 
     steps = convergence(totals[last]) if draws else []
     html: str = render(
         "sensitivity.html", made=_environment(), name=name_shown(name), sheet=name_shown(ones[last].name),
-        one=ones[last], tornado=_tornado(ones[last], lines), summary=summaries[last][2] if draws else None,
+        same=SAME, one=ones[last], tornado=_tornado(ones[last], lines), summary=summaries[last][2] if draws else None,
         steps=steps, charts=[_convergence_chart(steps, width) for width in (WIDE_WIDTH, NARROW_WIDTH)] if steps else [],
         seed=seed, counts=counts_of_draws(draws, lines), summaries=summaries, share=share_words, many=len(ones))
     return html

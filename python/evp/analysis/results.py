@@ -4,7 +4,7 @@ from collections.abc import Iterator, Sequence
 from dataclasses import dataclass
 
 from evp.analysis.sensitivity import Draw, End, Sensitivity, Summary, between, convergence, middle, summary_of
-from evp.analysis.telling import signed
+from evp.analysis.telling import SAME, signed
 from evp.analysis.uncertainty import Uncertainty, names_of
 from evp.library import Band
 from evp.masses import shown
@@ -86,6 +86,8 @@ def draw_lines(found: Analysis) -> Iterator[tuple[object, ...]]:
 def _end_words(end: End, base: Band) -> str:
     if end.total is None:
         return shortened(end.refusal, 24)
+    if end.total == base:
+        return SAME
     return f"{signed(between(end.total, base))} ({float(_percent(end.total, base) or 0):+.1f} %)"
 
 

@@ -12,6 +12,7 @@ from evp.wording import apart, shortened
 
 MOST_INPUTS = 6  # lines of inputs that a group has on a screen
 MOST_NOTE = 240
+SAME = "same band"  # where no difference is seen
 
 
 def signed_mg(milligrams: int) -> str:
@@ -28,6 +29,11 @@ def signed(difference: Band) -> str:
     return f"-{shown(Band(-low, -low))} to +{shown(Band(high, high))}"
 
 
+def step_words(step: Step) -> str:
+    """What a step brings, to the digits that are certain."""
+    return signed(step.difference) if step.low or step.high else SAME
+
+
 def inputs_shown(changes: Iterable[Change], most: int = MOST_INPUTS) -> list[str]:
     """The inputs of a step, no more than a screen has room for."""
     words = [change.words for change in changes]
@@ -42,7 +48,7 @@ def changes_lines(changes: Changes) -> Iterator[str]:
     yield "What changed, one group of inputs after another in this order:"
     yield ""
     lines = [("", "about", "lows, mg", "highs, mg"), ("A", shown(changes.a.total), *map(apart, changes.a.total))]
-    lines += [(step.short, signed(step.difference), signed_mg(step.low), signed_mg(step.high))
+    lines += [(step.short, step_words(step), signed_mg(step.low), signed_mg(step.high))
               for step in changes.steps]
     lines.append(("B", shown(changes.b.total), *map(apart, changes.b.total)))
     yield from aligned(lines, 1)

@@ -5,6 +5,7 @@
 
 import sys
 import unittest
+from importlib.util import find_spec
 from pathlib import Path
 
 sys.path.append(str(Path(__file__).resolve().parents[1]))
@@ -19,6 +20,7 @@ PAGE = TOP / "docs" / "SERIES.md"
 
 
 class SeriesPageTest(unittest.TestCase):
+    @unittest.skipUnless(find_spec("jinja2") and find_spec("openpyxl"), "jinja2 or openpyxl is missing")
     def test_page(self):
         text = PAGE.read_text(encoding="utf-8")
         self.assertEqual(made(PAGE).splitlines(), text.splitlines())

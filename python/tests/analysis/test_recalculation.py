@@ -4,6 +4,7 @@ import csv
 import io
 import unittest
 from fractions import Fraction
+from importlib.util import find_spec
 
 from html_check import Page
 from support import LIBRARY, TEXT, DeskTestCase, run
@@ -78,6 +79,7 @@ class TestLines(unittest.TestCase):
             self.assertEqual(year_and_region(stem), found, stem)
 
 
+@unittest.skipUnless(find_spec("jinja2"), "jinja2 is missing")
 class TestCommand(DeskTestCase):
     def submissions(self):
         for year, text in ((1990, TEXT), (1991, TEXT)):

@@ -5,6 +5,7 @@ import io
 import math
 import unittest
 from fractions import Fraction
+from importlib.util import find_spec
 
 from html_check import Page
 from support import GRID_TEXT, LIBRARY, TEXT, DeskTestCase, run, sample
@@ -242,6 +243,7 @@ class TestSummary(unittest.TestCase):
         self.assertEqual(summary_of([Band(0, 0)] * 10).share(Band(0, 0)), 0.0)
 
 
+@unittest.skipUnless(find_spec("jinja2"), "jinja2 is missing")
 class TestCommand(DeskTestCase):
     def test_files(self):
         a, inputs = self.put_sheet("a.evp", TEXT), self.put("inputs.csv", SEVERAL)
