@@ -23,7 +23,8 @@ from evp.pages.needs import require
 from evp.tables import table_text
 from evp.wording import name_shown, quoted
 
-MOST_DRAWS = 1_000_000
+MOST_DRAWS = 100_000
+MOST_REPORTS = 2_000_000  # of all draws, which are kept in memory
 MOST_WORKERS = 1_024
 SENSITIVITY_EXAMPLE = """evp sensitivity north.evp --inputs inputs.csv -o north-sensitivity
 evp sensitivity series --inputs inputs.csv --draws 1000 --seed 1 -o out
@@ -164,6 +165,9 @@ def _analysis(library: Library, given: Namespace, lines: list[Uncertainty], shee
         check_targets(plans, lines)
     except InputError as error:
         raise InputError(f"{name_shown(given.inputs)}: {error}") from None
+    if given.draws * len(plans) > MOST_REPORTS:
+        raise InputError(f"{given.draws:,} draws of {len(plans):,} sheets are {given.draws * len(plans):,} reports, "
+                         f"and one call makes at most {MOST_REPORTS:,}; ask for fewer draws, or take fewer sheets")
     workers = given.workers or default_workers()
     draws = []
     if given.draws:

@@ -111,7 +111,8 @@ class Chart:
             path.append(f"{'L' if drawing else 'M'}{x:.1f} {y:.1f}")
             drawing = True
             if line.dots:
-                dots.append(Markup('<circle cx="{0:.1f}" cy="{1:.1f}" r="3" style="{2}"/>').format(x, y, line.dots))
+                dots.append(Markup('<circle cx="{0:.1f}" cy="{1:.1f}" r="{2}" style="{3}"/>').format(
+                    x, y, 2 if self.width == NARROW_WIDTH else 3, line.dots))
         return Markup('<path d="{0}" style="fill:none;{1}"/>{2}').format(
             "".join(path), line.style, Markup("").join(dots))
 

@@ -14,6 +14,7 @@ import os
 import signal
 from collections.abc import Callable, Iterator, Sequence
 from concurrent.futures import ProcessPoolExecutor
+from concurrent.futures.process import BrokenProcessPool
 from dataclasses import dataclass
 from multiprocessing import get_context
 from random import Random
@@ -26,7 +27,8 @@ from evp.library import Band, Library, Refusal
 
 MOST_TRIES = 200  # of one draw
 LEAST_SHARE = 2.0 ** -60  # in place of 0, which no quantile has
-CHUNKS = 8  # of the work of a process, so that all end at about the same time
+CHUNKS = 8  # of the work of a process at least, so that all end at about the same time
+MOST_REPORTS = 100  # of a chunk, so that an interrupted run ends soon
 Progress = Callable[[int, int], object]
 
 
@@ -166,8 +168,8 @@ def default_workers() -> int:
     return len(os.sched_getaffinity(0)) if hasattr(os, "sched_getaffinity") else os.cpu_count() or 1
 
 
-def _parts(draws: int, workers: int) -> Iterator[tuple[int, int]]:
-    size = max(1, math.ceil(draws / (CHUNKS * workers)))
+def _parts(draws: int, sheets: int, workers: int) -> Iterator[tuple[int, int]]:
+    size = max(1, min(math.ceil(draws / (CHUNKS * workers)), MOST_REPORTS // sheets))
     for first in range(1, draws + 1, size):
         yield first, min(first + size, draws + 1)
 
@@ -176,7 +178,7 @@ def run_draws(library: Library, plans: Sequence[Plan], lines: Sequence[Uncertain
               workers: int = 1, progress: Progress = lambda done, many: None) -> list[Draw]:
     """The draws 1 to `draws` in their order, shared among processes."""
     work = _Work(library, tuple(plans), tuple(lines), seed)
-    parts, found = list(_parts(draws, workers)), []
+    parts, found = list(_parts(draws, len(plans), workers)), []
     if workers == 1:
         for part in parts:
             found += work.run(*part)
@@ -188,6 +190,9 @@ def run_draws(library: Library, plans: Sequence[Plan], lines: Sequence[Uncertain
         for made in pool.map(_part, *zip(*parts)):
             found += made
             progress(len(found), draws)
+    except BrokenProcessPool:
+        raise InputError("a process that made draws was ended from outside, perhaps for want of memory; "
+                         "call again, or with --workers 1") from None
     finally:
         pool.shutdown(cancel_futures=True)
     return found

@@ -3,9 +3,11 @@
 import csv
 import io
 import math
+import os
 import unittest
 from fractions import Fraction
 from importlib.util import find_spec
+from unittest import mock
 
 from html_check import Page
 from support import GRID_TEXT, LIBRARY, TEXT, DeskTestCase, run, sample
@@ -35,6 +37,10 @@ def lines_of(*lines: str):
 
 def plan(text: str, *lines: str):
     return plan_of("a.evp", sheet.write(text), lines_of(*lines))
+
+
+def _end_of_the_process(first: int, end: int):
+    os._exit(9)
 
 
 def moving(text: str, *lines: str) -> int:
@@ -217,6 +223,13 @@ class TestDraws(unittest.TestCase):
         with self.assertRaisesRegex(InputError, "draw 1: 200 tries were refused, the last since a temperature is not"):
             run_draws(LIBRARY, [plan_of("a", sheet.write(text), lines)], lines, 10, 1)
 
+    def test_a_process_that_is_killed(self):
+        """It is said in a sentence; nothing waits for ever."""
+        plans = [plan_of("a", sheet.write(TEXT), self.LINES)]
+        with mock.patch("evp.analysis.sensitivity._part", _end_of_the_process):
+            with self.assertRaisesRegex(InputError, "a process that made draws was ended from outside"):
+                run_draws(LIBRARY, plans, self.LINES, 20, 1, 2)
+
     def test_limited(self):
         lines = lines_of("carburettor,row 1,%,20,,,uniform")
         found = run_draws(LIBRARY, [plan_of("a", sheet.write(TEXT), lines)], lines, 40, 1)
@@ -291,7 +304,7 @@ class TestCommand(DeskTestCase):
         found = run("sensitivity", refused, "--inputs", inputs, "-o", out)
         self.assertEqual((found.status, out.exists()), (1, False))
         self.assertIn("b.evp: refused 15 at 120", found.err)
-        for words, said in ((("--draws", 5), "not a whole number from 10 to 1,000,000"),
+        for words, said in ((("--draws", 5), "not a whole number from 10 to 100,000"),
                             (("--draws", "x"), "not a whole number"), (("--workers", 0), "not a whole number from 1")):
             found = run("sensitivity", a, "--inputs", inputs, "-o", out, *words)
             self.assert_plain(found, 2)
