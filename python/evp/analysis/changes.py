@@ -14,7 +14,9 @@ from dataclasses import dataclass, replace
 
 from evp import layout
 from evp.analysis.matching import Pair, matched_rows
-from evp.analysis.values import FIELD_NAMES, Record, Values, grid_of, row_words, sheet_of, value_words, values_of
+from evp.analysis.values import (
+    FIELD_NAMES, Names, NoNames, Record, Values, grid_of, row_words, sheet_of, value_words, values_of, with_name,
+)
 from evp.explain import explain
 from evp.files import InputError
 from evp.library import Band, Library, Refusal, Report
@@ -152,23 +154,23 @@ def _cells(pairs: Iterable[tuple[int, Record, Record]], fields: Sequence[str]) -
     return [_Cell(number, name, a[name], b[name]) for number, a, b in pairs for name in fields if a[name] != b[name]]
 
 
-def _field_changes(cells: Sequence[_Cell], what: str) -> Iterator[Change]:
+def _field_changes(cells: Sequence[_Cell], what: str, names: Sequence[str]) -> Iterator[Change]:
     """A change for each field and pair of values: seasons or rows that changed alike are named together."""
     alike: dict[tuple[str, int, int], list[int]] = {}
     for cell in cells:
         alike.setdefault((cell.field, cell.before, cell.after), []).append(cell.number)
     for (field, before, after), numbers in alike.items():
         name, unit = FIELD_NAMES[field]
-        many = "s" if len(numbers) > 1 else ""
-        yield Change(f"{what}{many} {_numbers_words(numbers)}", name, value_words(field, before),
-                     value_words(field, after), unit)
+        where = f"{what}s {_numbers_words(numbers)}" if len(numbers) > 1 else with_name(
+            f"{what} {numbers[0]}", names, numbers[0] - 1)
+        yield Change(where, name, value_words(field, before), value_words(field, after), unit)
 
 
 def _rows_named(rows: Sequence[Record], numbers: Iterable[int], names: Sequence[str]) -> Iterator[Change]:
     """Rows that are in one sheet alone."""
     for i in numbers:
-        name = f" {names[i]}" if i < len(names) and names[i] else ""
-        yield Change(f"row {i + 1}{name}", f"{row_words(rows[i])}, {counted(rows[i]['vehicles'], 'vehicle')}", "", "")
+        what = f"{row_words(rows[i])}, {counted(rows[i]['vehicles'], 'vehicle')}"
+        yield Change(with_name(f"row {i + 1}", names, i), what, "", "")
 
 
 def _in_all(pairs: Sequence[tuple[int, Record, Record]], cells: Sequence[_Cell]) -> Iterator[Change]:
@@ -208,11 +210,11 @@ def _parking_changes(a: Values, b: Values) -> list[Change]:
     return [Change("parking", "counts", *("a grid" if values.has_grid else "two lists" for values in (a, b)))]
 
 
-def _season_changes(a: Values, b: Values, group: Group) -> list[Change]:
+def _season_changes(a: Values, b: Values, group: Group, names: Sequence[str]) -> list[Change]:
     """Where the sheets have other numbers of seasons these cannot be paired, and all of them are one change."""
     if len(a.seasons) == len(b.seasons):
         pairs = [(i + 1, *pair) for i, pair in enumerate(zip(a.seasons, b.seasons))]
-        return list(_field_changes(_cells(pairs, group.fields), "season"))
+        return list(_field_changes(_cells(pairs, group.fields), "season", names))
     if group is not SEASON_GROUPS[0]:
         return []
     return [Change("seasons", "number, with their days, temperatures and vapour pressures",
@@ -225,10 +227,10 @@ def _season_changes(a: Values, b: Values, group: Group) -> list[Change]:
 class _Walk:
     """The way from A to B: `values` are those of the sheet between, whose rows are in the order of `pairs`."""
 
-    def __init__(self, a: Values, b: Values, names: tuple[Sequence[str], Sequence[str]]):
+    def __init__(self, a: Values, b: Values, names: tuple[Names, Names]):
         self.a, self.b, self.names = a, b, names
         self.values = a
-        self.pairs = matched_rows(a.rows, b.rows, *names)
+        self.pairs = matched_rows(a.rows, b.rows, names[0].rows, names[1].rows)
         self.present = [pair for pair in self.pairs if pair.a is not None]
 
     def change(self, group: Group) -> list[Change]:
@@ -250,17 +252,17 @@ class _Walk:
         kept = [(pair, row) for pair, row in zip(self.present, self.values.rows) if pair.b is not None]
         self.present = [pair for pair, _ in kept]
         self.values = replace(self.values, rows=tuple(row for _, row in kept))
-        return list(_rows_named(self.a.rows, gone, self.names[0]))
+        return list(_rows_named(self.a.rows, gone, self.names[0].rows))
 
     def _add(self) -> list[Change]:
         new = [pair for pair in self.pairs if pair.a is None]
         self.present += new
         numbers = [pair.b for pair in new if pair.b is not None]
         self.values = replace(self.values, rows=(*self.values.rows, *(self.b.rows[j] for j in numbers)))
-        return list(_rows_named(self.b.rows, numbers, self.names[1]))
+        return list(_rows_named(self.b.rows, numbers, self.names[1].rows))
 
     def _change_seasons(self, group: Group) -> list[Change]:
-        found = _season_changes(self.a, self.b, group)
+        found = _season_changes(self.a, self.b, group, self.names[0].seasons)
         if not found:
             return []
         if len(self.a.seasons) != len(self.b.seasons):
@@ -278,7 +280,7 @@ class _Walk:
             row if pair.b is None else _taken(row, self.b.rows[pair.b], group.fields)
             for pair, row in zip(self.present, self.values.rows)))
         totals = _in_all(both, cells) if "vehicles" in group.fields else iter(())
-        return [*totals, *_field_changes(cells, "row")]
+        return [*totals, *_field_changes(cells, "row", self.names[0].rows)]
 
 
 def _taken(record: Record, other: Record, fields: Sequence[str]) -> Record:
@@ -323,10 +325,10 @@ class _Steps:
         self.groups, self.changes, self.refusals = [], [], []
 
 
-def changes_of(library: Library, a: bytes, b: bytes, names_a: Sequence[str] = (),
-               names_b: Sequence[str] = ()) -> Changes:
-    """The steps from an accepted sheet to another; `names_a` and `names_b` are those of the rows, where they have
-    names. Sheets of two versions are compared in the later one."""
+def changes_of(library: Library, a: bytes, b: bytes, names_a: Names = NoNames(),
+               names_b: Names = NoNames()) -> Changes:
+    """The steps from an accepted sheet to another; `names_a` and `names_b` are those of their rows and seasons. Sheets
+    of two versions are compared in the later one."""
     walk = _Walk(values_of(a), values_of(b), (names_a, names_b))
     version = max(walk.a.version, walk.b.version)
     last = library.report(b)

@@ -17,6 +17,7 @@ from evp.analysis.recalculation import (
 from evp.analysis.sensitivity import Draw, End, Sensitivity, Summary, between, convergence, middle, summary_of
 from evp.analysis.telling import SAME, inputs_shown, signed, signed_mg, step_words
 from evp.analysis.uncertainty import Uncertainty, names_of
+from evp.analysis.values import Names, NoNames
 from evp.library import Band, Library, load
 from evp.pages.render import environment, render
 from evp.pages.words import minus
@@ -60,9 +61,10 @@ def changes_fragment(changes: Changes, names: tuple[str, str] = ("A", "B")) -> M
 
 
 def changes_table(a: bytes, b: bytes, names: tuple[str, str] = ("A", "B"), library: Library | None = None,
-                  row_names: tuple[Sequence[str], Sequence[str]] = ((), ())) -> Markup:
-    """What changed between two accepted sheets, as HTML for the inside of a page."""
-    return changes_fragment(changes_of(library or load(), a, b, *row_names), names)
+                  records: tuple[Names, Names] = (NoNames(), NoNames())) -> Markup:
+    """What changed between two accepted sheets, as HTML for the inside of a page; `records` are the names of their rows
+    and seasons."""
+    return changes_fragment(changes_of(library or load(), a, b, *records), names)
 
 
 # ------------------------------------------------------------------ recalculation

@@ -2,6 +2,7 @@
 
 from collections.abc import Sequence
 from dataclasses import dataclass
+from typing import Protocol
 
 from evp import layout
 from evp.convert import converted
@@ -30,6 +31,23 @@ FIELD_NAMES = {
     "saturation": ("saturating load (m_sat)", "g"),
     "mileage": ("mileage", "km"),
 }
+
+
+class Names(Protocol):
+    """The names of the rows and seasons of a sheet, which live beside it; empty where a record has none."""
+
+    @property
+    def seasons(self) -> Sequence[str]: ...
+
+    @property
+    def rows(self) -> Sequence[str]: ...
+
+
+@dataclass(frozen=True)
+class NoNames:
+    """Of a sheet without names."""
+    seasons: tuple[str, ...] = ()
+    rows: tuple[str, ...] = ()
 
 
 @dataclass(frozen=True)
@@ -95,6 +113,11 @@ def value_words(name: str, value: int) -> str:
     if name == "tank" and value == 0:
         return "by class"
     return number_words(name, value)
+
+
+def with_name(words: str, names: Sequence[str], i: int) -> str:
+    """A record with its name behind it: row 3 (vans)."""
+    return f"{words} ({names[i]})" if i < len(names) and names[i] else words
 
 
 def row_words(row: Record) -> str:

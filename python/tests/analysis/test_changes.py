@@ -14,7 +14,7 @@ from evp import sheet
 from evp.analysis.changes import ORDER, changes_of
 from evp.analysis.matching import Pair, matched_rows
 from evp.analysis.telling import changes_csv, changes_lines, signed
-from evp.analysis.values import sheet_of, values_of
+from evp.analysis.values import NoNames, sheet_of, values_of
 from evp.convert import converted
 from evp.library import Band
 
@@ -129,6 +129,25 @@ class TestInputs(unittest.TestCase):
 
 
 LISTED = TEXT.replace(CAR, "").replace(FITTED, "")
+
+
+class TestNames(unittest.TestCase):
+    """Names of rows and seasons, which live beside a sheet."""
+
+    def test_in_the_words(self):
+        names = NoNames(("winter", "summer"), ("vans", ""))
+        b = sheet.write(TEXT.replace("vp=60.0", "vp=62.0").replace("trips=4.80", "trips=4.60"))
+        found = changes_of(LIBRARY, sheet.write(TEXT), b, names, names)
+        self.assertEqual([step.changes[0].words for step in found.steps], [
+            "row 1 (vans): trips 4.80 → 4.60 a day", "season 2 (summer): vapour pressure 60.0 → 62.0 kPa"])
+
+    def test_rows_are_matched_by_them(self):
+        """Of two rows of one class the one whose name is gone was removed."""
+        a = sheet.write(TEXT + CAR.replace("18400", "70"))
+        b = sheet.write(LISTED + FITTED + CAR.replace("18400", "75"))
+        found = changes_of(LIBRARY, a, b, NoNames((), ("old", "new", "vans")), NoNames((), ("new", "vans")))
+        self.assertEqual([change.words for step in found.steps for change in step.changes], [
+            "row 1 (old): car below 1.4 l, conventional, 18,400 vehicles", "row 3 (vans): vehicles 70 → 75"])
 
 
 class TestRefused(unittest.TestCase):
