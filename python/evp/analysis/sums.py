@@ -12,8 +12,9 @@ from evp.show import aligned
 from evp.tables import table_text
 from evp.wording import apart, counted
 
-SENTENCE = ("The low of the sum is the sum of the lows, its high the sum of the highs: the exact sum\n"
-            "of the masses lies between. Seasons, parking and versions of the sheets may differ.")
+SENTENCE = ("The low of the sum is the sum of the lows, its high the sum of the highs:\n"
+            "the exact sum of the masses lies between. The sheets may differ in seasons,\n"
+            "parking and version.")
 
 
 class PoolRefused(Exception):

@@ -16,6 +16,7 @@ from evp.analysis.matching import Pair, matched_rows
 from evp.analysis.telling import changes_csv, changes_lines, signed
 from evp.analysis.values import NoNames, sheet_of, values_of
 from evp.convert import converted
+from evp.layout import FIELDS
 from evp.library import Band
 
 try:
@@ -52,6 +53,8 @@ class TestAdditivity(unittest.TestCase):
         self.assertEqual([step.before for step in found.steps], reports[:-1])
         groups = [group for step in found.steps for group in step.groups if group is not ORDER[0]]
         self.assertEqual(groups, sorted(groups, key=ORDER.index))
+        if a[3] == b[3]:  # else one step is another version, with which the inputs stay
+            self.assertNotIn(ORDER[0], [group for step in found.steps for group in step.groups])
         for step in found.steps:
             self.assertTrue(step.changes)
             self.assertEqual(len(step.refusals), len(step.groups) - 1)
@@ -83,6 +86,10 @@ class TestAdditivity(unittest.TestCase):
 
 
 class TestInputs(unittest.TestCase):
+    def test_every_field_is_in_one_group(self):
+        fields = [name for group in ORDER for name in group.fields]
+        self.assertEqual(sorted(fields), sorted(FIELDS))
+
     def test_alike(self):
         self.assertEqual(changes_of(LIBRARY, sample("region"), sample("region")).steps, ())
 
