@@ -11,6 +11,7 @@ import textwrap
 from collections.abc import Callable
 
 from evp import commands
+from evp.analysis import command as analysis_command
 from evp.desk import command as desk_command
 from evp.desk.ending import INTERRUPTED, drop
 from evp.files import InputError, failed
@@ -74,6 +75,7 @@ def parser() -> Parser:
     _add_sheet_commands(add)
     _add_table_commands(add)
     _add_report_commands(add)
+    analysis_command.add_parser(_add, add)
     page_command.add_parser(_add, add)
     desk_command.add_parser(_add, add)
     top.commands = add.choices
@@ -133,10 +135,11 @@ def _add_report_commands(add):
     mark.add_argument("--page", metavar="FILE", help="a page of the class for a browser, as evp page class makes it")
     mark.add_argument("--hints", action="store_true", help="guess at the reason of a wrong figure")
     compare = _add(add, "compare", commands.compare,
-                   "says which masses of two sheets differ for certain, and which way",
-                   "evp compare summer.evp derogation.evp", "json")
+                   "says which masses of two sheets differ for certain, and what each changed input brings",
+                   "evp compare summer.evp derogation.evp\nevp compare 2006.evp 2007.evp --csv", "json")
     compare.add_argument("a", metavar="A")
     compare.add_argument("b", metavar="B")
+    compare.add_argument("--csv", action="store_true", help="what changed, a line for each group of inputs, in mg")
     species = _add(add, "species", commands.species, "splits the high total of a sheet among the species of Table 3-14",
                    "evp species north.evp --csv")
     species.add_argument("sheet", metavar="SHEET")
@@ -149,10 +152,10 @@ def _add_report_commands(add):
     cells.add_argument("sheet", metavar="SHEET")
     cells.add_argument("--travel", required=True, metavar="FILE", help="csv: where the vehicles of the rows drive")
     cells.add_argument("-o", dest="output", metavar="FILE", help="csv; printed where none is given")
-    pool = _add(add, "pool", commands.pool, "pools two sheets of version 4 with the same seasons and parking",
-                "evp pool north.evp south.evp -o both.evp", "force")
-    pool.add_argument("first", metavar="FIRST")
-    pool.add_argument("second", metavar="SECOND")
+    pool = _add(add, "pool", analysis_command.run_pool,
+                "pools sheets of version 4 with the same seasons and parking; evp sum adds up others",
+                "evp pool north.evp south.evp west.evp -o country.evp", "force")
+    pool.add_argument("sheets", nargs="+", metavar="SHEET", help="two sheets or more")
     pool.add_argument("-o", dest="output", metavar="SHEET", required=True)
 
 

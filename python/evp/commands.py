@@ -10,6 +10,8 @@ from collections.abc import Iterable, Iterator
 
 from evp import library as calls
 from evp import marking, show
+from evp.analysis import telling
+from evp.analysis.changes import changes_of
 from evp.cells import cells_csv, cells_of, read_travel
 from evp.convert import converted
 from evp.explain import Explanation, call_text, explain, looks_like
@@ -305,13 +307,18 @@ def _files_made(given: Namespace, marks: list[Mark]) -> Iterator[str]:
 
 def compare(given: Namespace) -> int:
     library = get_library()
-    reports = [read_report(library, name)[1] for name in (given.a, given.b)]
-    found = show.differences(*reports)
+    sheets = [read_report(library, name) for name in (given.a, given.b)]
+    found = show.differences(*(report for _, report in sheets))
+    changes = changes_of(library, *(data for data, _ in sheets))
     if given.json:
-        print_json({"a": given.a, "b": given.b, "figures": [difference.json() for difference in found]})
+        print_json({"a": given.a, "b": given.b, "figures": [difference.json() for difference in found],
+                    "changes": telling.changes_json(changes)})
+    elif given.csv:
+        print(telling.changes_csv(changes), end="")
     else:
-        rows = len(reports[0].rows), len(reports[1].rows)
+        rows = len(changes.a.rows), len(changes.b.rows)
         say(show.comparison_lines(name_shown(given.a), name_shown(given.b), rows, found))
+        say(["", *telling.changes_lines(changes)])
     return FINE
 
 
@@ -339,20 +346,6 @@ def cells(given: Namespace) -> int:
         write_file(given.output, text.encode(), given.force, [given.sheet, given.travel])
     else:
         print(text, end="")
-    return FINE
-
-
-def pool(given: Namespace) -> int:
-    library = get_library()
-    names = given.first, given.second
-    first, second = map(read_sheet, names)
-    try:
-        pooled = library.pool(first, second)
-    except Refusal as refusal:
-        raise SheetRefused(pool_refusal(library, refusal, names, (first, second))) from None
-    write_file(given.output, pooled, given.force, names)
-    if given.output != "-":
-        print("%s: %d bytes, %s" % (name_shown(given.output), len(pooled), explain(library, pooled).line))
     return FINE
 
 

@@ -49,7 +49,8 @@ def report_lines(file: str, data: bytes, report: Report, unit: str | None = None
     yield from aligned(_table(data, report, unit), 4)
     yield ""
     yield "total %s" % shown(report.total, unit)
-    yield "Every digit is certain; --unit mg shows the bands."
+    yield "Every digit of the computation is certain; --unit mg shows the bands."
+    yield "The uncertainty of the inputs is not included: evp sensitivity estimates it."
 
 
 def _table(data: bytes, report: Report, unit: str | None) -> Iterator[tuple[str, ...]]:

@@ -25,8 +25,10 @@ class ShowTest(DeskTestCase):
         lines = run("show", REGION).out.splitlines()
         self.assertEqual(lines[0], "%s: version 1, 4 seasons, 24 rows, 582,760 vehicles" % REGION)
         self.assertEqual(lines[3].split(), "1 car < 1.4 l conv. none 18,400 10.041 t 138.04 t 74.532 t".split())
-        self.assertEqual(lines[-2:], ["total 589.57 t", "Every digit is certain; --unit mg shows the bands."])
-        self.assertEqual(len(lines), 2 + 1 + 24 + 4 + 1 + 2)
+        self.assertEqual(lines[-3:], [
+            "total 589.57 t", "Every digit of the computation is certain; --unit mg shows the bands.",
+            "The uncertainty of the inputs is not included: evp sensitivity estimates it."])
+        self.assertEqual(len(lines), 2 + 1 + 24 + 4 + 1 + 3)
         self.assertLessEqual(max(map(len, lines[1:])), 80)
 
     def test_units(self):
@@ -136,7 +138,7 @@ class CompareTest(DeskTestCase):
         found = run("compare", REGION, REGION)
         self.assertEqual(found.out,
             "A: %s\nB: %s\n\nWith bands apart, 0 of 85 figures are higher in B for certain, "
-            "and 0 lower.\n85 have the same band in both, 0 are open.\n" % (REGION, REGION))
+            "and 0 lower.\n85 have the same band in both, 0 are open.\n\nNo input differs.\n" % (REGION, REGION))
 
     def test_verdicts(self):
         """Higher or lower for certain only where the bands are apart."""

@@ -4,6 +4,7 @@ from collections import Counter
 from typing import NamedTuple
 
 from evp import layout
+from evp.analysis.pages import changes_table
 from evp.figures import GROUP_NAMES
 from evp.layout import canister_of
 from evp.library import GROUPS, MECHANISMS, Library
@@ -125,7 +126,7 @@ def page_fuels(library: Library, names: tuple[str, str], sheets: tuple[bytes, by
     return render(
         "fuels.html", served, names=[name_shown(name) for name in names], fuel=fuel, rows=rows, groups=_groups(found),
         total=total, seasons=_seasons(*sheets), counts=_counted(Counter(d.verdict for d in found)), many=len(found),
-        words=WORDS, same=sheets[0] == sheets[1],
+        words=WORDS, same=sheets[0] == sheets[1], changes=changes_table(*sheets, library=library),
         left_out=len(a.rows) - len(rows) if rows else 0, row_counts=(len(a.rows), len(b.rows)),
         most=max(1, *(band.high for report in (a, b) for group in GROUPS for band in getattr(report, group))),
         mechanisms=MECHANISMS)
