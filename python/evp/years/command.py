@@ -19,8 +19,8 @@ def _jobs(word: str) -> int:
 def add_parser(add_command: Callable[..., Any], add: Any) -> None:
     """`evp years` among the commands; `add_command` is that of cli."""
     years = add_command(add, "years", run_years, ABOUT, EXAMPLE, "force")
-    years.add_argument("project", metavar="PROJECT", help="a folder of sheets with the year in their names, a folder of "
-                       "tables with columns year and region, or a workbook of these")
+    years.add_argument("project", metavar="PROJECT", help="a folder of sheets with the year in their names, a folder "
+                       "of tables with columns year and region, or a workbook of these")
     years.add_argument("-o", dest="output", metavar="OUT", required=True, help="the folder for results; it is made")
     years.add_argument("--filed", metavar="FILE", help="csv: year,region,category,mechanism,figure,unit")
     years.add_argument("--seasons", action="store_true", help="masses by season too, in nfr.csv; takes twice as long")

@@ -182,8 +182,9 @@ def _explained(library: Library, region: str, points: list[Point], step: Step, s
     explained = best is not None and best[0] < abs(step.off) / 2
     cause = best[1] if best is not None and explained else ""
     inputs = described(cause, old, new, here.names()) if cause else _no_cause(old, new)
-    return Outlier(region, here.year, before.year, series, band, round(100 * (math.exp(step.off) - 1)), step.spike, cause,
-                   inputs, best[2] if best is not None and explained else None)
+    percent = round(100 * (math.exp(step.off) - 1))
+    return Outlier(region, here.year, before.year, series, band, percent, step.spike, cause, inputs,
+                   best[2] if best is not None and explained else None)
 
 
 def _mass(library: Library, sheet: bytes, series: str) -> Band | None:

@@ -3,9 +3,9 @@
 import os
 from collections.abc import Iterable, Iterator
 from dataclasses import dataclass, field
+from functools import partial
 from math import gcd
 from pathlib import Path, PurePath
-from typing import Any
 
 from evp.files import FileError, InputError, failed, read_sheet
 from evp.layout import MOST_ROWS
@@ -13,10 +13,15 @@ from evp.sheet import Builder, TextError, doubts
 from evp.sheet.folders import DURATIONS, HOURS
 from evp.wording import name_shown, quoted
 from evp.years.naming import ALL_YEARS, Name, Span, name_of, region_key
-from evp.years.tables import KINDS, Rows, Source, source_of, worksheet_lines
+from evp.years.tables import KINDS, Rows, Source, open_workbook, source_of, worksheet_lines
 
 MOST_COUNT = 65_535  # of a cell of a grid
 LISTS = {"durations": ("duration", "lasting", DURATIONS), "hours": ("end_hour", "ending", HOURS)}
+GUIDEBOOK = {  # Tables 3-12 and 3-13, for a project without a table of parkings; as the form of evp.pages has them
+    "durations": "420 140 20 49 59 20 29 15 15 10 10 5 10 5 5 5 5 5 5 5 5 5 5 130".split(),
+    "hours": "12 7 4 7 22 46 55 52 52 53 55 46 52 56 58 64 65 63 51 44 42 39 31 22".split(),
+}
+NO_PARKING = "there is no table parking or grid, so Tables 3-12 and 3-13 of the guidebook are taken for the parkings"
 WORKBOOKS = (".xlsx", ".xlsm")
 TEXTS = (".csv", ".tsv")
 
@@ -156,26 +161,17 @@ def _which(inside: PurePath, path: Path) -> tuple[Span, str]:
 
 def _worksheets(path: Path, folder: Path | None = None) -> Iterator[Source]:
     """The tables of a workbook."""
-    from evp.years.needs import package
-    openpyxl: Any = package("openpyxl")
-    try:
-        workbook = openpyxl.load_workbook(path, read_only=True, data_only=True)
-    except OSError as error:
-        raise failed(path, error) from None
-    except Exception:  # whatever a damaged file makes of the package
-        raise InputError("%s: this is no workbook that can be read; save it anew as .xlsx" % name_shown(path)) from None
-    found = False
-    for worksheet in workbook.worksheets:
-        kind = kind_of(worksheet.title.strip())
-        if kind:
-            found = True
-            inside = PurePath(worksheet.title.strip()[len(kind):] or "_")
-            label = "%s, worksheet %s" % (name_shown(path), worksheet.title)
-            yield Source(kind, label, lambda sheet=worksheet: worksheet_lines(sheet),  # type: ignore[misc]
-                         *_which(inside, path))
-    if not found and folder is None:
+    workbook = open_workbook(path)
+    titles: list[str] = [worksheet.title for worksheet in workbook.worksheets]
+    workbook.close()
+    tables = [(title, kind_of(title.strip())) for title in titles if kind_of(title.strip())]
+    if not tables and folder is None:
         raise InputError("%s: no worksheet is called %s; it has %s" % (
-            name_shown(path), ", ".join(KINDS), ", ".join(quoted(sheet.title) for sheet in workbook.worksheets[:8])))
+            name_shown(path), ", ".join(KINDS), ", ".join(map(quoted, titles[:8]))))
+    for title, kind in tables:
+        label = "%s, worksheet %s" % (name_shown(path), title)
+        inside = PurePath(title.strip()[len(kind):] or "_")
+        yield Source(kind, label, partial(worksheet_lines, path, title), *_which(inside, path))
 
 
 def _of_tables(tables: list[Source], state: Path, files: list[Path]) -> Project:
@@ -191,15 +187,14 @@ def _of_tables(tables: list[Source], state: Path, files: list[Path]) -> Project:
     for kind in ("seasons", "fleet"):
         if kind not in found.kinds:
             raise InputError("there is no table %s; a project has seasons, fleet, and parking or grid" % kind)
-    if not found.kinds & {"parking", "grid"}:
-        raise InputError("there is no table parking or grid; a project has seasons, fleet, and one of these")
     years = sorted(found.years or found.ranges)
     if not years:
         raise InputError("no table names a year; add a column year (1990, or 1990-1999)")
     rows.index()
     regions = list(found.regions.values()) or [""]
     entries = [Entry(year, region) for year in years for region in regions]
-    return Project(sorted(entries, key=lambda entry: entry.order), rows, sources=files)
+    notes = [] if found.kinds & {"parking", "grid"} else [NO_PARKING]
+    return Project(sorted(entries, key=lambda entry: entry.order), rows, notes, files)
 
 
 # ------------------------------------------------------------------ sheets made of tables
@@ -245,18 +240,19 @@ def _add_parking(builder: Builder, rows: Rows, year: int, region: str) -> None:
     if grid and lists:
         raise TextError("%s and %s: a grid stands in place of two lists, and both hold for it" % (
             grid[0][0], lists[0][0]))
-    if not grid and not lists:
-        raise TextError("the tables parking and grid have no row for it")
     if grid:
         _add_grid(builder, grid)
         return
-    found = {name: _list_of(lists, *columns) for name, columns in LISTS.items()}
+    if not lists and rows.found.kinds & {"parking", "grid"}:
+        raise TextError("the tables parking and grid have no row for it")
+    found = {name: _list_of(lists, *columns) for name, columns in LISTS.items()} if lists else GUIDEBOOK
+    where = lists[0][0] if lists else "Tables 3-12 and 3-13"
     many = len(builder.rows) > MOST_ROWS or any("mileage" in given for given in builder.row_words)
     if many:
-        _add_products(builder, found["durations"], found["hours"], lists[0][0])
+        _add_products(builder, found["durations"], found["hours"], where)
         return
     for name, counts in found.items():
-        with builder.at(lists[0][0]):
+        with builder.at(where):
             builder.add_counts(name, tuple(counts))
 
 

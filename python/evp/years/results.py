@@ -16,7 +16,7 @@ from pathlib import Path
 from typing import Any, BinaryIO
 
 from evp.files import InputError, failed, read_text
-from evp.layout import CLASSES, decimal, row, row_count, season_count, technology_name
+from evp.layout import CLASSES, decimal, row, row_count, technology_name
 from evp.library import GROUPS, MECHANISMS, Band
 from evp.masses import exact
 from evp.tables import read_table, table_text
@@ -125,14 +125,16 @@ def names_of(sheet: Path | None) -> Names:
 
 
 @contextlib.contextmanager
-def whole(path: Path) -> Iterator[BinaryIO]:
-    """A file that has its name once all of it is written; after a failure the old one stays."""
+def whole(path: Path, on_disk: bool = True) -> Iterator[BinaryIO]:
+    """A file that has its name once all of it is written, and where `on_disk` is on the disk; after a failure the old
+    one stays."""
     part = path.with_name(".evp-%s.part" % secrets.token_hex(8))
     try:
         with part.open("xb") as file:
             yield file
             file.flush()
-            os.fsync(file.fileno())
+            if on_disk:
+                os.fsync(file.fileno())
         os.replace(part, path)
     except OSError as error:
         raise failed(path, error) from None
@@ -278,10 +280,6 @@ def row_lines(results: Iterable[Result], comma: bool = False) -> Iterator[tuple[
             for mechanism, band in zip(MECHANISMS, bands_of(result.rows[6 * i:6 * i + 6])):
                 yield (result.entry.year, result.entry.region, i + 1, names.rows.get(i + 1, ""), *kind,
                        here["vehicles"], mechanism, band.low, band.high, _number(certain(band, TONNE), comma))
-
-
-def seasons_of(data: bytes) -> int:
-    return season_count(data)
 
 
 # ------------------------------------------------------------------ results.xlsx

@@ -47,6 +47,11 @@ class Region:
         return max(bands, default=0)
 
     @property
+    def unit(self) -> str:
+        """The one unit of its masses."""
+        return best_unit(self.highest)
+
+    @property
     def worth_a_look(self) -> bool:
         return any(line.outlier or not line.band or line.filed and line.filed.verdict not in FINE
                    for line in self.lines)
@@ -80,7 +85,8 @@ def page_series(title: str, results: Callable[[], Iterable[Result]], outliers: l
     shown = regions if len(regions) <= MOST_REGIONS else (
         regions[:1] + [region for region in regions[1:] if region.worth_a_look])[:MOST_REGIONS]
     years = sorted({line.year for region in regions for line in region.lines})
-    widest = max((line.band.high - line.band.low for region in regions for line in region.lines if line.band), default=0)
+    bands = [line.band for region in regions for line in region.lines if line.band]
+    widest = max((band.high - band.low for band in bands), default=0)
     missing = [result for result in results() if result.status != REPORTED]
     wrong = [verdict for verdict in verdicts if verdict.verdict not in FINE]
     many = sum(len(region.lines) for region in regions if region.name != ALL_REGIONS)
@@ -139,11 +145,10 @@ class Scale:
 
 
 def _drawn(region: Region, years: list[int], size: tuple[int, int]) -> Iterator[Markup]:
-    unit = best_unit(region.highest)
-    power = 10 ** POWERS[unit]
+    power = 10 ** POWERS[region.unit]
     marks = ticks(region.highest / power)
     scale = Scale(size, years, marks[-1] * power)
-    yield from _frame(scale, marks, power, "%s %s a year" % (region.name, unit))
+    yield from _frame(scale, marks, power, "%s%s a year" % (region.name + ", " if region.name else "", region.unit))
     points = [(scale.x(line.year), scale.y(sum(line.band) / 2)) if line.band else None for line in region.lines]
     for part in _joined(points):
         yield Markup('<path class="yr-line" d="M%s"/>') % "L".join("%.1f %.1f" % point for point in part)
@@ -156,14 +161,14 @@ def _frame(scale: Scale, marks: list[float], power: int, title: str) -> Iterator
     width, height = scale.size
     for mark in marks:
         y = scale.y(mark * power)
-        yield Markup('<path class="grid" d="M%d %.1fH%d"/><text class="q" x="%d" y="%.1f" text-anchor="end">%s</text>') % (
-            LEFT, y, width - RIGHT, LEFT - 6, y + 4, _tick(mark))
+        yield Markup('<path class="grid" d="M%d %.1fH%d"/>') % (LEFT, y, width - RIGHT)
+        yield Markup('<text class="q" x="%d" y="%.1f" text-anchor="end">%s</text>') % (LEFT - 6, y + 4, _tick(mark))
     step = next(step for step in (1, 2, 5, 10, 20, 50) if (scale.years[-1] - scale.years[0]) / step <= width / 75)
     for year in range(scale.years[0], scale.years[-1] + 1):
         if year % step == 0 or len(scale.years) == 1:
             yield Markup('<text class="q" x="%.1f" y="%d" text-anchor="middle">%d</text>') % (
                 scale.x(year), height - 6, year)
-    yield Markup('<text class="yr-name" x="%d" y="14">%s</text>') % (LEFT, title.strip())
+    yield Markup('<text class="yr-name" x="%d" y="14">%s</text>') % (LEFT, title)
 
 
 def _tick(mark: float) -> str:
@@ -208,7 +213,7 @@ def _labels(scale: Scale, lines: list[Line]) -> Iterator[Markup]:
         if line.band is None or line.outlier is None:
             continue
         x, y = scale.x(line.year), scale.y(sum(line.band) / 2)
-        right = x > scale.size[0] * .8
+        right = x + 95 > scale.size[0]
         yield Markup('<path class="yr-mark" d="M%.1f %.1fl6 10h-12z"/>') % (x, y - 17)
         yield Markup('<text class="yr-away" x="%.1f" y="%.1f" text-anchor="%s">%s</text>') % (
             x - 9 if right else x + 9, max(TOP, y - 8), "end" if right else "start",

@@ -21,6 +21,7 @@ from evp.sheet.words import TextError
 from evp.show import SHORT_NAMES
 from evp.wording import Messages, name_shown, quoted
 from evp.years.naming import ALL_YEARS, EVERY, NO_END, NO_START, Span, is_open, region_key, spans_of, year_of
+from evp.years.needs import package
 
 KINDS = ("seasons", "fleet", "parking", "grid")
 COLUMNS = {
@@ -110,10 +111,25 @@ def _separator(lines: Iterable[str]) -> str:
     return ","
 
 
-def worksheet_lines(worksheet: Any) -> Lines:
-    """The lines of a worksheet of openpyxl, as a csv file of it would have them."""
-    for number, cells in enumerate(worksheet.iter_rows(values_only=True), 1):
-        yield number, ["" if cell is None else _cell_text(cell) for cell in cells]
+def open_workbook(path: Path) -> Any:
+    """A workbook of openpyxl, whose cells have values and no formulas."""
+    openpyxl: Any = package("openpyxl")
+    try:
+        return openpyxl.load_workbook(path, read_only=True, data_only=True)
+    except OSError as error:
+        raise failed(path, error) from None
+    except Exception:  # whatever a damaged file makes of the package
+        raise InputError("%s: this is no workbook that can be read; save it anew as .xlsx" % name_shown(path)) from None
+
+
+def worksheet_lines(path: Path, title: str) -> Lines:
+    """The lines of a worksheet, as a csv file of it would have them."""
+    workbook = open_workbook(path)
+    try:
+        for number, cells in enumerate(workbook[title].iter_rows(values_only=True), 1):
+            yield number, ["" if cell is None else _cell_text(cell) for cell in cells]
+    finally:
+        workbook.close()
 
 
 def _cell_text(cell: object) -> str:

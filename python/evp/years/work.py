@@ -278,8 +278,8 @@ def _free(path: Path, used: set[str]) -> Path:
 
 
 def _put(path: Path, data: bytes) -> None:
-    """Writes a file where it is not there already with the same bytes."""
+    """Writes a file where it is not there already with the same bytes; one that a power cut empties is made again."""
     if path.is_file() and path.read_bytes() == data:
         return
-    with whole(path) as file:
+    with whole(path, on_disk=False) as file:
         file.write(data)
