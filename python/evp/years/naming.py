@@ -2,6 +2,7 @@
 
 import re
 import unicodedata
+from functools import lru_cache
 from pathlib import PurePath
 from typing import NamedTuple
 
@@ -36,6 +37,7 @@ class Name(NamedTuple):
     region: str
 
 
+@lru_cache(4096)
 def region_key(region: str) -> str:
     """The same for every spelling of a region: capital letters, spaces and the form of an umlaut do not matter."""
     return " ".join(unicodedata.normalize("NFC", region).casefold().split())
@@ -85,12 +87,13 @@ def year_of(word: str) -> int:
     return int(form[1])
 
 
-def spans_of(word: str) -> list[Span]:
+@lru_cache(4096)
+def spans_of(word: str) -> tuple[Span, ...]:
     """The years of a cell: one, a range, one open on a side, or several of these; an empty cell holds for all."""
     word = word.strip().replace("\u00a0", " ")
     if word.casefold() in EVERY:
-        return [ALL_YEARS]
-    return [_span(part.strip()) for part in re.split(r"[,;/&+]| and ", word) if part.strip()]
+        return (ALL_YEARS,)
+    return tuple(_span(part.strip()) for part in re.split(r"[,;/&+]| and ", word) if part.strip())
 
 
 def _span(word: str) -> Span:

@@ -2,9 +2,11 @@
 
 import os
 from collections.abc import Iterable, Iterator
+from concurrent.futures import ProcessPoolExecutor
 from dataclasses import dataclass, field
 from functools import partial
 from math import gcd
+from multiprocessing import get_context
 from pathlib import Path, PurePath
 
 from evp.files import FileError, InputError, failed, read_sheet
@@ -13,8 +15,10 @@ from evp.sheet import Builder, TextError, doubts
 from evp.sheet.folders import DURATIONS, HOURS
 from evp.wording import name_shown, quoted
 from evp.years.naming import ALL_YEARS, Name, Span, name_of, region_key
-from evp.years.tables import KINDS, Rows, Source, open_workbook, source_of, worksheet_lines
+from evp.years.run import AHEAD, begin_process
+from evp.years.tables import KINDS, Found, Rows, Source, open_workbook, source_of, worksheet_lines
 
+FEW, PART = 24, 8  # sheets that one process makes; sheets that a process makes at once
 MOST_COUNT = 65_535  # of a cell of a grid
 LISTS = {"durations": ("duration", "lasting", DURATIONS), "hours": ("end_hour", "ending", HOURS)}
 GUIDEBOOK = {  # Tables 3-12 and 3-13, for a project without a table of parkings; as the form of evp.pages has them
@@ -22,6 +26,7 @@ GUIDEBOOK = {  # Tables 3-12 and 3-13, for a project without a table of parkings
     "hours": "12 7 4 7 22 46 55 52 52 53 55 46 52 56 58 64 65 63 51 44 42 39 31 22".split(),
 }
 NO_PARKING = "there is no table parking or grid, so Tables 3-12 and 3-13 of the guidebook are taken for the parkings"
+MIXED = "some names have no region beside others that have one; in sums it counts as a region of its own"
 WORKBOOKS = (".xlsx", ".xlsm")
 TEXTS = (".csv", ".tsv")
 
@@ -70,7 +75,9 @@ def find_project(path: Path, out: Path, state: Path) -> Project:
         raise InputError("%s: both sheets (%s) and tables (%s) are there; name a folder that has one of them" % (
             name_shown(path), name_shown(sheets[0].name), tables[0].label))
     if sheets:
-        return Project(_of_sheets(path, sheets), sources=sheets)
+        entries = _of_sheets(path, sheets)
+        regions = {entry.region for entry in entries if entry.year is not None}
+        return Project(entries, None, [MIXED] if "" in regions and len(regions) > 1 else [], sheets)
     if tables:
         return _of_tables(tables, state, files)
     raise InputError("%s: neither sheets (1990.evp, north-1990.evp) nor tables (seasons.csv, fleet.csv, parking.csv or "
@@ -175,10 +182,7 @@ def _worksheets(path: Path, folder: Path | None = None) -> Iterator[Source]:
 
 
 def _of_tables(tables: list[Source], state: Path, files: list[Path]) -> Project:
-    path = state / "tables.sqlite"
-    path.unlink(missing_ok=True)
-    rows = Rows(path)
-    path.unlink()  # it stays as long as it is open, and goes with the process
+    rows = Rows(state / "tables.sqlite")
     for source in tables:
         rows.take(source)
     found = rows.found
@@ -210,6 +214,34 @@ class Made:
     notes: list[str] = field(default_factory=list)
     status: str = ""
     reason: str = ""
+
+
+_opened: list[Rows] = []  # in a process that makes sheets
+
+
+def _open_rows(path: Path, found: Found) -> None:
+    begin_process()
+    _opened.append(Rows(path, found))
+
+
+def _make_some(which: list[tuple[int, str]]) -> list[Made]:
+    return [make_sheet(_opened[-1], year, region) for year, region in which]
+
+
+def make_sheets(rows: Rows, entries: list[Entry], jobs: int) -> Iterator[Made]:
+    """The sheets of entries in their order, by several processes where there are many."""
+    which = [(entry.year or 0, entry.region) for entry in entries]
+    if jobs == 1 or len(which) < FEW:
+        yield from (make_sheet(rows, *one) for one in which)
+        return
+    pool = ProcessPoolExecutor(jobs, get_context("fork"), _open_rows, (rows.path, rows.found))
+    parts = [which[i:i + PART] for i in range(0, len(which), PART)]
+    try:
+        for i in range(0, len(parts), AHEAD * jobs):
+            for made in pool.map(_make_some, parts[i:i + AHEAD * jobs]):
+                yield from made
+    finally:
+        pool.shutdown(wait=True, cancel_futures=True)
 
 
 def make_sheet(rows: Rows, year: int, region: str) -> Made:

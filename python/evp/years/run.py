@@ -88,12 +88,16 @@ def answers(sheets: Sequence[bytes], options: Options) -> list[str]:
 # ------------------------------------------------------------------ processes
 
 
-def _begin() -> None:
+def begin_process() -> None:
     """In each process: Ctrl-C is the first process's to take, and a process does not outlive that one."""
     signal.signal(signal.SIGINT, signal.SIG_IGN)
     signal.signal(signal.SIGTERM, signal.SIG_DFL)
     with contextlib.suppress(AttributeError, OSError):
         ctypes.CDLL(None).prctl(PARENT_ENDS, signal.SIGKILL)
+
+
+def _begin() -> None:
+    begin_process()
     calls.load()
 
 
@@ -143,9 +147,14 @@ class Bar:
 
     WIDTH = 30
 
-    def __init__(self, many: int, done: int = 0) -> None:
-        self._many, self._before, self._start, self._shown = many, done, time.monotonic(), 0.0
+    def __init__(self, many: int, what: str = "sheets") -> None:
+        self._many, self._what, self._before = many, what, 0
+        self._start = self._shown = time.monotonic()
         self._terminal = sys.stderr.isatty()
+
+    def begin(self, done: int) -> None:
+        """From here on the time counts; so many were done before."""
+        self._before, self._start = done, time.monotonic()
 
     def __call__(self, done: int) -> None:
         now = time.monotonic()
@@ -153,8 +162,8 @@ class Bar:
             return
         self._shown = now
         filled = self.WIDTH * done // max(1, self._many)
-        line = "%s%s %s of %s sheets%s" % (
-            "#" * filled, "." * (self.WIDTH - filled), apart(done), apart(self._many), self._left(done, now))
+        line = "%s%s %s of %s %s%s" % ("#" * filled, "." * (self.WIDTH - filled), apart(done), apart(self._many),
+                                       self._what, self._left(done, now))
         print("\r" + line.ljust(78), end="\n" if done == self._many else "", file=sys.stderr, flush=True)
 
     def _left(self, done: int, now: float) -> str:

@@ -11,6 +11,7 @@ import re
 import sqlite3
 from collections.abc import Callable, Iterable, Iterator
 from dataclasses import dataclass, field
+from functools import lru_cache
 from pathlib import Path
 from typing import Any
 
@@ -151,9 +152,10 @@ def column_name(word: str, kind: str) -> str:
 
 
 def clean(word: str) -> str:
-    """A number as the builder takes it, where it can mean one thing: 15200.0, 14,50 and a typographic minus."""
-    word = word.replace("\u00a0", "").replace("\u202f", "").replace("\u2212", "-")
-    form = re.fullmatch(r"([+-]?[0-9]*)[.,]([0-9]{1,2}|[0-9]*?0+)", word)
+    """A number as the builder takes it, where it can mean one thing: 15200.0, 14,50, 45 % and a typographic minus.
+    With three places it may be a thousand, and is left to be refused."""
+    word = word.replace("\u00a0", "").replace("\u202f", "").replace("\u2212", "-").removesuffix("%").rstrip()
+    form = re.fullmatch(r"([+-]?[0-9]*)[.,]([0-9]{1,2}|[0-9]{4,})", word)
     if form is None:
         return word
     places = form[2].rstrip("0")
@@ -165,7 +167,9 @@ def _technology(word: str) -> str:
     return form[1] if form else "0" if word in ("conventional", "conv.", "conv") else word
 
 
+@lru_cache(65_536)
 def cell_of(name: str, word: str) -> str:
+    """A cell as the builder takes it; most cells of long tables are alike."""
     if name == "name":
         return word
     word = clean(word.strip())
@@ -198,19 +202,22 @@ def check_header(header: list[str], kind: str, where: str) -> None:
 
 
 class Rows:
-    """The rows of all tables, in a database at `path`."""
+    """The rows of all tables, in a database at `path`; a second one opens it to read what the first has `found`."""
 
-    def __init__(self, path: Path) -> None:
+    def __init__(self, path: Path, found: Found | None = None) -> None:
+        self.path, self.found, self._places = path, found or Found(), 0
+        if found is None:
+            path.unlink(missing_ok=True)
         self._base = sqlite3.connect(path, isolation_level=None)
-        self._base.execute("pragma journal_mode = off")
-        self._base.execute("pragma synchronous = off")
-        self._base.execute("create table row (kind text, region text, first int, last int, place int, label text, "
-                           "line int, cells text)")
-        self.found = Found()
-        self._places = 0
+        if found is None:
+            self._base.execute("pragma journal_mode = off")
+            self._base.execute("pragma synchronous = off")
+            self._base.execute("create table row (kind text, region text, first int, last int, place int, label text, "
+                               "line int, cells text)")
 
     def close(self) -> None:
         self._base.close()
+        self.path.unlink(missing_ok=True)
 
     def take(self, source: Source) -> None:
         """Reads a table; what is wrong with its rows is gathered in `found`."""
@@ -220,6 +227,8 @@ class Rows:
         self._base.execute("begin")
         for number, cells in lines:
             if not any(cells) or cells[0].startswith("#"):
+                continue
+            if not header and sum(map(bool, cells)) == 1:  # a title above the table
                 continue
             if not header:
                 header = [column_name(cell, source.kind) for cell in cells]
@@ -260,16 +269,16 @@ class Rows:
             yield "%s: line %d" % (label, line), json.loads(cells)
 
 
-def _spans(given: dict[str, str], source: Source) -> list[Span]:
+def _spans(given: dict[str, str], source: Source) -> tuple[Span, ...]:
     """The years of a row, taken out of its cells."""
     first, last = given.pop("year_from", ""), given.pop("year_to", "")
     word = given.pop("year", "")
     if first or last:
         if word:
             raise TextError("year stands beside year_from or year_to; write one of them")
-        return [Span(year_of(first) if first else NO_START, year_of(last) if last else NO_END)]
+        return (Span(year_of(first) if first else NO_START, year_of(last) if last else NO_END),)
     spans = spans_of(word)
-    return [source.span] if spans == [ALL_YEARS] else spans
+    return (source.span,) if spans == (ALL_YEARS,) else spans
 
 
 def source_of(path: Path, kind: str, span: Span, region: str) -> Source:

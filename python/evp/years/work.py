@@ -16,7 +16,7 @@ from evp.years.cluster import Cluster
 from evp.years.filed import FINE, MARK_COLUMNS, FiledFigures, Verdict, read_filed, verdicts_of
 from evp.years.needs import sentence
 from evp.years.outliers import Outlier, find_outliers
-from evp.years.project import Entry, Project, find_project, make_sheet, sheet_bytes
+from evp.years.project import Entry, Project, find_project, make_sheets, sheet_bytes
 from evp.years.results import (
     COLUMNS, NFR_COLUMNS, REPORTED, ROW_COLUMNS, Result, names_file, names_text, nfr_lines, result_lines, result_of,
     row_lines, whole, write_csv, write_workbook,
@@ -105,8 +105,10 @@ class Series:
         kept: set[str] = set()
         notes: dict[str, None] = {}
         made_entries = []
-        for entry in self._entries:
-            made = make_sheet(rows, entry.year or 0, entry.region)
+        bar = Bar(len(self._entries), "sheets made")
+        all_made = make_sheets(rows, self._entries, self._given.jobs or cores())
+        for i, (entry, made) in enumerate(zip(self._entries, all_made), 1):
+            bar(i)
             if made.status:
                 made_entries.append(replace(entry, status=made.status, reason=made.reason))
                 continue
@@ -161,6 +163,8 @@ class Series:
             key = self._keys[i] = key_of(start, data[:SHEET_BYTES + 1])
             if key in asked or key in store:
                 self._done += 1
+                if not asked:
+                    bar.begin(self._done)
                 continue
             asked.add(key)
             chunk.keys.append(key)

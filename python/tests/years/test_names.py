@@ -39,7 +39,7 @@ class NamesTest(unittest.TestCase):
 
     def test_cells(self):
         for word, spans in SPANS.items():
-            self.assertEqual(spans_of(word), [Span(*span) for span in spans], word)
+            self.assertEqual(list(spans_of(word)), [Span(*span) for span in spans], word)
 
     def test_cells_that_are_no_year(self):
         for word in ("90", "199O", "3000", "1999-1990", "year", "1990-19x"):

@@ -11,6 +11,7 @@ from evp.figures import bands
 from evp.pages import forms
 from evp.years import work
 from evp.years.project import GUIDEBOOK
+from evp.years.tables import clean
 
 try:
     import openpyxl
@@ -232,6 +233,17 @@ class TablesTest(ProjectTestCase):
         self.assertEqual(GUIDEBOOK, forms.GUIDEBOOK)
         text = sheet.read((self.folder / "out/sheets/north-1990.evp").read_bytes())
         self.assertIn("durations %s" % " ".join(GUIDEBOOK["durations"]), text)
+
+    def test_what_may_be_a_thousand_is_not_guessed(self):
+        for word, wanted in (("18400.0", "18400"), ("18400,00", "18400"), ("4.80", "4.8"), ("45 %", "45"),
+                             ("1.000", "1.000"), ("18,400", "18,400"), ("\u22122.0", "-2"), (".5", "0.5"), ("4.8000", "4.8")):
+            self.assertEqual(clean(word), wanted)
+        self.tables(fleet=fleet().replace(",9100,", ',"9,100",'))
+        self.assertEqual({line["status"] for line in self.made(status=1) if line["region"] == "south"}, {"unreadable"})
+
+    def test_a_title_above_the_table(self):
+        self.tables(fleet="Fleet of the country,,,,\n\n" + fleet())
+        self.assertEqual(len(self.made()), 13 * 2 * len(YEARS))
 
     def test_more_rows_than_lists_take(self):
         """With more than 32 rows the two lists become a grid."""
