@@ -4,11 +4,14 @@ The sheets' bytes go to the workers and the answers come back, so that the machi
 is made good by Dask: what it had is calculated by another. Every answer is kept once, under its key.
 """
 
+import re
+import socket
 from collections.abc import Iterable, Iterator
 from typing import Any
 
 from evp import library as calls
 from evp.files import InputError
+from evp.wording import quoted
 from evp.years.needs import package
 from evp.years.run import AHEAD, Chunk, Options, answers
 
@@ -21,11 +24,25 @@ def worker_version() -> str:
     return ".".join(map(str, calls.load().version()))
 
 
+def check_address(address: str) -> None:
+    """InputError where no program answers at an address, such as tcp://head:8786; Dask itself would complain at
+    length."""
+    form = re.fullmatch(r"(?:(?:tcp|tls)://)?\[?([^\[\]/\s]+?)\]?:([0-9]{1,5})/?", address)
+    if form is None or not 0 < int(form[2]) < 65_536:
+        raise InputError("%s: this is no address of a scheduler; write it as tcp://host:8786" % quoted(address))
+    try:
+        socket.create_connection((form[1], int(form[2])), TIMEOUT).close()
+    except OSError as error:
+        raise InputError("%s: no scheduler of Dask answers there: %s" % (
+            address, error.strerror or "it takes too long")) from None
+
+
 class Cluster:
     """A scheduler with its workers."""
 
     def __init__(self, address: str, version: str) -> None:
         self._dask: Any = package("distributed")
+        check_address(address)
         try:
             self._client: Any = self._dask.Client(address, timeout=TIMEOUT, set_as_default=False)
         except (OSError, ValueError, TypeError) as error:
@@ -63,7 +80,8 @@ class Cluster:
             yield from self._finished(pending)
 
     def _finished(self, pending: dict[Any, list[str]]) -> Iterator[tuple[list[str], list[str]]]:
-        done = self._dask.wait(list(pending), return_when="FIRST_COMPLETED").done
+        with self._client.as_current():
+            done = self._dask.wait(list(pending), return_when="FIRST_COMPLETED").done
         for future in done:
             keys = pending.pop(future)
             try:

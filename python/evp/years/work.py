@@ -153,7 +153,8 @@ class Series:
     def _chunks(self, store: Store, start: str, size: int, bar: Bar) -> Iterator[Chunk]:
         """The sheets to calculate, read as they are asked for; those that are done or of the same bytes are not."""
         self._keys, self._done = [""] * len(self._entries), 0
-        chunk, asked = Chunk([], []), set()
+        chunk = Chunk([], [])
+        asked: set[str] = set()
         for i, entry in enumerate(self._entries):
             data, unread = (b"", "") if entry.status else sheet_bytes(entry)
             if entry.status or unread:

@@ -1,11 +1,15 @@
 """Projects for the tests."""
 
 import csv
+import unittest
 from pathlib import Path
+from unittest import mock
 
-from support import LISTS, SEASONS, Run, run
+from support import LISTS, SEASONS, Run, grid, run
 
 from evp import sheet
+from evp.layout import row_place
+from evp.years import work
 
 YEARS = range(1990, 2002)
 PARKING = "duration,lasting,end_hour,ending\n" + "".join(
@@ -31,11 +35,12 @@ def sheet_of(vehicles: int = 18400, trips: float = 4.8) -> bytes:
 def many_sheets(folder: Path, many: int, rows: int = 3) -> None:
     """Different sheets of so many years and regions, 40 years of each region; version 4 where there are many rows."""
     folder.mkdir(parents=True, exist_ok=True)
-    line = "row class=%d technology=%d carburettor=9 hot=45 fill=40 vehicles=%d trips=3.10 minutes=12\n"
-    from support import grid
+    line = "row class=%d technology=0 carburettor=9 hot=45 fill=40 vehicles=%d trips=3.10 minutes=12\n"
+    data = sheet.write(grid() + SEASONS + "".join(line % (1 + k % 3, 1000 + k) for k in range(rows)))
+    place = row_place(data, 0) + 8  # of the vehicles of the first row
     for i in range(many):
-        text = grid() + SEASONS + "".join(line % (1 + k % 3, k % 2, 1000 + 40 * i + k) for k in range(rows))
-        (folder / ("r%d-%d.evp" % (i // 40, 1980 + i % 40))).write_bytes(sheet.write(text))
+        vehicles = (1000 + 10 * (i % 40) + i // 40).to_bytes(4, "little")
+        (folder / ("r%d-%d.evp" % (i // 40, 1980 + i % 40))).write_bytes(data[:place] + vehicles + data[place + 4:])
 
 
 def fleet(wrong: int | None = None) -> str:
@@ -56,3 +61,10 @@ def read(path: Path, separator: str = ",") -> list[dict[str, str]]:
 
 def years(*words: object) -> Run:
     return run("years", *words)
+
+
+def without_workbook(test: unittest.TestCase) -> None:
+    """Leaves out results.xlsx, which takes longest."""
+    left_out = mock.patch.object(work.Series, "_workbook", return_value=[])
+    left_out.start()
+    test.addCleanup(left_out.stop)

@@ -12,7 +12,7 @@ from importlib.util import find_spec
 from unittest import mock
 
 from support import TOP, DeskTestCase, library
-from years.making import many_sheets, years
+from years.making import many_sheets, without_workbook, years
 from years.test_run import WAIT, files_of
 
 from evp.years import cluster
@@ -52,6 +52,7 @@ class ClusterTest(DeskTestCase):
             time.sleep(0.05)
 
     def test_a_worker_is_killed(self):
+        without_workbook(self)
         many_sheets(self.folder / "p", SHEETS, 250)
         address = self.scheduler()
         workers = self.workers(address)
@@ -83,8 +84,10 @@ class ClusterTest(DeskTestCase):
             found = years(self.folder / "p", "-o", self.folder / "out", "--scheduler", "127.0.0.1:9")
             self.assert_plain(found, 2)
             self.assertIn("no scheduler of Dask answers there", found.err)
-            found = years(self.folder / "p", "-o", self.folder / "out", "--scheduler", "no address://")
-            self.assert_plain(found, 2)
+            for address in ("no address://", "host", "tcp://host:0"):
+                found = years(self.folder / "p", "-o", self.folder / "out", "--scheduler", address)
+                self.assert_plain(found, 2)
+                self.assertIn("no address of a scheduler", found.err)
 
 
 if __name__ == "__main__":

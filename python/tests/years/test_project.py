@@ -1,15 +1,13 @@
 """Each form of a project, and what is told of one that is not complete."""
 
 import unittest
-from unittest import mock
 
 from support import LIBRARY, DeskTestCase, grid
-from years.making import FLEET, PARKING, TABLE_SEASONS, YEARS, fleet, read, sheet_of, years
+from years.making import FLEET, PARKING, TABLE_SEASONS, YEARS, fleet, read, sheet_of, without_workbook, years
 
 from evp import sheet
 from evp.figures import bands
 from evp.pages import forms
-from evp.years import work
 from evp.years.project import GUIDEBOOK
 from evp.years.tables import clean
 
@@ -20,14 +18,12 @@ except ImportError:
 
 
 class ProjectTestCase(DeskTestCase):
-    workbook = False  # whether results.xlsx is made, which takes longest
+    workbook = False  # whether results.xlsx is made
 
     def setUp(self):
         super().setUp()
         if not self.workbook:
-            left_out = mock.patch.object(work.Series, "_workbook", return_value=[])
-            left_out.start()
-            self.addCleanup(left_out.stop)
+            without_workbook(self)
 
     def made(self, *more: object, status: int = 0) -> list[dict[str, str]]:
         """The lines of results.csv of the project in `p`."""
@@ -236,7 +232,8 @@ class TablesTest(ProjectTestCase):
 
     def test_what_may_be_a_thousand_is_not_guessed(self):
         for word, wanted in (("18400.0", "18400"), ("18400,00", "18400"), ("4.80", "4.8"), ("45 %", "45"),
-                             ("1.000", "1.000"), ("18,400", "18,400"), ("\u22122.0", "-2"), (".5", "0.5"), ("4.8000", "4.8")):
+                             ("1.000", "1.000"), ("18,400", "18,400"), ("\u22122.0", "-2"), (".5", "0.5"),
+                             ("4.8000", "4.8")):
             self.assertEqual(clean(word), wanted)
         self.tables(fleet=fleet().replace(",9100,", ',"9,100",'))
         self.assertEqual({line["status"] for line in self.made(status=1) if line["region"] == "south"}, {"unreadable"})
