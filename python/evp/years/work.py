@@ -1,6 +1,7 @@
 """A project of many sheets to tables and a page."""
 
 import os
+import re
 import sys
 from argparse import Namespace
 from collections.abc import Iterator
@@ -87,6 +88,7 @@ class Series:
         self._keys: list[str] = []
         self._store: Store | None = None
         self._notes = list(project.notes)
+        self._root = out if project.rows else Path(given.project)  # from where the sheets are named
 
     def close(self) -> None:
         if self._store:
@@ -103,7 +105,7 @@ class Series:
             return
         folder = make_folder(self._out / "sheets")
         kept: set[str] = set()
-        notes: dict[str, None] = {}
+        notes: dict[str, list[str]] = {}
         made_entries = []
         bar = Bar(len(self._entries), "sheets made")
         all_made = make_sheets(rows, self._entries, self._given.jobs or cores())
@@ -119,12 +121,14 @@ class Series:
                     kept.add(target.name)
                     _put(target, data)
             made_entries.append(replace(entry, path=path))
-            notes.update(dict.fromkeys(made.notes))
+            for note in made.notes:
+                notes.setdefault(re.sub("[0-9]+", "0", note), []).append(note)
         for path in folder.iterdir():
             if path.name not in kept and path.name.endswith((".evp", ".names.csv")):
                 path.unlink()
         self._entries = made_entries
-        self._notes += notes
+        self._notes += [same[0] + (" (and of %s alike)" % counted(len(same) - 1, "other sheet") if same[1:] else "")
+                        for same in notes.values()]
 
     # -------------------------------------------------------------- reports
 
@@ -187,7 +191,7 @@ class Series:
 
     def write(self, filed: FiledFigures | None) -> int:
         out, comma = self._out, self._given.decimal == "comma"
-        lines = write_csv(out / RESULTS, COLUMNS, result_lines(self.results(), out, comma), comma)
+        lines = write_csv(out / RESULTS, COLUMNS, result_lines(self.results(), self._root, comma), comma)
         write_csv(out / NFR, NFR_COLUMNS, nfr_lines(self.results(), comma), comma)
         files = ["%s: %s" % (name_shown(out / RESULTS), counted(lines, "line")), name_shown(out / NFR)]
         if self._options.rows:
@@ -207,7 +211,7 @@ class Series:
         path = self._out / WORKBOOK
         try:
             write_workbook(path, {
-                "results": (COLUMNS, result_lines(self.results(), self._out)),
+                "results": (COLUMNS, result_lines(self.results(), self._root)),
                 "nfr": (NFR_COLUMNS, (line for line in nfr_lines(self.results()) if line[5] == "" and line[10] == "")),
             })
         except InputError as error:

@@ -45,7 +45,8 @@ class ProjectTestCase(DeskTestCase):
                 figure = line["category"], line["mechanism"]
                 by_sheet.setdefault(line["sheet"], {})[figure] = int(line["low_mg"]), int(line["high_mg"])
         for name, masses in by_sheet.items():
-            report = LIBRARY.report((self.folder / "out" / name).read_bytes())
+            folder = self.folder / ("out" if name.startswith("sheets/") else "p")
+            report = LIBRARY.report((folder / name).read_bytes())
             wanted = {tuple(figure): tuple(band) for figure, band in bands(report).items() if not figure.row.isdigit()}
             self.assertEqual(masses, wanted)
 
