@@ -4,6 +4,7 @@ The sheets' bytes go to the workers and the answers come back, so that the machi
 is made good by Dask: what it had is calculated by another. Every answer is kept once, under its key.
 """
 
+import logging
 import re
 import socket
 from collections.abc import Iterable, Iterator
@@ -43,6 +44,7 @@ class Cluster:
     def __init__(self, address: str, version: str) -> None:
         self._dask: Any = package("distributed")
         check_address(address)
+        logging.getLogger("distributed").setLevel(logging.CRITICAL)  # what matters is said here in a sentence
         try:
             self._client: Any = self._dask.Client(address, timeout=TIMEOUT, set_as_default=False)
         except (OSError, ValueError, TypeError) as error:

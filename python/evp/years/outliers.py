@@ -328,16 +328,17 @@ def _stepped(fields: tuple[str, ...], both: list[tuple[bytes, bytes, str]], kind
                for a, b, words in both for name in fields if _value(a, name) != _value(b, name)]
     if not changed:
         return ""
-    _, name, a, b, words = max(changed, key=lambda change: change[0])
-    many = len({change[4] for change in changed})
-    ratios = {Fraction(change[3], change[2]) if change[2] else None for change in changed}
+    largest, name, a, b, words = max(changed, key=lambda change: change[0])
+    alike = [change for change in changed if change[0] >= largest / 2]  # small steps of other records say nothing
+    many = len({change[4] for change in alike})
+    ratios = {Fraction(change[3], change[2]) if change[2] else None for change in alike}
     text = "%s of %s from %s to %s" % (label_of(name), words, _shown(name, a), _shown(name, b))
     ratio = _ratio(a, b)
     if ratio and name not in ("lowest", "highest"):
         text += " (%s)" % ratio
     if many > 1:
-        alike = "in the same ratio" if len(ratios) == 1 and len(fields) == 1 else "too"
-        text += ", and of %s %s" % (counted(many - 1, "other %s" % kind), alike)
+        how = "in the same ratio" if len(ratios) == 1 and len(fields) == 1 else "likewise"
+        text += ", and of %s %s" % (counted(many - 1, "other %s" % kind), how)
     return text
 
 

@@ -8,6 +8,7 @@ from functools import partial
 from math import gcd
 from multiprocessing import get_context
 from pathlib import Path, PurePath
+from typing import Any
 
 from evp.files import FileError, InputError, failed, read_sheet
 from evp.layout import MOST_ROWS
@@ -18,6 +19,7 @@ from evp.years.naming import ALL_YEARS, Name, Span, name_of, region_key
 from evp.years.run import AHEAD, begin_process
 from evp.years.tables import KINDS, Found, Rows, Source, open_workbook, source_of, worksheet_lines
 
+STATE = ".state"  # which a folder of results has
 FEW, PART = 24, 8  # sheets that one process makes; sheets that a process makes at once
 MOST_COUNT = 65_535  # of a cell of a grid
 LISTS = {"durations": ("duration", "lasting", DURATIONS), "hours": ("end_hour", "ending", HOURS)}
@@ -85,11 +87,11 @@ def find_project(path: Path, out: Path, state: Path) -> Project:
 
 
 def _files(folder: Path, out: Path) -> Iterator[Path]:
-    """All files below a folder but hidden ones and those below `out`."""
+    """All files below a folder but hidden ones and those below `out` or below another folder of results."""
     avoided = out.resolve()
     for at, folders, names in os.walk(folder, onerror=_raise):
-        folders[:] = sorted(name for name in folders
-                            if not name.startswith(".") and (Path(at) / name).resolve() != avoided)
+        folders[:] = sorted(name for name in folders if not name.startswith(".")
+                            and (Path(at) / name).resolve() != avoided and not (Path(at) / name / STATE).is_dir())
         yield from (Path(at) / name for name in sorted(names) if not name.startswith((".", "~")))
 
 
@@ -246,7 +248,8 @@ def make_sheets(rows: Rows, entries: list[Entry], jobs: int) -> Iterator[Made]:
 
 def make_sheet(rows: Rows, year: int, region: str) -> Made:
     """The sheet of a year and a region."""
-    builder: Builder = Builder()  # type: ignore[no-untyped-call]
+    new: Any = Builder
+    builder: Builder = new()
     made = Made()
     for kind, names in (("seasons", made.seasons), ("fleet", made.rows)):
         for where, cells in rows.of(kind, year, region):

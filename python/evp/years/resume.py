@@ -15,9 +15,10 @@ from typing import IO
 from evp.files import FileError, InputError, failed, make_folder
 from evp.library import Library
 from evp.wording import name_shown
+from evp.years.project import STATE
 from evp.years.run import Options
 
-FOLDER = ".state"
+FOLDER = STATE
 ANSWERS = "answers.sqlite"
 
 

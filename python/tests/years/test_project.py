@@ -257,6 +257,11 @@ class TablesTest(ProjectTestCase):
         self.tables(parking="", grid=header + rows.replace("%s", "north") + rows.replace("%s", "South"))
         self.check_sheets(self.made())
 
+    def test_results_within_the_project_are_no_part_of_it(self):
+        self.tables()
+        for name in ("first", "second"):
+            self.assert_plain(years(self.folder / "p", "-o", self.folder / "p" / name, "--jobs", 1), 0)
+
     def test_sheets_of_years_that_are_gone_are_removed(self):
         self.tables()
         self.made()
