@@ -50,14 +50,19 @@ def text_of(number: int) -> str:
     return "\n".join(lines) + "\n"
 
 
-def bare(share: list[bytes]) -> int:
-    """The library's calls on sheets, and nothing else."""
-    library = calls.load()
+def bare(share: list[bytes]) -> float:
+    """The library's calls on sheets, and nothing else; the processor time."""
+    library, start = calls.load(), time.process_time()
     call, words = library.calls["evp_report"], (ctypes.c_uint64 * calls.REPORT_WORDS)()
     for data in share:
         if call(data, len(data), words, len(words)).number:
             raise SystemExit("a sheet of this benchmark is refused")
-    return len(share)
+    return time.process_time() - start
+
+
+def processor_time() -> float:
+    """Of this process and of all that have ended."""
+    return sum(sum(resource.getrusage(who)[:2]) for who in (resource.RUSAGE_SELF, resource.RUSAGE_CHILDREN))
 
 
 def timed(work: Callable[[], object]) -> float:
@@ -79,20 +84,24 @@ def through(paths: list[Path], store: Store, jobs: int) -> None:
 
 def rounds(paths: list[Path], folder: Path, jobs: int) -> None:
     store = Store(folder / "answers.sqlite")
-    spent = {"bare": 0.0, "run": 0.0}
+    spent, processor = {"bare": 0.0, "run": 0.0}, {"bare": 0.0, "run": 0.0}
     many = len(paths) // ROUNDS
     with get_context("fork").Pool(jobs, calls.load) as pool:
         for i in range(ROUNDS):
             part = paths[many * i:many * (i + 1)]
             data = [path.read_bytes() for path in part]
             shares = [data[k::4 * jobs] for k in range(4 * jobs)]
-            spent["bare"] += timed(lambda: list(pool.imap_unordered(bare, shares)))
+            start = time.perf_counter()
+            processor["bare"] += sum(pool.imap_unordered(bare, shares))
+            spent["bare"] += time.perf_counter() - start
+            before = processor_time()
             spent["run"] += timed(lambda: through(part, store, jobs))
+            processor["run"] += processor_time() - before
     for name, seconds in spent.items():
-        print("%-5s %d sheets in %.2f s, %.2f ms a sheet" % (
-            name, ROUNDS * many, seconds, 1000 * seconds / ROUNDS / many))
-    print("share of what %d processes can do: %.0f %%; load %.1f" % (
-        jobs, 100 * spent["bare"] / spent["run"], os.getloadavg()[0]))
+        print("%-5s %d sheets in %.2f s, %.2f ms a sheet; processor time %.2f ms a sheet" % (
+            name, ROUNDS * many, seconds, *(1000 * spent_on / ROUNDS / many for spent_on in (seconds, processor[name]))))
+    print("share of what %d processes can do: %.0f %% of the time, %.0f %% of the processor time; load %.1f" % (
+        jobs, *(100 * by["bare"] / by["run"] for by in (spent, processor)), os.getloadavg()[0]))
 
 
 def command(project: Path, out: Path, *words: str) -> tuple[float, int]:

@@ -4,7 +4,7 @@ from argparse import ArgumentTypeError, Namespace
 from collections.abc import Callable
 from typing import Any
 
-ABOUT = "reports all years and regions of a project: tables, a page of the series, and years that stand away"
+ABOUT = "reports all years and regions of a project: tables, a page of the series, and outliers with their cause"
 EXAMPLE = ("evp years sheets -o series\n"
            "evp years country.xlsx -o series --filed filed.csv --seasons\n"
            "evp years tables -o series --decimal comma --jobs 4")

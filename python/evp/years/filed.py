@@ -109,7 +109,7 @@ def _take(found: FiledFigures, cells: dict[str, str], where: str, comma: bool) -
     except TextError as error:
         raise InputError("%s: %s" % (where, error)) from None
     if figure.key in found.figures:
-        raise InputError("%s: this figure stands in the table already; keep one" % where)
+        raise InputError("%s: this figure is in the table twice; keep one" % where)
     found.figures[figure.key] = figure
 
 

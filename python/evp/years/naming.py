@@ -32,7 +32,7 @@ ALL_YEARS = Span(NO_START, NO_END)
 
 
 class Name(NamedTuple):
-    """What a name says: the years that stand in it, and the region."""
+    """What a name says: the years in it, and the region."""
     years: list[int]
     region: str
 

@@ -1,4 +1,4 @@
-"""Years that stand away from their neighbours, and the inputs that stepped there.
+"""Outliers of a series: years away from their neighbours, and the inputs that stepped there.
 
 A rule of thumb, which is not proved: the change from a year to the next is compared with the middle of the changes
 around it. The inputs are found by trial: one group of inputs of the year before is put into the sheet, and the group
@@ -101,7 +101,7 @@ def series_band(words: Sequence[int], series: str) -> Band:
 
 
 def steps_of(years: list[int], bands: list[Band]) -> list[Step]:
-    """The years of a series that stand away."""
+    """The outliers of a series."""
     logs = [math.log(sum(band) / 2) if sum(band) else 0.0 for band in bands]
     if len(logs) < 3 or not all(sum(band) for band in bands):
         return []
@@ -202,7 +202,7 @@ def _no_cause(old: bytes, new: bytes) -> str:
 
 
 def _records(data: bytes) -> tuple[list[bytes], list[bytes]]:
-    """The seasons and rows of a sheet, as they stand in it."""
+    """The seasons and rows of a sheet, as bytes."""
     seasons = [data[at:at + SEASON_BYTES] for i in range(layout.season_count(data))
                for at in [layout.season_place(data, i)]]
     rows = [data[at:at + ROW_BYTES] for i in range(layout.row_count(data)) for at in [layout.row_place(data, i)]]

@@ -273,7 +273,7 @@ def _add_parking(builder: Builder, rows: Rows, year: int, region: str) -> None:
     grid = list(rows.of("grid", year, region))
     lists = list(rows.of("parking", year, region))
     if grid and lists:
-        raise TextError("%s and %s: a grid stands in place of two lists, and both hold for it" % (
+        raise TextError("%s and %s: both a grid and lists of parkings hold for it; keep one of them" % (
             grid[0][0], lists[0][0]))
     if grid:
         _add_grid(builder, grid)

@@ -1,4 +1,4 @@
-"""The page of a series: the masses of its years with their bands, what was filed, and the years that stand away."""
+"""The page of a series: the masses of its years with their bands, the filed figures, and outliers."""
 
 from collections.abc import Callable, Iterable, Iterator
 from dataclasses import dataclass, field

@@ -54,7 +54,7 @@ class Source:
 @dataclass
 class Found:
     """The years and regions that the tables name, and which tables there are."""
-    years: set[int] = field(default_factory=set)  # that stand alone in a cell
+    years: set[int] = field(default_factory=set)  # alone in a cell
     ranges: set[int] = field(default_factory=set)  # within a range
     regions: dict[str, str] = field(default_factory=dict)  # as first written, by key
     kinds: set[str] = field(default_factory=set)
@@ -120,7 +120,7 @@ def open_workbook(path: Path) -> Any:
     except OSError as error:
         raise failed(path, error) from None
     except Exception:  # whatever a damaged file makes of the package
-        raise InputError("%s: this is no workbook that can be read; save it anew as .xlsx" % name_shown(path)) from None
+        raise InputError("%s: this is no workbook that can be read; save it again as .xlsx" % name_shown(path)) from None
 
 
 def worksheet_lines(path: Path, title: str) -> Lines:
@@ -262,7 +262,7 @@ class Rows:
         self._base.execute("create index by_region on row (kind, region, first)")
 
     def of(self, kind: str, year: int, region: str) -> Iterator[tuple[str, dict[str, str]]]:
-        """The rows of a table that hold for a year and a region, each with where it stands, in the tables' order."""
+        """The rows of a table that hold for a year and a region, each with its place, in the tables' order."""
         for label, line, cells in self._base.execute(
                 "select label, line, cells from row where kind = ? and region in ('', ?) and first <= ? and last >= ? "
                 "order by place", (kind, region_key(region), year, year)):
@@ -275,7 +275,7 @@ def _spans(given: dict[str, str], source: Source) -> tuple[Span, ...]:
     word = given.pop("year", "")
     if first or last:
         if word:
-            raise TextError("year stands beside year_from or year_to; write one of them")
+            raise TextError("there is a year and also year_from or year_to; write one of them")
         return (Span(year_of(first) if first else NO_START, year_of(last) if last else NO_END),)
     spans = spans_of(word)
     return (source.span,) if spans == (ALL_YEARS,) else spans

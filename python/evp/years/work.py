@@ -253,9 +253,9 @@ class Series:
             ", %s not" % apart(len(wrong)) if wrong else ""))
         commands.say(commands.limited(wrong, "such lines; results.csv has all", 8))
         if outliers:
-            print("Years that stand away from their neighbours, by a rule of thumb:")
+            print("Outliers, by a rule of thumb:")
             lines = ["  %s: %s" % (_named(found.region, found.year), found.sentence) for found in outliers]
-            commands.say(commands.limited(lines, "such years; index.html has all", 8))
+            commands.say(commands.limited(lines, "outliers; index.html has all", 8))
         if verdicts:
             print("Filed figures: %s, %s wrong" % (apart(len(verdicts)), apart(len(bad))))
             lines = ["  %s %s: %s %s filed: %s; %s" % (

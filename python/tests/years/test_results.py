@@ -155,7 +155,7 @@ class OutliersTest(ProjectTestCase):
 
     def test_nothing_stands_away(self):
         self.put_years()
-        self.assertNotIn("stand away", self.found() + self.said)
+        self.assertNotIn("Outliers", self.found() + self.said)
 
     def test_trips_doubled(self):
         self.put_years(y2007=sheet_of(18400 - 300 * 17, 9.6))
