@@ -99,7 +99,7 @@ def rounds(paths: list[Path], folder: Path, jobs: int) -> None:
             processor["run"] += processor_time() - before
     for name, seconds in spent.items():
         print("%-5s %d sheets in %.2f s, %.2f ms a sheet; processor time %.2f ms a sheet" % (
-            name, ROUNDS * many, seconds, *(1000 * spent_on / ROUNDS / many for spent_on in (seconds, processor[name]))))
+            name, ROUNDS * many, seconds, *(1000 * each / ROUNDS / many for each in (seconds, processor[name]))))
     print("share of what %d processes can do: %.0f %% of the time, %.0f %% of the processor time; load %.1f" % (
         jobs, *(100 * by["bare"] / by["run"] for by in (spent, processor)), os.getloadavg()[0]))
 

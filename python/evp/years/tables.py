@@ -120,7 +120,7 @@ def open_workbook(path: Path) -> Any:
     except OSError as error:
         raise failed(path, error) from None
     except Exception:  # whatever a damaged file makes of the package
-        raise InputError("%s: this is no workbook that can be read; save it again as .xlsx" % name_shown(path)) from None
+        raise InputError("%s: this is no readable workbook; save it again as .xlsx" % name_shown(path)) from None
 
 
 def worksheet_lines(path: Path, title: str) -> Lines:
