@@ -3,6 +3,7 @@
 import os
 from collections.abc import Iterable, Iterator
 from concurrent.futures import ProcessPoolExecutor
+from concurrent.futures.process import BrokenProcessPool
 from dataclasses import dataclass, field
 from functools import partial
 from math import gcd
@@ -16,7 +17,7 @@ from evp.sheet import Builder, TextError, doubts
 from evp.sheet.folders import DURATIONS, HOURS
 from evp.wording import name_shown, quoted
 from evp.years.naming import ALL_YEARS, Name, Span, name_of, region_key
-from evp.years.run import AHEAD, begin_process
+from evp.years.run import AHEAD, ENDED, begin_process
 from evp.years.tables import KINDS, Found, Rows, Source, open_workbook, source_of, worksheet_lines
 
 STATE = ".state"  # which a folder of results has
@@ -242,6 +243,8 @@ def make_sheets(rows: Rows, entries: list[Entry], jobs: int) -> Iterator[Made]:
         for i in range(0, len(parts), AHEAD * jobs):
             for made in pool.map(_make_some, parts[i:i + AHEAD * jobs]):
                 yield from made
+    except BrokenProcessPool:
+        raise InputError(ENDED) from None
     finally:
         pool.shutdown(wait=True, cancel_futures=True)
 

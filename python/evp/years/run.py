@@ -23,6 +23,8 @@ from evp.wording import apart
 
 CHUNK = 16  # sheets that a process gets at once, at most
 AHEAD = 3  # chunks for each process that are read and not answered yet
+ENDED = ("a process was ended from outside, perhaps for want of memory; what is done is kept, and the same command "
+         "goes on")
 PARENT_ENDS = 1  # PR_SET_PDEATHSIG of <sys/prctl.h>
 
 
@@ -127,8 +129,7 @@ def run_local(chunks: Iterable[Chunk], options: Options, jobs: int) -> Iterator[
         while pending:
             yield from _finished(pending)
     except BrokenProcessPool:
-        raise InputError("a process that calculates was ended from outside, perhaps for want of memory; what is done "
-                         "is kept, and the same command goes on") from None
+        raise InputError(ENDED) from None
     finally:
         pool.shutdown(wait=True, cancel_futures=True)
 

@@ -2,9 +2,11 @@
 
 import os
 import re
+import sqlite3
 import sys
 from argparse import Namespace
 from collections.abc import Iterator
+from contextlib import closing
 from dataclasses import replace
 from pathlib import Path
 
@@ -39,17 +41,17 @@ def run(given: Namespace) -> int:
     _check_out(project, out, given.force)
     make_folder(out)
     with state_of(out) as state:
-        found = find_project(project, out, state)
-        series = Series(library, found, out, given)
         try:
-            series.make_sheets()
-            series.calculate(state)
-            return series.write(filed)
+            series = Series(library, find_project(project, out, state), out, given)
+            with closing(series):
+                series.make_sheets()
+                series.calculate(state)
+                return series.write(filed)
         except KeyboardInterrupt:
             print("\nevp: what is done is kept; the same command goes on from there", file=sys.stderr)
             raise
-        finally:
-            series.close()
+        except sqlite3.OperationalError as error:  # as on a full disk
+            raise InputError("%s: %s" % (name_shown(state), error)) from None
 
 
 def _prefer_debian(given: Namespace) -> None:
