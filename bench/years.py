@@ -31,7 +31,7 @@ from evp.years.project import GUIDEBOOK  # noqa: E402
 from evp.years.resume import Store, key_of  # noqa: E402
 from evp.years.run import Chunk, Options, chunk_size, cores, run_local  # noqa: E402
 
-ROUNDS = 6
+ROUNDS = 3
 
 
 def text_of(number: int) -> str:

@@ -5,6 +5,7 @@ import ctypes
 import json
 import os
 import signal
+import struct
 import sys
 import time
 from collections.abc import Iterable, Iterator, Sequence
@@ -25,6 +26,7 @@ CHUNK = 16  # sheets that a process gets at once, at most
 AHEAD = 3  # chunks for each process that are read and not answered yet
 ENDED = ("a process was ended from outside, perhaps for want of memory; what is done is kept, and the same command "
          "goes on")
+RECORD = struct.Struct("<BB6xI12x")  # class, technology and vehicles of a row
 PARENT_ENDS = 1  # PR_SET_PDEATHSIG of <sys/prctl.h>
 
 
@@ -67,18 +69,14 @@ def _last_words(report: calls.Report) -> list[int]:
 
 def _classes(data: bytes, words: list[int]) -> list[list[int]]:
     """Class, technology, vehicles and the sums of the rows' words of each class and technology that there is."""
+    many, start = (len(words) - LAST_WORDS) // 6, row_place(data, 0)
     found: dict[tuple[int, int], list[int]] = {}
-    start = row_place(data, 0)
-    for i in range((len(words) - LAST_WORDS) // 6):
-        place = start + ROW_BYTES * i
-        found.setdefault((data[place], data[place + 1]), []).append(i)
-    lines = []
-    for (number, technology), rows in sorted(found.items()):
-        vehicles = sum(int.from_bytes(data[start + ROW_BYTES * i + 8:start + ROW_BYTES * i + 12], "little")
-                       for i in rows)
-        sums = map(sum, zip(*(words[6 * i:6 * i + 6] for i in rows)))
-        lines.append([number, technology, vehicles, *sums])
-    return lines
+    vehicles = []
+    for i, (number, technology, count) in enumerate(RECORD.iter_unpack(data[start:start + ROW_BYTES * many])):
+        found.setdefault((number, technology), []).append(i)
+        vehicles.append(count)
+    columns = [vehicles, *(words[k:6 * many:6] for k in range(6))]
+    return [[*key, *(sum(map(column.__getitem__, rows)) for column in columns)] for key, rows in sorted(found.items())]
 
 
 def answers(sheets: Sequence[bytes], options: Options) -> list[str]:

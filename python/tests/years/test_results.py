@@ -3,6 +3,7 @@
 import unittest
 from decimal import ROUND_HALF_UP, Decimal
 
+from html_check import Page
 from support import LIBRARY
 from years.making import TABLE_SEASONS, fleet, read, sheet_of, years
 from years.test_project import ProjectTestCase
@@ -111,6 +112,8 @@ class TablesTest(ProjectTestCase):
         self.put("p/fleet.csv", fleet(1996))
         self.made()
         page = (self.folder / "out/index.html").read_text(encoding="utf-8")
+        self.assertEqual(Page(page.replace("results.csv", "each/").replace("nfr.csv", "each/").replace(
+            "results.xlsx", "each/")).faults, [])
         self.assertIn("north 1996", page)
         self.assertIn("from 4.80 to 9.60 (2 times)", page)
         self.assertIn("not of the uncertainty", " ".join(page.split()))
