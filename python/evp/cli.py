@@ -19,6 +19,7 @@ from evp.library import MissingCall
 from evp.masses import UNITS
 from evp.pages import command as page_command
 from evp.wording import MOST_SHOWN, printable, quoted, shortened
+from evp.years import command as years_command
 
 TAKES_NO_MORE = (errno.ENOSPC, errno.EDQUOT, errno.EFBIG, errno.EIO)  # what a disk that is full answers, or broken
 STATUS = "Exit status 0 fine, 1 refused or a figure wrong,\n2 not readable or not understood, 130 stopped by Ctrl-C."
@@ -78,6 +79,7 @@ def parser() -> Parser:
     analysis_command.add_parser(_add, add)
     page_command.add_parser(_add, add)
     desk_command.add_parser(_add, add)
+    years_command.add_parser(_add, add)
     top.commands = add.choices
     return top
 

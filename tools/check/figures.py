@@ -131,7 +131,7 @@ NOUNS = (
 KNOWN = (
     "43 pairs are in the table", "29 masses", "26 sums, which are all that grows",
     "16,384 exponents from the whole range", "25 temperatures",
-    "20 calls, processor time", "30 sheets, 436 figures", "27,390 masses, take",
+    "20 calls, processor time", "30 sheets, 436 figures", "32 sheets of 16 years", "27,390 masses, take",
 )
 
 
