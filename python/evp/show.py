@@ -68,7 +68,8 @@ def _table(data: bytes, report: Report, unit: str | None, row_names: list[str]) 
     for i, masses in enumerate(report.rows):
         row = layout.row(data, i)
         technology = technology_name(row["technology"]) if row["technology"] else "conv."
-        yield (str(i + 1), *named(row_names[i] if i < len(row_names) else ""), SHORT_NAMES.get(row["class"], CLASSES[row["class"]][0]), technology, canister_name(row),
+        vehicle = SHORT_NAMES.get(row["class"], CLASSES[row["class"]][0])
+        yield (str(i + 1), *named(row_names[i] if i < len(row_names) else ""), vehicle, technology, canister_name(row),
                apart(row["vehicles"]), *cells(masses))
     for name, masses in groups(report):
         yield "", *named(""), GROUP_NAMES[name], "", "", "", *cells(masses)
@@ -157,7 +158,8 @@ def comparison_lines(name_a: str, name_b: str, rows: tuple[int, int], found: lis
     for d in found:
         if d.verdict in words:
             change = "" if d.verdict == "open" else " " + _change(d)
-            lines.append((d.figure.named(names), shown(d.a, None, DASH), shown(d.b, None, DASH), words[d.verdict] + change))
+            ends = (shown(band, None, DASH) for band in (d.a, d.b))
+            lines.append((d.figure.named(names), *ends, words[d.verdict] + change))
     yield "A: %s" % name_a
     yield "B: %s" % name_b
     if rows[0] != rows[1]:

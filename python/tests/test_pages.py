@@ -94,7 +94,8 @@ class TestPages(unittest.TestCase):
         for name in ("", *(name for name, _ in render.LINKS)):
             cls.pages["/" + name] = client.get("/" + name).get_data(as_text=True)
         for name, ask in ASKS.items():
-            cls.pages["served " + name] = client.post("/" + name, data={"example": ask.example}).get_data(as_text=True)
+            cls.pages["served " + name] = client.post(
+                "/" + name, data={"example": ask.example}, follow_redirects=True).get_data(as_text=True)
 
     def test_well_formed_and_labelled(self):
         for name, html in self.pages.items():
@@ -473,7 +474,7 @@ class TestRoutes(unittest.TestCase):
         data = dict(more)
         for field, content, name in files:
             data.setdefault(field, []).append((io.BytesIO(content), name))
-        return self.client.post(where, data=data)
+        return self.client.post(where, data=data, follow_redirects=True)
 
     def test_thirty_sheets_are_marked(self):
         files = [("files", path.read_bytes(), path.name) for path in COURSE.iterdir() if path.name != "marks.csv"]
@@ -580,9 +581,7 @@ class TestRoutes(unittest.TestCase):
         files = [("files", (SAMPLES / "afternoon" / name).read_bytes(), name) for name in names]
         form = self.post("/form/read", *files).get_json()["form"]
         found = forms.check_form(LIBRARY, forms.form_of(form))
-        self.assertEqual([fault["id"] for fault in found["faults"]], ["row-0-trips"])
-        form["rows"][0]["trips"] = "4.80"
-        found = forms.check_form(LIBRARY, forms.form_of(form))
+        self.assertEqual(form["rows"][0]["trips"], "4,80")  # which in a form can mean one thing
         self.assertEqual([fault["id"] for fault in found["faults"]], ["row-1-load"])
         self.assertEqual(found["doubts"], ["row 3: vehicles left out, so 0"])
         for path in samples():

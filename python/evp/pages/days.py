@@ -123,8 +123,9 @@ def page_day(library: Library, name: str, data: bytes, rows: list[int] | None = 
     return render(
         "day.html", served, name=name_shown(name), charts=charts, days=days, season=season, end_hour=end_hour,
         duration=duration, on=parking_on(days[season], end_hour, duration), packed=packed, factors=factors,
-        seasons=[{"name": with_name("season %d" % (i + 1), names.season(i)), "words": season_words(s), "lowest": tenths(s["lowest"]),
-                  "highest": tenths(s["highest"]), "vp": tenths(s["vp"]), "days": s["days"]}
+        seasons=[{"name": with_name("season %d" % (i + 1), names.season(i)), "words": season_words(s),
+                  "lowest": tenths(s["lowest"]), "highest": tenths(s["highest"]), "vp": tenths(s["vp"]),
+                  "days": s["days"]}
                  for i, s in enumerate(seasons)],
         rows=[{"number": i + 1, "who": named_row(row, names.row(i)), "canister": canister_words(row), "short": short}
               for i, row, short in zip(rows, records, told_rows)],

@@ -406,7 +406,7 @@ ABOUT = {  # as docs/SHEET.md has it
     "hot": "share of trips that end with a hot engine", "fill": "fill level of the tank",
     "tank": "size of the tank; left empty it is that of the class", "vehicles": "number of vehicles",
     "trips": "trips of a vehicle a day", "minutes": "length of a trip",
-    "load": "load of the canister when the parking starts; no usual load is given, the guidebook has it from the mileage",
+    "load": "load of the canister when the parking starts; the guidebook gives no usual load, but one by mileage",
     "saturation": "load that saturates the canister; the guidebook gives no usual m_sat, and with 0 the canister holds "
                   "nothing",
     "mileage": "km that the vehicle has driven, in place of a load: eq. 12 of the guidebook gives the load of it",

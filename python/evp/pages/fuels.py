@@ -78,7 +78,8 @@ def _lines(found: list[Difference], data: bytes, fuel: Fuel | None, beside: Name
             continue
         row = layout.row(data, int(name) - 1)
         law = bool(fuel and fuel.one_way) and canister_of(row) == 0
-        lines.append(Line(with_name("row " + name, beside.row(int(name) - 1)), "%s, %s" % (row_name(row), canister_words(row)), canister_of(row) != 0,
+        about = "%s, %s" % (row_name(row), canister_words(row))
+        lines.append(Line(with_name("row " + name, beside.row(int(name) - 1)), about, canister_of(row) != 0,
                           [Compared(mass, law) for mass in masses]))
     return lines
 
@@ -126,7 +127,8 @@ def page_fuels(library: Library, names: tuple[str, str], sheets: tuple[bytes, by
     total = Compared(found[-1], False)
     return render(
         "fuels.html", served, names=[name_shown(name) for name in names], fuel=fuel, rows=rows, groups=_groups(found),
-        total=total, seasons=_seasons(*sheets, beside), counts=_counted(Counter(d.verdict for d in found)), many=len(found),
+        total=total, seasons=_seasons(*sheets, beside), counts=_counted(Counter(d.verdict for d in found)),
+        many=len(found),
         words=WORDS, same=sheets[0] == sheets[1],
         left_out=len(a.rows) - len(rows) if rows else 0, row_counts=(len(a.rows), len(b.rows)),
         most=max(1, *(band.high for report in (a, b) for group in GROUPS for band in getattr(report, group))),

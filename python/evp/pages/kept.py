@@ -25,7 +25,7 @@ class Kept:
     """Results by their keys, the oldest first."""
 
     def __init__(self, most: int = 400, most_bytes: int = 48_000_000, seconds: float = 3600 * HOURS,
-                 clock: Callable[[], float] = time.monotonic):
+                 clock: Callable[[], float] = time.monotonic) -> None:
         self._most, self._most_bytes, self._seconds, self._clock = most, most_bytes, seconds, clock
         self._results: OrderedDict[str, Result] = OrderedDict()
         self._bytes, self._lock = 0, threading.Lock()
@@ -50,7 +50,7 @@ class Kept:
             return None
         return zlib.decompress(found.packed).decode("utf-8", "surrogatepass")
 
-    def _drop_old(self):
+    def _drop_old(self) -> None:
         now = self._clock()
         while self._results:
             first = next(iter(self._results.values()))

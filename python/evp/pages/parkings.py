@@ -86,7 +86,8 @@ def page_parking(library: Library, name: str, data: bytes, season: int | None = 
         whole=library.factor(data, season, row, DIURNAL), edges=edges, steps=steps,
         count_levels=[[_level(count, steps) for count in line] for line in counts],
         factor_levels=[[_level(band.high / 1e6, edges) for band in line] for line in factors],
-        season=with_name("season %d" % (season + 1), names.season(season)), season_words=season_words(seasons[season]), row=row + 1,
+        season=with_name("season %d" % (season + 1), names.season(season)),
+        season_words=season_words(seasons[season]), row=row + 1,
         who=named_row(record, names.row(row)),
         canister=canister_words(record), busiest=by_hour.index(max(by_hour)) + 1, end_hour=24, duration=17,
         top={"grams": grams(factors[top[0]][top[1]], 2), "end": top[0] + 1, "hours": hours(top[1] + 1)}, packed=packed,
@@ -100,5 +101,6 @@ def page_parking(library: Library, name: str, data: bytes, season: int | None = 
 def _choices(data: bytes, seasons: list[dict[str, int]], names: Names) -> dict[str, list[str]]:
     """What a served page can be asked for."""
     rows = [layout.row(data, i) for i in range(layout.row_count(data))]
-    return {"season": ["%s: %s" % (with_name(str(i), names.season(i - 1)), season_words(season)) for i, season in enumerate(seasons, 1)],
+    return {"season": ["%s: %s" % (with_name(str(i), names.season(i - 1)), season_words(season))
+                       for i, season in enumerate(seasons, 1)],
             "row": ["%d: %s" % (i, named_row(row, names.row(i - 1))) for i, row in enumerate(rows, 1)]}

@@ -99,7 +99,8 @@ def page_sheet(library: Library, name: str, data: bytes, filings: list[Filing] |
         total=report.total, unit=unit, canisters=canisters, classes=classes, seasons=seasons, fleet=fleet,
         row_count=layout.row_count(data), vehicles=vehicles, groups=[(GROUP_NAMES[n], m) for n, m in groups(report)],
         judged=judged and judged[:MOST_FIGURES], more_judged=len(judged or ()) - MOST_FIGURES, packed=packed,
-        doubts=list(doubt_lines(library, data, names)), most_class=_most(classes), most_season=_most(seasons), most_row=_most(fleet))
+        doubts=list(doubt_lines(library, data, names)), most_class=_most(classes), most_season=_most(seasons),
+        most_row=_most(fleet))
 
 
 def _most(parts: list[Part]) -> Part:

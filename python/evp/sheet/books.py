@@ -8,6 +8,7 @@ import io
 import re
 import zipfile
 from collections.abc import Iterable, Iterator
+from importlib import import_module
 from importlib.util import find_spec
 from pathlib import Path
 from typing import Any, NamedTuple
@@ -34,7 +35,8 @@ MOST_LINES, MOST_COLUMNS = 1_300, 60  # of a worksheet that are looked at
 FIELDS = {field.name: field for field in (*SEASON_FIELDS, *ROW_FIELDS, MILEAGE)}
 NAME = "name"  # of the column that tables call note
 ALIASES = {"lists": "parking", "season": "seasons", "rows": "fleet"}
-UNITS = {"carburettor": "% of vehicles", "hot": "% of trips", "fill": "% of tank", "trips": "a day", "minutes": "a trip"}
+UNITS = {"carburettor": "% of vehicles", "hot": "% of trips", "fill": "% of tank", "trips": "a day",
+         "minutes": "a trip"}
 
 
 class Cell(NamedTuple):
@@ -53,9 +55,16 @@ def is_book(name: str | Path) -> bool:
     return str(name).lower().endswith(ENDS)
 
 
-def need(module: str, package: str):
-    if find_spec(module) is None:
-        raise InputError("%s is missing, which reads and writes workbooks: sudo apt install %s" % (module, package))
+PACKAGES = {"openpyxl": "python3-openpyxl", "odf": "python3-odf"}
+
+
+def need(module: str) -> Any:
+    """A module that reads or writes workbooks; InputError with the package of Debian where it is missing."""
+    package = PACKAGES[module.partition(".")[0]]
+    if find_spec(module.partition(".")[0]) is None:
+        raise InputError("%s is missing, which reads and writes workbooks: sudo apt install %s" % (
+            module.partition(".")[0], package))
+    return import_module(module)
 
 
 def take_book(name: str | Path) -> Builder:
@@ -106,7 +115,7 @@ def worksheets(data: bytes, label: str) -> dict[str, list[list[Cell]]]:
     return {ALIASES.get(name.strip().lower(), name.strip().lower()): list(lines) for name, lines in found}
 
 
-def _check_archive(data: bytes, label: str):
+def _check_archive(data: bytes, label: str) -> None:
     if len(data) > MOST_FILE:
         raise InputError("%s: more than %d MB; no workbook of a sheet is so long" % (label, MOST_FILE // 1_000_000))
     try:
@@ -120,8 +129,7 @@ def _check_archive(data: bytes, label: str):
 
 
 def _from_xlsx(data: bytes, label: str) -> list[tuple[str, list[list[Cell]]]]:
-    need("openpyxl", "python3-openpyxl")
-    import openpyxl
+    openpyxl = need("openpyxl")
     try:
         values, formulas = (openpyxl.load_workbook(io.BytesIO(data), read_only=True, data_only=only)
                             for only in (True, False))
@@ -135,7 +143,6 @@ def _from_xlsx(data: bytes, label: str) -> list[tuple[str, list[list[Cell]]]]:
 
 
 def _xlsx_lines(sheet: Any, formulas: Any) -> Iterator[list[Cell]]:
-    from openpyxl.utils import get_column_letter
     bounds = {"max_row": MOST_LINES, "max_col": MOST_COLUMNS}
     sheet.reset_dimensions()
     formulas.reset_dimensions()
@@ -146,7 +153,7 @@ def _xlsx_lines(sheet: Any, formulas: Any) -> Iterator[list[Cell]]:
             if value is None and isinstance(source.value, str) and source.value.startswith("="):
                 value = Unreadable("the formula has no value; let the spreadsheet calculate it and save again")
             percent = "%" in str(getattr(cell, "number_format", "") or "")
-            cells.append(Cell("%s%d" % (get_column_letter(column), number), value, percent))
+            cells.append(Cell("%s%d" % (_letters(column), number), value, percent))
         if _has_words(cells):
             yield cells
 
@@ -159,8 +166,7 @@ def _has_words(cells: list[Cell]) -> bool:
 
 
 def _from_ods(data: bytes, label: str) -> list[tuple[str, list[list[Cell]]]]:
-    need("odf", "python3-odf")
-    from odf import opendocument, table
+    opendocument, table = need("odf.opendocument"), need("odf.table")
     try:
         book = opendocument.load(io.BytesIO(data))
         return [(sheet.getAttribute("name"), list(_ods_lines(sheet))) for sheet in book.getElementsByType(table.Table)]
@@ -170,8 +176,7 @@ def _from_ods(data: bytes, label: str) -> list[tuple[str, list[list[Cell]]]]:
 
 
 def _ods_lines(sheet: Any) -> Iterator[list[Cell]]:
-    from odf import table
-    number = 1
+    table, number = need("odf.table"), 1
     for row in sheet.getElementsByType(table.TableRow):
         repeated = int(row.getAttribute("numberrowsrepeated") or 1)
         values: list[tuple[Any, bool]] = []
@@ -203,8 +208,7 @@ def _ods_value(cell: Any) -> tuple[Any, bool]:
         return cell.getAttribute("booleanvalue") == "true", False
     if cell.getAttribute("formula") and kind is None:
         return Unreadable("the formula has no value; let the spreadsheet calculate it and save again"), False
-    from odf import teletype
-    return teletype.extractText(cell) or None, False
+    return need("odf.teletype").extractText(cell) or None, False
 
 
 def word_of(cell: Cell) -> str:
@@ -259,7 +263,7 @@ def _cell(line: list[Cell], at: int) -> Cell:
     return line[at] if at < len(line) else Cell("", None)
 
 
-def _take_records(builder: Builder, lines: list[list[Cell]], kind: str, needed: list[str], where: str):
+def _take_records(builder: Builder, lines: list[list[Cell]], kind: str, needed: list[str], where: str) -> None:
     columns = SEASON_COLUMNS if kind == "seasons" else ROW_COLUMNS
     header = _header(lines[0], columns, needed, where)
     for line in lines[1:]:
@@ -285,7 +289,7 @@ def _checked(word: str, name: str) -> str:
     return found
 
 
-def _take_parking(builder: Builder, sheets: dict[str, list[list[Cell]]], label: str):
+def _take_parking(builder: Builder, sheets: dict[str, list[list[Cell]]], label: str) -> None:
     if "grid" in sheets and "parking" in sheets:
         raise InputError("%s: a grid stands in place of two lists, and both worksheets grid and parking are there" % (
             label))
@@ -325,7 +329,7 @@ def _keys(builder: Builder, lines: list[list[Cell]], at: int, keys: list[str], c
     return found
 
 
-def _take_lists(builder: Builder, lines: list[list[Cell]], where: str):
+def _take_lists(builder: Builder, lines: list[list[Cell]], where: str) -> None:
     header = _header(lines[0], PARKING_COLUMNS, PARKING_COLUMNS, where)
     for name, (key, count, keys) in LISTS.items():
         found = _keys(builder, lines[1:], header[key], keys, key, where)
@@ -339,7 +343,7 @@ def _take_lists(builder: Builder, lines: list[list[Cell]], where: str):
                 builder.add_counts(name, tuple(words))
 
 
-def _take_grid(builder: Builder, lines: list[list[Cell]], where: str):
+def _take_grid(builder: Builder, lines: list[list[Cell]], where: str) -> None:
     header = _header(lines[0], GRID_COLUMNS, GRID_COLUMNS, where)
     for hour, line in _keys(builder, lines[1:], header["end_hour"], HOURS, "end_hour", where).items():
         words = tuple(_count(builder, line, header[duration], where) for duration in DURATIONS)
@@ -353,8 +357,7 @@ def _take_grid(builder: Builder, lines: list[list[Cell]], where: str):
 
 def book_bytes(data: bytes, names: Names = NO_NAMES) -> bytes:
     """The workbook of a sheet; TextError where it cannot hold its bytes."""
-    need("openpyxl", "python3-openpyxl")
-    import openpyxl
+    openpyxl = need("openpyxl")
     check_plain(data)
     book = openpyxl.Workbook()
     book.remove(book.active)
@@ -377,17 +380,17 @@ def book_bytes(data: bytes, names: Names = NO_NAMES) -> bytes:
     return out.getvalue()
 
 
-def _write_table(sheet: Any, header: list[Any], lines: list[list[Any]]):
-    from openpyxl.styles import Alignment, Font, PatternFill
+def _write_table(sheet: Any, header: list[Any], lines: list[list[Any]]) -> None:
+    styles = need("openpyxl.styles")
     for line in (header, *lines):
         sheet.append(line)
     for cell in sheet[1]:
-        cell.font, cell.alignment = Font(bold=True), Alignment(wrap_text=True, vertical="top")
-        cell.fill = PatternFill("solid", fgColor="E8EEF4")
+        cell.font, cell.alignment = styles.Font(bold=True), styles.Alignment(wrap_text=True, vertical="top")
+        cell.fill = styles.PatternFill("solid", fgColor="E8EEF4")
     sheet.freeze_panes = "B2"
 
 
-def _write_records(sheet: Any, fields: tuple[Field, ...], records: list[dict[str, str]], names: list[str]):
+def _write_records(sheet: Any, fields: tuple[Field, ...], records: list[dict[str, str]], names: list[str]) -> None:
     header = [NAME, *(_with_unit(field) for field in fields)]
     lines = [["", *(_value(record[field.name], field) for field in fields)] for record in records]
     _write_table(sheet, header, lines)
@@ -418,11 +421,9 @@ def _value(word: str, field: Field) -> Any:
         return word
 
 
-def _write_limits(sheet: Any, column: int, field: Field):
+def _write_limits(sheet: Any, column: int, field: Field) -> None:
     """The limits of a column, as the spreadsheet checks them while someone types."""
-    from openpyxl.utils import get_column_letter
-    from openpyxl.worksheet.datavalidation import DataValidation
-    letter = get_column_letter(column)
+    DataValidation, letter = need("openpyxl.worksheet.datavalidation").DataValidation, _letters(column)
     if field.name == "canister":
         check = DataValidation(type="list", formula1='"none,small,medium,large"', allow_blank=True)
         check.error = "none, small, medium or large; empty is that of the class"

@@ -38,7 +38,7 @@ def version_for(has_grid: bool, has_mileage: bool, rows: int) -> int:
 class Builder:
     """What has been given so far."""
 
-    def __init__(self):
+    def __init__(self) -> None:
         self.parking: dict[str, list[bytes]] = {}
         self.ends: dict[str, str] = {}  # where each list ends
         self.seasons: list[bytes] = []
@@ -66,7 +66,7 @@ class Builder:
 
     # ------------------------------------------------------------------ records, each within at()
 
-    def add_counts(self, name: str, words: tuple[str, ...]):
+    def add_counts(self, name: str, words: tuple[str, ...]) -> None:
         """Counts of `durations`, of `hours`, or of an end hour of the grid, `grid 7`."""
         self.parking.setdefault(name, []).extend(encode(word, Field(name, 2)) for word in words)
         self.ends[name] = self.last
@@ -75,7 +75,7 @@ class Builder:
         if len(self.parking[name]) > 24:
             raise self._miscounted(name)
 
-    def add_season(self, given: dict[str, str], name: str = ""):
+    def add_season(self, given: dict[str, str], name: str = "") -> None:
         for wanted in SEASON_NAMES:
             if wanted not in given:
                 raise TextError("season: %s is missing" % wanted)
@@ -84,7 +84,7 @@ class Builder:
         self.season_words.append(given)
         self.names.seasons.append(as_name(name))
 
-    def add_row(self, given: dict[str, str], name: str = ""):
+    def add_row(self, given: dict[str, str], name: str = "") -> None:
         for wanted in ("class", "technology"):
             if wanted not in given:
                 raise TextError("row: %s is missing" % wanted)
@@ -95,7 +95,7 @@ class Builder:
         self.row_words.append(given)
         self.names.rows.append(as_name(name))
 
-    def add_single(self, name: str, words: tuple[str, ...]):
+    def add_single(self, name: str, words: tuple[str, ...]) -> None:
         if name in self.single:
             raise TextError("%s is given twice" % name)
         if len(words) != 1:

@@ -21,7 +21,7 @@ def products(durations: Sequence[int], hours: Sequence[int]) -> bytes:
     return b"".join((d * h).to_bytes(2, "little") for h in hours for d in durations)
 
 
-def check_sum(counts: Sequence[int], what: str):
+def check_sum(counts: Sequence[int], what: str) -> None:
     """TextError where a list breaks the rule that lists have in version 1, where no grid is made of them."""
     if not 1 <= sum(counts) <= MOST_SUM:
         raise TextError("the counts of the 24 %s sum to %s; write counts that sum to 1 to %s" % (
