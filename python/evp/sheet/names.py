@@ -7,6 +7,7 @@ its tables, in its workbook, or in NAME.names.csv beside NAME.evp.
 """
 
 from collections.abc import Sequence
+from functools import lru_cache
 from pathlib import Path
 from typing import NamedTuple
 
@@ -49,6 +50,11 @@ def _at(names: Sequence[str], i: int) -> str:
 
 def as_name(word: str) -> str:
     """A name in one line, without what a terminal would obey, and not long."""
+    return _as_name(word[:10 * MOST_NAME])
+
+
+@lru_cache(maxsize=4_096)
+def _as_name(word: str) -> str:
     return shortened(printable(" ".join(word.split())), MOST_NAME)
 
 

@@ -1,9 +1,11 @@
 /* What the server says of the form: faults at their fields, doubts, and the masses now and before. */
 (function (app) {
   "use strict";
-  var told = app.get("told"), last = null, before = null, now = null;
+  var told = app.get("told"), last = null, before = null, now = null, has = false;
 
   app.clearFaults = function () {
+    if (!has) return;  // to look through a thousand rows takes time
+    has = false;
     app.all("[aria-invalid]").forEach(function (field) {
       field.removeAttribute("aria-invalid");
       field.removeAttribute("aria-describedby");
@@ -66,6 +68,7 @@
     last = answer;
     app.clearFaults();
     answer.faults.slice(0, 20).forEach(showFault);
+    has = answer.faults.length > 0;
     app.get("state").className = "state " + ({ accepted: "yes", empty: "" }[answer.state] ?? "no");
     showLine(answer);
     app.get("save").textContent = answer.state === "refused" ? "Save it, though refused" : "Save the sheet";

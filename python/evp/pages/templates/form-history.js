@@ -15,7 +15,7 @@
     return true;
   };
   function go(step) {
-    app.remember(JSON.stringify(app.collect()));  // what is typed and not yet checked
+    app.remember(app.text());  // what is typed and not yet checked
     if (!states[at + step]) return;
     at += step;
     app.put(JSON.parse(states[at]));
@@ -50,7 +50,7 @@
   };
   app.keepDraftNow = function () {
     clearTimeout(timer);
-    if (states.length > 1) write(JSON.stringify(app.collect()));
+    if (states.length > 1) write(app.text());
   };
   app.dropDraft = function () {
     clearTimeout(timer);

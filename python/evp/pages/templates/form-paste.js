@@ -35,18 +35,21 @@
     });
     return keyed ? block.map(function (cells) { return [cells[1]]; }) : block;
   }
+  function put(field, word) {
+    if (!field) return;
+    field.value = word;
+    app.typed(field);
+  }
   function pasteList(name, from, block) {
     [].concat.apply([], withoutKeys(block)).forEach(function (word, i) {
-      var to = app.get(name + "-" + (from + i));
-      if (to) to.value = word;
+      put(app.get(name + "-" + (from + i)), word);
     });
     app.showSums();
   }
   function pasteGrid(t, d, block) {
     block.forEach(function (cells, i) {
       cells.forEach(function (word, j) {
-        var to = app.get("grid-" + (t + i) + "-" + (d + j));
-        if (to) to.value = word;
+        put(app.get("grid-" + (t + i) + "-" + (d + j)), word);
       });
     });
     app.showSums();

@@ -1,4 +1,5 @@
-/* The form as words: what the page has, and the page as it is told. Other scripts change the words, not the page. */
+/* The form as words, and the page as it is told. Other scripts change the words and put them on the page; what is typed
+   goes into the words field by field, since reading a thousand rows from the page takes time. */
 var evpForm = {};
 (function (app) {
   "use strict";
@@ -9,19 +10,22 @@ var evpForm = {};
   app.lines = function (name) { return Array.from(app.get(name + "-table").tBodies[0].querySelectorAll("tr.record")); };
   app.fields = function (line) { return line.querySelectorAll("[data-field]"); };
 
+  var words = null;  // as the page has them
+  app.text = function () { return JSON.stringify(words); };
+  app.collect = function () { return JSON.parse(app.text()); };
   function wordsOf(line) {
     var found = {};
     app.fields(line).forEach(function (field) { found[field.dataset.field] = field.value; });
     return found;
   }
-  function counts(prefix) { return app.range(24).map(function (i) { return app.get(prefix + "-" + i).value; }); }
-  app.wordsOf = wordsOf;
-  app.collect = function () {
-    return {
-      seasons: app.lines("season").map(wordsOf), parking: app.kind(), durations: counts("durations"),
-      hours: counts("hours"), grid: app.range(24).map(function (t) { return counts("grid-" + t); }),
-      rows: app.lines("row").map(wordsOf), version: app.get("form").dataset.version || ""
-    };
+  app.typed = function (field) {  // what was typed or chosen in a field
+    var at = /^(season|row)-(\d+)-(\w+)$/.exec(field.id);
+    if (at) words[at[1] + "s"][+at[2]][at[3]] = field.value;
+    at = /^(durations|hours)-(\d+)$/.exec(field.id);
+    if (at) words[at[1]][at[2] - 1] = field.value;
+    at = /^grid-(\d+)-(\d+)$/.exec(field.id);
+    if (at) words.grid[at[1] - 1][at[2] - 1] = field.value;
+    if (field.name === "kind") words.parking = app.kind();
   };
   app.empty = function () {
     var none = Array(24).fill("");
@@ -86,29 +90,30 @@ var evpForm = {};
       var line = lines[i] || app.get(name + "-line").content.firstElementChild.cloneNode(true);
       putWords(line, words);
       if (!lines[i]) fresh.append(line);
+      records[i] = wordsOf(line);
     });
     lines.slice(records.length).forEach(function (line) { line.remove(); });
     body.append(fresh);
     number(name);
   }
-  function putCounts(words) {
+  function putCounts() {
     app.get("form").querySelector("[name=kind][value=" + words.parking + "]").checked = true;
     app.range(24).forEach(function (i) {
       app.get("durations-" + i).value = words.durations[i - 1];
       app.get("hours-" + i).value = words.hours[i - 1];
       app.range(24).forEach(function (d) {
         var count = words.grid[i - 1][d - 1], cell = app.get("grid-" + i + "-" + d);
-        count = count === "0" ? "" : count;
+        count = words.grid[i - 1][d - 1] = count === "0" ? "" : count;
         if (cell.value !== count) cell.value = count;
       });
     });
   }
-  app.put = function (words) {
+  app.put = function (given) {
+    words = JSON.parse(JSON.stringify(given));
     app.clearFaults();
     putLines("season", words.seasons);
     putLines("row", words.rows);
-    putCounts(words);
-    app.get("form").dataset.version = words.version || "";
+    putCounts();
     app.showSums();
   };
 

@@ -11,7 +11,7 @@
   }
   function check() {
     if (busy) { again = true; return; }
-    var text = JSON.stringify(app.collect()), asked = ++serial;
+    var text = app.text(), asked = ++serial;
     busy = true;
     if (app.remember(text)) app.keepDraft(text);
     ask("form/check?serial=" + asked, text).then(function (answer) {
@@ -33,7 +33,7 @@
   }
   app.changed = function (now) {
     clearTimeout(timer);
-    timer = setTimeout(check, now === true ? 0 : 60);
+    timer = setTimeout(check, now === true ? 0 : 40);
   };
   function fill(words) {
     app.put(words);
@@ -65,7 +65,7 @@
   }
   function copyLine(line, name) {
     var words = app.collect(), at = app.lines(name).indexOf(line);
-    words[name + "s"].splice(at + 1, 0, app.wordsOf(line));
+    words[name + "s"].splice(at + 1, 0, words[name + "s"][at]);
     app.put(words);
     app.get(name + "-" + (at + 1) + "-vehicles").focus();
     app.changed();
@@ -82,10 +82,11 @@
   app.narrow.addEventListener("change", app.showAgain);
   form.addEventListener("input", function (event) {
     if (event.target.type === "file") return;
+    app.typed(event.target);
     if (event.target.closest("#parking")) app.showSums();
     app.changed();
   });
-  form.addEventListener("submit", function () { app.get("collected").value = JSON.stringify(app.collect()); });
+  form.addEventListener("submit", function () { app.get("collected").value = app.text(); });
   form.addEventListener("click", function (event) {
     var line = event.target.closest("tr.record"), name = line && line.closest("table").id.replace("-table", "");
     if (line && event.target.closest(".drop-line")) dropLine(line, name);
