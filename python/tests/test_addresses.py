@@ -1,5 +1,6 @@
 """Every result has an address, where it is kept for a time: Back and reloading work."""
 
+import hashlib
 import io
 import json
 import unittest
@@ -36,7 +37,7 @@ class KeptTest(unittest.TestCase):
 
     def test_bytes(self):
         kept = Kept(most_bytes=3_000)
-        noise = [bytes((i * j * 7919 + j) % 251 for j in range(1_100)).hex() for i in range(1, 6)]
+        noise = [b"".join(hashlib.sha256(b"%d %d" % (i, j)).digest() for j in range(35)).hex() for i in range(5)]
         keys = [kept.put("sheet", text) for text in noise]
         self.assertIsNone(kept.get("sheet", keys[0]))
         self.assertEqual(kept.get("sheet", keys[-1]), noise[-1])

@@ -244,8 +244,9 @@ class BooksTest(DeskTestCase):
         self.assertIn("it unpacks to more than", found.err)
 
     def test_without_the_package(self):
+        path = self.put("b.xlsx", self.changed())
         with mock.patch("evp.sheet.books.find_spec", return_value=None):
-            found = run("write", self.put("b.xlsx", self.changed()))
+            found = run("write", path)
         self.assertEqual((found.status, found.err), (
             2, "evp: openpyxl is missing, which reads and writes workbooks: sudo apt install python3-openpyxl\n"))
 
@@ -331,7 +332,8 @@ class DoubtsTest(DeskTestCase):
             (TEXT.replace("carburettor=0", "carburettor=30"), "row 2: carburettors or fuel return in Euro 3 or later",
              "without them"),
             (TEXT.replace("hot=50", "hot=1"), "row 2: hot 1 %; is this 100 %, written as a fraction?", "with 100 %"),
-            (TEXT.replace("technology=3", "technology=3 canister=small"), "row 2: a small canister in Euro 3 or later",
+            (TEXT.replace("technology=3", "technology=3 canister=small").replace("saturation=60", "saturation=40"),
+             "row 2: a small canister in Euro 3 or later",
              "with that of the class"),
         ):
             with self.subTest(said):

@@ -402,7 +402,7 @@ class TestForm(unittest.TestCase):
             ("rows", 1, "load", "70.0"): "row-1-load", ("rows", 3, "trips", "31"): "row-3-trips",
             ("rows", 0, "load", "1.0"): "row-0-load", ("seasons", 1, "days", "300"): "season-1-days",
             ("seasons", 0, "vp", "10.0"): "season-0-vp", ("seasons", 0, "lowest", "10.0"): "season-0-lowest",
-            ("rows", 1, "mileage", "90000"): "row-1-mileage", ("rows", 3, "technology", "5"): "row-3-technology",
+            ("rows", 1, "mileage", "90000"): "row-1-load", ("rows", 3, "technology", "5"): "row-3-technology",
             ("rows", 2, "saturation", "9000.0"): "row-2-saturation", ("rows", 2, "fill", "101"): "row-2-fill",
         }.items():
             with self.subTest(edit):
@@ -413,7 +413,8 @@ class TestForm(unittest.TestCase):
                 self.assertEqual([fault["id"] for fault in found["faults"]], [id])
         for change, id in (({"durations": ["0"] * 24}, "durations"), ({"hours": ["60"] * 24}, "hours"),
                            ({"parking": "grid"}, "grid"), ({"seasons": []}, "seasons"), ({"rows": []}, "rows"),
-                           ({"rows": forms.example_form()["rows"] * 10}, "rows")):
+                           ({"rows": forms.example_form()["rows"] * 260}, "rows"),
+                           ({"rows": forms.example_form()["rows"] * 10, "hours": ["60"] * 24}, "hours")):
             with self.subTest(id):
                 found = forms.check_form(LIBRARY, forms.form_of({**forms.example_form(), **change}))
                 self.assertEqual([fault["id"] for fault in found["faults"]], [id])
@@ -431,12 +432,12 @@ class TestForm(unittest.TestCase):
 
     def test_words_that_are_no_numbers(self):
         form = forms.example_form()
-        form["rows"][0]["trips"], form["seasons"][1]["vp"] = "4,80", ""
+        form["rows"][0]["trips"], form["seasons"][1]["vp"] = "4,8,0", ""
         form["durations"][4] = "-1"
         found = forms.check_form(LIBRARY, forms.form_of(form))
         self.assertEqual(found["state"], "unread")
         self.assertEqual({fault["id"]: fault["text"] for fault in found["faults"]}, {
-            "row-0-trips": "trips: '4,80' is no number; the decimal sign is a point: 4.80",
+            "row-0-trips": "trips: '4,8,0' is no number",
             "season-1-vp": "vapour pressure is missing", "durations-5": "2.5 h: -1 has a sign, and the field has none"})
 
     def test_doubts_speak_of_rows(self):

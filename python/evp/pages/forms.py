@@ -201,6 +201,9 @@ def _whole_fault(form: Form, message: str) -> Fault:
     place = re.match(r"fleet line ([0-9]+): (?:row: )?", message)
     if place and "mileage" in message:
         return Fault("row-%d-mileage" % (int(place[1]) - 1), message[place.end():], "row " + place[1])
+    lists = re.match(r"(durations|hours): (?:\1: )?", message)
+    if lists:
+        return Fault(lists[1], message[lists.end():])
     return Fault("rows" if place else "parking", _in_form(message))
 
 
