@@ -155,8 +155,8 @@ class FormTest(unittest.TestCase):
 
     def test_names_beside_a_sheet_and_a_workbook_on_a_page(self):
         data = sample("region")
-        files = {"files": [(io.BytesIO(data), "region.evp"),
-                           (io.BytesIO(b"record,number,name\nrow,1,first of all\nseason,2,spring\n"), "region.names.csv")]}
+        names = b"record,number,name\nrow,1,first of all\nseason,2,spring\n"
+        files = {"files": [(io.BytesIO(data), "region.evp"), (io.BytesIO(names), "region.names.csv")]}
         text = self.client.post("/sheet", data=files, follow_redirects=True).get_data(as_text=True)
         self.assertIn("first of all: ", text)
         self.assertIn("season 2 (spring)", text)

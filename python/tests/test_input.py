@@ -90,21 +90,24 @@ class NamesTest(DeskTestCase):
 
     def setUp(self):
         super().setUp()
-        self.text = TEXT.replace("vp=90.0", "vp=90.0 # winter").replace("minutes=12\n", "minutes=12 # old cars, north\n")
+        self.text = TEXT.replace("vp=90.0", "vp=90.0 # winter")
+        self.text = self.text.replace("minutes=12\n", "minutes=12 # old cars, north\n")
         self.path, self.target = self.put("a.txt", self.text), self.folder / "a.evp"
         self.found = run("write", self.path)
 
     def test_written_beside_the_sheet(self):
         self.assertIn("a.names.csv: the names of its rows and seasons", self.found.out)
         lines = list(csv.reader(io.StringIO((self.folder / "a.names.csv").read_text(encoding="utf-8-sig"))))
-        self.assertEqual(lines, [["record", "number", "name"], ["season", "1", "winter"], ["row", "1", "old cars, north"]])
+        self.assertEqual(lines, [
+            ["record", "number", "name"], ["season", "1", "winter"], ["row", "1", "old cars, north"]])
         self.assertEqual(self.target.read_bytes(), sheet.write(TEXT))
 
     def test_shown_wherever_a_row_is(self):
         self.assertRegex(run("show", self.target).out, r"\nrow  name +vehicle .*\n1    old cars, north  car < 1.4 l ")
         self.assertIn("row 1 (old cars, north) soak", run("show", self.target, "--unit", "mg").out)
         lines = run("show", self.target, "--csv").out.splitlines()
-        self.assertEqual((lines[0], lines[1].endswith(',mg,"old cars, north"')), ("row,mechanism,low,high,unit,name", True))
+        self.assertEqual(lines[0], "row,mechanism,low,high,unit,name")
+        self.assertTrue(lines[1].endswith(',mg,"old cars, north"'))
         found = json.loads(run("show", self.target, "--json").out)
         self.assertEqual((found["rows"][0]["name"], found["seasons"][0]["name"]), ("old cars, north", "winter"))
         self.assertNotIn("name", found["rows"][1])
@@ -198,8 +201,8 @@ class BooksTest(DeskTestCase):
 
     def test_what_a_cell_may_be(self):
         made = books.book_of(self.changed(
-            ("fleet", "D3", "Medium"), ("fleet", "B2", "car < 1.4 l"), ("fleet", "C3", "Euro 3"), ("fleet", "I3", "500.0"),
-            ("seasons", "C2", "\u22122,0"), ("fleet", "J2", 4.8000000000000007)), "b.xlsx")
+            ("fleet", "D3", "Medium"), ("fleet", "B2", "car < 1.4 l"), ("fleet", "C3", "Euro 3"),
+            ("fleet", "I3", "500.0"), ("seasons", "C2", "\u22122,0"), ("fleet", "J2", 4.8000000000000007)), "b.xlsx")
         record = take_text(TEXT.replace("technology=3", "technology=3 canister=medium")).data()
         self.assertEqual(made.data(), record)
 
@@ -214,11 +217,11 @@ class BooksTest(DeskTestCase):
     def test_what_is_said_of_a_cell(self):
         for change, said in (
             (("fleet", "J2", "many"), "b.xlsx: fleet, cell J2: trips: 'many' is no number"),
-            (("fleet", "J3", "=1+1"), "b.xlsx: fleet, cell J3: the formula has no value; let the spreadsheet calculate"),
+            (("fleet", "J3", "=1+1"), "b.xlsx: fleet, cell J3: the formula has no value; let the spreadsheet"),
             (("seasons", "D3", date(2026, 5, 14)), "b.xlsx: seasons, cell D3: this is a date or a time"),
             (("fleet", "I2", True), "b.xlsx: fleet, cell I2: TRUE is no number; write digits"),
             (("parking", "B3", "x"), "b.xlsx: parking, cell B3: count: 'x' is no number"),
-            (("fleet", "I2", "5,000"), "b.xlsx: fleet, cell I2: vehicles: '5,000' is no number; it can mean 5000 or 5.000"),
+            (("fleet", "I2", "5,000"), "b.xlsx: fleet, cell I2: vehicles: '5,000' is no number; it can mean 5000 or"),
         ):
             with self.subTest(said):
                 path = self.put("b.xlsx", self.changed(change))
@@ -275,7 +278,8 @@ class BooksTest(DeskTestCase):
 
 # A word, its field, whether a comma may be the decimal character, and what it is; None where it stays as it is.
 SPELLINGS = (
-    ("Medium", "canister", False, "medium"), ("by class", "canister", False, "class"), ("Euro 3", "technology", False, "3"),
+    ("Medium", "canister", False, "medium"), ("by class", "canister", False, "class"),
+    ("Euro 3", "technology", False, "3"),
     ("EURO3", "technology", False, "3"), ("conv.", "technology", False, "0"), ("car < 1.4 l", "class", False, "1"),
     ("2 car 1.4\u20132.0 l", "class", False, "2"), ("4-stroke >750", "class", False, "9"),
     ("14.50", "lowest", False, "14.5"), ("15200.0", "vehicles", False, "15200"), ("\u22122.0", "lowest", False, "-2.0"),
@@ -310,7 +314,8 @@ class SpellingTest(DeskTestCase):
         self.put("f/seasons.csv", "Name;Days;lowest (°C);Highest;vp [kPa]\nwinter;182,0;\u22122;9,50;90,0\n"
                  "summer;183;14,5;29;60\n")
         self.put("f/fleet.csv", "class,technology,canister,carburettor,hot,fill,vehicles,trips,minutes,load,m_sat\n"
-                 'car < 1.4 l,conv.,,99 %,45,40,"18,400",4.800,12,,\ncar 1.4-2.0 l,Euro 3,Medium,0,50,45,500.0,5.1,13,32,60\n')
+                 'car < 1.4 l,conv.,,99 %,45,40,"18,400",4.800,12,,\n'
+                 "car 1.4-2.0 l,Euro 3,Medium,0,50,45,500.0,5.1,13,32,60\n")
         found = run("write", self.folder / "f", "-o", self.folder / "b.evp")
         self.assertEqual(found.status, 0, found)
         self.assertEqual((self.folder / "b.evp").read_bytes(),
@@ -327,7 +332,7 @@ class DoubtsTest(DeskTestCase):
         for text, said, otherwise in (
             (TEXT.replace("load=32.0 saturation=60.0", ""), "row 2: m_sat is 0, so the canister holds nothing",
              "with the largest m_sat that is accepted"),
-            (TEXT.replace("days=183", "days=18"), "all seasons together have 200 days, not 365, so the masses are of 200",
+            (TEXT.replace("days=183", "days=18"), "all seasons together have 200 days, not 365, so the masses are of",
              "if they had 365 in the same proportion"),
             (TEXT.replace("carburettor=0", "carburettor=30"), "row 2: carburettors or fuel return in Euro 3 or later",
              "without them"),
@@ -340,7 +345,8 @@ class DoubtsTest(DeskTestCase):
                 lines = self.lines(text)
                 self.assertEqual(len(lines), 1, lines)
                 self.assertTrue(lines[0].startswith(said), lines[0])
-                self.assertRegex(lines[0], r"; the total is [\d.,]+ k?[tg]?, and [\d.,]+ k?[tg]? %s( \([+-][\d.]+ %%\))?$" % otherwise)
+                self.assertRegex(lines[0], r"; the total is [\d.,]+ k?[tg], and [\d.,]+ k?[tg] %s "
+                                 r"\([+-][\d.]+ %%\)$" % otherwise)
         self.assertEqual(self.lines(TEXT), [])
         for name in ("table-3-5-day", "region", "survey", "districts"):
             self.assertEqual(list(doubt_lines(LIBRARY, sample(name))), [], name)

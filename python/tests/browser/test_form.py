@@ -1,5 +1,5 @@
-"""The form in a real browser: a country pasted from a spreadsheet, undone, reloaded, mended and saved as a workbook; and
-Back from every result."""
+"""The form in a real browser: a country pasted from a spreadsheet, reloaded, mended and saved as a workbook; and Back
+from every result."""
 
 import os
 import time
@@ -18,8 +18,8 @@ HEADER = "name\tclass\ttechnology\tcanister\tcarburettor\thot\tfill\ttank\tvehic
 
 def fleet(rows: int) -> str:
     """Rows as a spreadsheet with a decimal comma has them on its clipboard."""
-    lines = ["region %d\tcar < 1.4 l\tEuro %d\t\t20\t%d\t45\t\t%d\t4,80\t12\t20,5\t40,0" % (i, 1 + i % 2, i % 97, 900 + i)
-             for i in range(1, rows + 1)]
+    line = "region %d\tcar < 1.4 l\tEuro %d\t\t20\t%d\t45\t\t%d\t4,80\t12\t20,5\t40,0"
+    lines = [line % (i, 1 + i % 2, i % 97, 900 + i) for i in range(1, rows + 1)]
     return "\r\n".join([HEADER, *lines]) + "\r\n"
 
 
@@ -37,8 +37,8 @@ class FormTestCase(BrowserTestCase):
             var field = document.getElementById(arguments[0]), held = new DataTransfer();
             held.setData("text/plain", arguments[1]);
             field.focus();
-            field.dispatchEvent(new ClipboardEvent("paste", {clipboardData: held, bubbles: true, cancelable: true}));""",
-            id, text)
+            var how = {clipboardData: held, bubbles: true, cancelable: true};
+            field.dispatchEvent(new ClipboardEvent("paste", how));""", id, text)
 
     def chord(self, key: str):
         """A key with Ctrl."""
