@@ -22,7 +22,7 @@ from evp.layout import row_count, version_of
 from evp.library import SHEET_BYTES, Library, Refusal, Report
 from evp.making import make_library
 from evp.marking import FiledTable, Mark, Marked
-from evp.pages.needs import require
+from evp.pages.needs import prefer, require
 from evp.sheet import Builder, TextError, doubts, folder_of, read, take_folder, take_text, templates
 from evp.sheet.books import book_bytes, is_book, take_book
 from evp.sheet.folders import TABLES
@@ -151,6 +151,7 @@ def _taken(source: str) -> Builder:
     if source != "-" and os.path.isdir(source):
         return take_folder(source)
     if is_book(source):
+        prefer("odf" if source.lower().endswith(".ods") else "openpyxl")
         return take_book(source)
     return take_text(read_text(source), name_shown(source) + ": ")
 
@@ -239,6 +240,8 @@ def read_back(given: Namespace) -> int:
     if data and other:
         raise InputError("%s: this is no sheet; %s" % (name_shown(given.sheet), other))
     names = find_names(given.sheet, data)
+    if given.xlsx:
+        prefer("openpyxl")
     try:
         if given.xlsx:
             return _write_book(given, book_bytes(data, names))
