@@ -176,7 +176,7 @@ class TestWorkbench(FormTestCase):
                   "1,000 rows")
         times = []
         for i in range(TRIES):
-            self.browser.set_script_timeout(10)
+            self.browser.set_script_timeout(60)
             times.append(self.browser.execute_async_script("""
                 var done = arguments[1], field = document.getElementById("row-500-vehicles"), start = performance.now();
                 var told = document.getElementById("told");
@@ -184,7 +184,7 @@ class TestWorkbench(FormTestCase):
                   .observe(told, {childList: true});
                 field.value = String(2000 + arguments[0]);
                 field.dispatchEvent(new Event("input", {bubbles: true}));""", i) / 1_000)
-            if times[-1] < ANSWER and i > 1:
+            if times[-1] < ANSWER and i > 1 or sum(times) > 15:
                 break
             time.sleep(0.6)  # the doubts are asked for meanwhile
         print("a form of 1,000 rows answers in %s s" % ", ".join("%.2f" % seconds for seconds in times))

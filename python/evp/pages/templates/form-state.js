@@ -18,14 +18,20 @@ var evpForm = {};
     app.fields(line).forEach(function (field) { found[field.dataset.field] = field.value; });
     return found;
   }
-  app.typed = function (field) {  // what was typed or chosen in a field
+  function placeOf(field) {  // where the words have a field: an object or a list, and the name in it
     var at = /^(season|row)-(\d+)-(\w+)$/.exec(field.id);
-    if (at) words[at[1] + "s"][+at[2]][at[3]] = field.value;
+    if (at) return [words[at[1] + "s"][+at[2]], at[3]];
     at = /^(durations|hours)-(\d+)$/.exec(field.id);
-    if (at) words[at[1]][at[2] - 1] = field.value;
+    if (at) return [words[at[1]], at[2] - 1];
     at = /^grid-(\d+)-(\d+)$/.exec(field.id);
-    if (at) words.grid[at[1] - 1][at[2] - 1] = field.value;
-    if (field.name === "kind") words.parking = app.kind();
+    return at ? [words.grid[at[1] - 1], at[2] - 1] : null;
+  }
+  app.typed = function (field) {  // what was typed or chosen in a field; whether it is new
+    var place = field.name === "kind" ? [words, "parking"] : placeOf(field);
+    var word = field.name === "kind" ? app.kind() : field.value;
+    if (!place || place[0][place[1]] === word) return false;
+    place[0][place[1]] = word;
+    return true;
   };
   app.empty = function () {
     var none = Array(24).fill("");

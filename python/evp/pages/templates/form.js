@@ -86,6 +86,9 @@
     if (event.target.closest("#parking")) app.showSums();
     app.changed();
   });
+  form.addEventListener("change", function (event) {  // as by a browser that fills in a field
+    if (event.target.type !== "file" && app.typed(event.target)) app.changed();
+  });
   form.addEventListener("submit", function () { app.get("collected").value = app.text(); });
   form.addEventListener("click", function (event) {
     var line = event.target.closest("tr.record"), name = line && line.closest("table").id.replace("-table", "");
