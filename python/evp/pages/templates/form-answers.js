@@ -108,17 +108,17 @@
   }
   function massesOf(results) {
     var found = [];
-    results.forEach(function (group) {
+    results.slice().reverse().forEach(function (group) {  // the total first, then all rows
       group.masses.forEach(function (mass, m) {
         var name = group.name === "total" ? "total" : group.name + " " + ["diurnal", "soak", "running"][m];
         found.push({ name: name, mass: mass });
       });
     });
-    return found.reverse();  // the total first
+    return found;
   }
   function showResults(results) {
     now = results;
-    before = before || results;
+    if (!before || before[before.length - 1].masses[0].high === "0") before = results;  // not of an empty fleet
     var old = massesOf(before), lines = massesOf(now).map(function (line, i) {
       return resultLine(line.name, old[i].mass, line.mass);
     });
