@@ -104,18 +104,23 @@ def _add_sheet_commands(add):
 
 def _add_table_commands(add):
     write = _add(add, "write", commands.write_sheet,
-                 "makes a sheet from a text, or from a folder with seasons.csv, fleet.csv and parking.csv or grid.csv",
-                 "evp write north.txt\nevp write north -o north.evp", "force")
-    write.add_argument("source", metavar="TEXT|FOLDER", help="a text as evp read prints it, or tables as evp template "
-                       "makes them")
+                 "makes a sheet from a text, from a workbook, or from a folder with seasons.csv, fleet.csv and "
+                 "parking.csv or grid.csv", "evp write north.txt\nevp write north -o north.evp\nevp write north.xlsx",
+                 "force")
+    write.add_argument("source", metavar="TEXT|BOOK|FOLDER", help="a text as evp read prints it, a workbook .xlsx or "
+                       ".ods as evp read --xlsx makes it, or tables as evp template makes them")
     write.add_argument("-o", dest="output", metavar="SHEET",
-                       help="the name of TEXT or FOLDER with .evp where none is given")
+                       help="the name of the source with .evp where none is given; NAME.names.csv beside it keeps the "
+                       "names of rows and seasons")
     write.add_argument("--version", type=_version(1, 2, 3, 4), metavar="1|2|3|4",
-                       help="another version than the text makes")
-    read = _add(add, "read", commands.read_back, "prints the text of a sheet, or makes its csv files",
-                "evp read north.evp --csv north", "force")
+                       help="another version than the source makes; lists of parkings are multiplied out where it has "
+                       "a grid")
+    read = _add(add, "read", commands.read_back, "prints the text of a sheet, or makes its csv files or its workbook",
+                "evp read north.evp --csv north\nevp read north.evp --xlsx north.xlsx", "force")
     read.add_argument("sheet", metavar="SHEET")
-    read.add_argument("--csv", metavar="FOLDER", help="make seasons.csv, fleet.csv and parking.csv or grid.csv there")
+    what = read.add_mutually_exclusive_group()
+    what.add_argument("--csv", metavar="FOLDER", help="make seasons.csv, fleet.csv and parking.csv or grid.csv there")
+    what.add_argument("--xlsx", metavar="BOOK", help="make a workbook with the same worksheets")
     template = _add(add, "template", commands.template,
                     "makes empty csv files with every column, its unit and its limits",
                     "evp template north\nevp template north --grid --semicolon", "force")

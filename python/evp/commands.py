@@ -14,17 +14,21 @@ from evp.analysis import telling
 from evp.analysis.changes import changes_of
 from evp.cells import cells_csv, cells_of, read_travel
 from evp.convert import converted
+from evp.doubting import doubt_lines
 from evp.explain import Explanation, call_text, explain, looks_like
 from evp.files import (
     FileError, InputError, check_target, make_folder, read_sheet, read_text, same_file, write_file,
 )
 from evp.hints import with_hints
+from evp.layout import version_of
 from evp.library import SHEET_BYTES, Library, Refusal, Report
 from evp.making import make_library
 from evp.marking import FiledTable, Mark, Marked
-from evp.pages.needs import require
+from evp.pages.needs import prefer, require
 from evp.sheet import Builder, TextError, doubts, folder_of, read, take_folder, take_text, templates
+from evp.sheet.books import book_bytes, is_book, take_book
 from evp.sheet.folders import TABLES
+from evp.sheet.names import NO_NAMES, Names, names_beside, names_file, names_text, shared_names
 from evp.sheet.reader import told_version
 from evp.wording import apart, counted, name_shown
 
@@ -77,7 +81,26 @@ def read_report(library: Library, name: str) -> tuple[bytes, Report]:
     try:
         return data, library.report(data)
     except Refusal:
-        raise SheetRefused("%s: %s" % (name_shown(name), explain(library, data).line)) from None
+        explanation = explain(library, data, find_names(name, data))
+        raise SheetRefused("%s: %s" % (name_shown(name), explanation.line)) from None
+
+
+def find_names(name: str, data: bytes) -> Names:
+    """The names beside a sheet. Where they are not its own, a note says so, and it has none."""
+    try:
+        return names_beside(name, data)
+    except InputError as error:
+        note("%s; the names are left out" % error)
+        return NO_NAMES
+
+
+def note(words: str):
+    print("evp: note: %s" % words, file=sys.stderr)
+
+
+def say_doubts(library: Library, data: bytes, names: Names):
+    for line in limited(doubt_lines(library, data, names), "things to look at"):
+        note(line)
 
 
 # ------------------------------------------------------------------ sheets
@@ -87,7 +110,8 @@ def check(given: Namespace) -> int:
     library, found, failures = get_library(), [], []
     for name in given.sheets:
         try:
-            found.append((name, explain(library, read_sheet(name))))
+            data = read_sheet(name)
+            found.append((name, explain(library, data, find_names(name, data))))
         except InputError as error:
             failures.append(str(error))
     if given.json:
@@ -100,7 +124,8 @@ def check(given: Namespace) -> int:
 
 
 def explain_sheet(given: Namespace) -> int:
-    explanation = explain(get_library(), read_sheet(given.sheet))
+    data = read_sheet(given.sheet)
+    explanation = explain(get_library(), data, find_names(given.sheet, data))
     if given.json:
         print_json(explanation.json(given.sheet))
     else:
@@ -109,19 +134,25 @@ def explain_sheet(given: Namespace) -> int:
 
 
 def show_sheet(given: Namespace) -> int:
-    data, report = read_report(get_library(), given.sheet)
+    library = get_library()
+    data, report = read_report(library, given.sheet)
+    names = find_names(given.sheet, data)
     if given.json:
-        print_json(show.report_json(given.sheet, data, report))
+        print_json(show.report_json(given.sheet, data, report, names))
     elif given.csv:
-        print(show.report_csv(report, given.unit), end="")
+        print(show.report_csv(report, given.unit, names), end="")
     else:
-        say(show.report_lines(name_shown(given.sheet), data, report, given.unit))
+        say(show.report_lines(name_shown(given.sheet), data, report, given.unit, names))
+        say_doubts(library, data, names)
     return FINE
 
 
 def _taken(source: str) -> Builder:
     if source != "-" and os.path.isdir(source):
         return take_folder(source)
+    if is_book(source):
+        prefer("odf" if source.lower().endswith(".ods") else "openpyxl")
+        return take_book(source)
     return take_text(read_text(source), name_shown(source) + ": ")
 
 
@@ -142,24 +173,56 @@ def _tables_in(source: str) -> list[str]:
 
 
 def write_sheet(given: Namespace) -> int:
+    """Asks the library before anything is written. What it refuses is written all the same, to be looked at with
+    explain, but not in another version than the source has."""
     library, builder, target = get_library(), _taken(given.source), _target(given.source, given.output)
-    if given.version:
-        builder.single["version"] = given.version
+    builder.version = given.version or builder.version
     try:
         data = builder.data()
     except TextError as error:
         raise InputError(str(error), error.more) from None
-    explanation = explain(library, data)
-    write_file(target, data, given.force, _tables_in(given.source))  # also where it is refused, to be corrected
-    for line in limited(doubts(builder), "things to look at"):
-        print("evp: note: %s" % line, file=sys.stderr)
+    explanation = explain(library, data, builder.names)
+    if explanation.number and given.version:
+        raise SheetRefused("%s: not written, since in version %d this sheet is %s" % (
+            name_shown(target, "standard output"), given.version, explanation.line))
+    write_with_names(target, data, builder.names, given.force, _tables_in(given.source))
+    _say_notes(library, builder, data, explanation)
+    _say_written(builder, target, data, explanation)
+    return REFUSED if explanation.number else FINE
+
+
+def _say_notes(library: Library, builder: Builder, data: bytes, explanation: Explanation):
+    lines = [*doubts(builder)]
+    if builder.is_multiplied():
+        lines.append("the two lists of parkings are written as the grid of their products, which version %d has; the "
+                     "masses are the same" % version_of(data))
+    if not explanation.number:
+        lines += doubt_lines(library, data, builder.names)
+    for line in limited(lines, "things to look at"):
+        note(line)
+
+
+def _say_written(builder: Builder, target: str, data: bytes, explanation: Explanation):
     out = sys.stderr if target == "-" else sys.stdout
     where = _source_of(builder, explanation)
     line = explanation.refusal if where else explanation.line
     print("%s: %d bytes, %s" % (name_shown(target, "standard output"), len(data), line), file=out)
     if where:
         print("%s: %s" % (where, explanation.text), file=out)
-    return REFUSED if explanation.number else FINE
+    if builder.names.any() and target != "-":
+        print("%s: the names of its rows and seasons" % name_shown(names_file(target)), file=out)
+
+
+def write_with_names(target: str, data: bytes, names: Names, force: bool, sources: Iterable[str]):
+    """Writes a sheet, and its names beside it. Names of an earlier sheet do not stay there."""
+    beside, sources = names_file(target), list(sources)
+    is_stream = target == "-" or os.path.exists(target) and not os.path.isfile(target)  # as /dev/stdout
+    has_file = not is_stream and (names.any() or beside.is_file())
+    for path in (target, *((beside,) if has_file else ())):  # both before the first is written
+        check_target(path, force, sources)
+    write_file(target, data, force, sources)
+    if has_file:
+        write_file(beside, names_text(names).encode("utf-8-sig"), force, sources)
 
 
 def _source_of(builder: Builder, explanation: Explanation) -> str:
@@ -176,17 +239,28 @@ def read_back(given: Namespace) -> int:
     other = looks_like(data)
     if data and other:
         raise InputError("%s: this is no sheet; %s" % (name_shown(given.sheet), other))
+    names = find_names(given.sheet, data)
+    if given.xlsx:
+        prefer("openpyxl")
     try:
+        if given.xlsx:
+            return _write_book(given, book_bytes(data, names))
         if not given.csv:
-            print(read(data), end="")
+            print(read(data, names), end="")
             return FINE
-        tables = folder_of(data, given.semicolon)
+        tables = folder_of(data, given.semicolon, names)
     except TextError as error:
         raise InputError("%s: %s" % (name_shown(given.sheet), error)) from None
     _write_tables(given.csv, tables, given.force, [given.sheet])
     if told_version(data) is not None:
-        print("evp: note: these tables make another version; evp write --version %d gives this one back" % (
-            told_version(data)), file=sys.stderr)
+        note("these tables make another version; evp write --version %d gives this one back" % told_version(data))
+    return FINE
+
+
+def _write_book(given: Namespace, book: bytes) -> int:
+    write_file(given.xlsx, book, given.force, [given.sheet])
+    if given.xlsx != "-":
+        print("%s: %d bytes; evp write makes the sheet of it again" % (name_shown(given.xlsx), len(book)))
     return FINE
 
 
@@ -210,7 +284,7 @@ def convert(given: Namespace) -> int:
     data, report = read_report(library, given.sheet)
     later, its_report = _later_version(library, given.sheet, data, given.to)
     target = _target(given.sheet, given.output, "-version-%d.evp" % given.to)
-    write_file(target, later, given.force, [given.sheet])
+    write_with_names(target, later, find_names(given.sheet, data), given.force, [given.sheet])
     if target != "-":
         same = "the same report" if its_report == report else "the same exact masses, other bands"
         print("%s: %d bytes, version %d, %s" % (name_shown(target), len(later), given.to, same))
@@ -308,8 +382,10 @@ def _files_made(given: Namespace, marks: list[Mark]) -> Iterator[str]:
 def compare(given: Namespace) -> int:
     library = get_library()
     sheets = [read_report(library, name) for name in (given.a, given.b)]
-    found = show.differences(*(report for _, report in sheets))
-    changes = changes_of(library, *(data for data, _ in sheets))
+    reports = [report for _, report in sheets]
+    found = show.differences(*reports)
+    beside = [find_names(name, data) for name, (data, _) in zip((given.a, given.b), sheets)]
+    changes = changes_of(library, *(data for data, _ in sheets), *beside)
     if given.json:
         print_json({"a": given.a, "b": given.b, "figures": [difference.json() for difference in found],
                     "changes": telling.changes_json(changes)})
@@ -317,7 +393,8 @@ def compare(given: Namespace) -> int:
         print(telling.changes_csv(changes), end="")
     else:
         rows = len(changes.a.rows), len(changes.b.rows)
-        say(show.comparison_lines(name_shown(given.a), name_shown(given.b), rows, found))
+        names = shared_names(*beside)
+        say(show.comparison_lines(name_shown(given.a), name_shown(given.b), rows, found, names))
         say(["", *telling.changes_lines(changes)])
     return FINE
 

@@ -11,6 +11,7 @@ from typing import NamedTuple
 from evp import layout
 from evp.layout import FIELDS, Field, canister_name, decimal
 from evp.library import SHEET_BYTES, Finding, Library, MissingCall, Refusal
+from evp.sheet.names import NO_NAMES, Names, with_name
 from evp.wording import apart, counted
 
 SHIFT = 32768  # what a finding adds to temperatures
@@ -81,6 +82,7 @@ class Explanation(NamedTuple):
     unit: str | None = None
     record_bytes: str = ""
     words: Words = Words("accepted", "")
+    name: str = ""  # of the record, where names are beside the sheet
 
     @property
     def refusal(self) -> str:
@@ -88,7 +90,7 @@ class Explanation(NamedTuple):
 
     @property
     def record_name(self) -> str:
-        return "%s %d" % (self.record, self.index) if self.index else self.record or ""
+        return with_name("%s %d" % (self.record, self.index), self.name) if self.index else self.record or ""
 
     @property
     def text(self) -> str:
@@ -118,8 +120,13 @@ class Explanation(NamedTuple):
         return {"file": file, **{key: getattr(self, key) for key in keys}, "text": self.text}
 
 
-def explain(library: Library, data: bytes) -> Explanation:
-    """The explanation of a sheet; of one that is accepted, what it has."""
+def explain(library: Library, data: bytes, names: Names = NO_NAMES) -> Explanation:
+    """The explanation of a sheet; of one that is accepted, what it has. With names, the record is called by its own."""
+    found = _explain(library, data)
+    return found._replace(name=names.of(found.record, found.index))
+
+
+def _explain(library: Library, data: bytes) -> Explanation:
     refusal = library.check(data)
     if refusal is None:
         return Explanation(0, 0, words=Words("accepted: " + contents(data), ""))

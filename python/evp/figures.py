@@ -4,6 +4,7 @@ from collections.abc import Iterator
 from typing import NamedTuple
 
 from evp.library import GROUPS, MECHANISMS, Band, Masses, Report
+from evp.sheet.names import Names, with_name
 
 TOTAL = "total"
 GROUP_NAMES = {"cars": "cars", "light": "light-duty", "two": "two-wheelers", "all": "all rows"}
@@ -17,6 +18,12 @@ class Figure(NamedTuple):
     @property
     def name(self) -> str:
         return TOTAL if self.row == TOTAL else "%s %s" % (self.row_name, self.mechanism)
+
+    def named(self, names: Names) -> str:
+        """The same, with the name of its row: row 2 (vans) soak."""
+        if not self.row.isdigit():
+            return self.name
+        return "%s %s" % (with_name(self.row_name, names.row(int(self.row) - 1)), self.mechanism)
 
     @property
     def row_name(self) -> str:

@@ -10,14 +10,16 @@ from evp.figures import GROUP_NAMES, TOTAL, Figure, bands, groups
 from evp.layout import CLASSES, canister_name, technology_name
 from evp.library import MECHANISMS, SPECIES, Band, Masses, Report
 from evp.masses import exact, shown
+from evp.sheet.names import NO_NAMES, Names
 from evp.tables import table_text
-from evp.wording import apart, counted
+from evp.wording import apart, counted, shortened
 
 SHORT_NAMES = {  # of classes, for a table that a terminal has room for
     1: "car < 1.4 l", 2: "car 1.4-2.0 l", 3: "car > 2.0 l", 7: "4-stroke <250", 8: "4-stroke -750", 9: "4-stroke >750",
 }
 
 
+MOST_NAME = 24  # signs of a name in a table for the screen
 DASH = "–"  # between two ends, in a table where " to " is too wide
 
 
@@ -35,62 +37,80 @@ def vehicles_of(data: bytes) -> list[int]:
     return [layout.row(data, i)["vehicles"] for i in range(layout.row_count(data))]
 
 
-def report_lines(file: str, data: bytes, report: Report, unit: str | None = None) -> Iterator[str]:
+def report_lines(file: str, data: bytes, report: Report, unit: str | None = None,
+                 names: Names = NO_NAMES) -> Iterator[str]:
     """The table of a sheet: a line for each row, or for mg, where the bands are shown, one for each figure."""
     yield "%s: %s, %s vehicles" % (file, contents(data), apart(sum(vehicles_of(data))))
     yield ""
     if unit == "mg":
         lines = [("", "low mg", "high mg")]
-        lines += [(figure.name, apart(band.low), apart(band.high)) for figure, band in bands(report).items()]
+        lines += [(figure.named(names), apart(band.low), apart(band.high)) for figure, band in bands(report).items()]
         yield from aligned(lines, 1)
         yield ""
         yield "The exact masses lie between, both ends included."
         return
-    yield from aligned(_table(data, report, unit), 4)
+    yield from aligned(_table(data, report, unit, names.rows), 5 if any(names.rows) else 4)
     yield ""
     yield "total %s" % shown(report.total, unit)
     yield "Every digit of the computation is certain; --unit mg shows the bands."
     yield "The uncertainty of the inputs is not included: evp sensitivity estimates it."
 
 
-def _table(data: bytes, report: Report, unit: str | None) -> Iterator[tuple[str, ...]]:
-    """One unit for all stands in the header."""
+def _table(data: bytes, report: Report, unit: str | None, row_names: list[str]) -> Iterator[tuple[str, ...]]:
+    """One unit for all stands in the header; the rows' names have a column where there are any."""
+    def named(name: str) -> tuple[str, ...]:
+        return (shortened(name, MOST_NAME),) if any(row_names) else ()
+
     def cells(masses: Masses) -> Iterator[str]:
         return (shown(band, unit, DASH).removesuffix(" %s" % unit) for band in masses)
 
     names = ("%s %s" % (name, unit) if unit else name for name in MECHANISMS)
-    yield "row", "vehicle", "tech.", "canister", "vehicles", *names
+    yield "row", *named("name"), "vehicle", "tech.", "canister", "vehicles", *names
     for i, masses in enumerate(report.rows):
         row = layout.row(data, i)
         technology = technology_name(row["technology"]) if row["technology"] else "conv."
-        yield (str(i + 1), SHORT_NAMES.get(row["class"], CLASSES[row["class"]][0]), technology, canister_name(row),
+        vehicle = SHORT_NAMES.get(row["class"], CLASSES[row["class"]][0])
+        yield (str(i + 1), *named(row_names[i] if i < len(row_names) else ""), vehicle, technology, canister_name(row),
                apart(row["vehicles"]), *cells(masses))
     for name, masses in groups(report):
-        yield "", GROUP_NAMES[name], "", "", "", *cells(masses)
+        yield "", *named(""), GROUP_NAMES[name], "", "", "", *cells(masses)
 
 
-def report_csv(report: Report, unit: str | None = None) -> str:
-    """A line for each figure, both ends of its band in a unit, mg where none is given."""
-    unit = unit or "mg"
-    return table_text(("row", "mechanism", "low", "high", "unit"), (
-        (*figure, exact(band.low, unit), exact(band.high, unit), unit) for figure, band in bands(report).items()))
+def report_csv(report: Report, unit: str | None = None, names: Names = NO_NAMES) -> str:
+    """A line for each figure, both ends of its band in a unit, mg where none is given; the rows' names last, where
+    there are any."""
+    unit, has_names = unit or "mg", any(names.rows)
+
+    def name(figure: Figure) -> tuple[str, ...]:
+        return (names.row(int(figure.row) - 1) if figure.row.isdigit() else "",) if has_names else ()
+
+    header = ("row", "mechanism", "low", "high", "unit", *(["name"] if has_names else []))
+    return table_text(header, (
+        (*figure, exact(band.low, unit), exact(band.high, unit), unit, *name(figure))
+        for figure, band in bands(report).items()))
 
 
 def _masses_json(masses: Masses) -> dict:
     return {mechanism: list(band) for mechanism, band in zip(MECHANISMS, masses)}
 
 
-def report_json(file: str, data: bytes, report: Report) -> dict:
+def report_json(file: str, data: bytes, report: Report, names: Names = NO_NAMES) -> dict:
+    """With names, a season or row that has one has it as `name`."""
+    def named(name: str) -> dict[str, str]:
+        return {"name": name} if name else {}
+
     rows = []
     for i, masses in enumerate(report.rows):
         row = layout.row(data, i)
         rows.append({
             "row": i + 1, "class": row["class"], "class_name": CLASSES[row["class"]][0],
             "technology": row["technology"], "technology_name": technology_name(row["technology"]),
-            "canister": canister_name(row), "vehicles": row["vehicles"], **_masses_json(masses)})
+            "canister": canister_name(row), "vehicles": row["vehicles"], **_masses_json(masses),
+            **named(names.row(i))})
     return {
         "file": file, "version": layout.version_of(data),
-        "seasons": [layout.season(data, i) for i in range(layout.season_count(data))], "rows": rows,
+        "seasons": [{**layout.season(data, i), **named(names.season(i))} for i in range(layout.season_count(data))],
+        "rows": rows,
         **{name: _masses_json(masses) for name, masses in groups(report)}, TOTAL: list(report.total),
     }
 
@@ -131,14 +151,16 @@ def _change(difference: Difference) -> str:
     return "(%+.1f %%)" % (100 * (b - a) / a) if a else ""
 
 
-def comparison_lines(name_a: str, name_b: str, rows: tuple[int, int], found: list[Difference]) -> Iterator[str]:
-    """`rows` are those of each report."""
+def comparison_lines(name_a: str, name_b: str, rows: tuple[int, int], found: list[Difference],
+                     names: Names = NO_NAMES) -> Iterator[str]:
+    """`rows` are those of each report; names are those that both have, or one has alone."""
     words = {"higher": "B higher", "lower": "B lower", "open": "open: the bands meet"}
     lines = [("", "A", "B", "")]
     for d in found:
         if d.verdict in words:
             change = "" if d.verdict == "open" else " " + _change(d)
-            lines.append((d.figure.name, shown(d.a, None, DASH), shown(d.b, None, DASH), words[d.verdict] + change))
+            ends = (shown(band, None, DASH) for band in (d.a, d.b))
+            lines.append((d.figure.named(names), *ends, words[d.verdict] + change))
     yield "A: %s" % name_a
     yield "B: %s" % name_b
     if rows[0] != rows[1]:

@@ -13,7 +13,7 @@ from typing import NamedTuple
 from evp.files import InputError
 from evp.wording import quoted
 
-NOTE = "note"  # a column for remarks, which is not read
+NOTE = "note"  # a column for a name or a remark, which is none of the table's own
 FORMULA = re.compile("'*[=+@\\t\\r\\n-]")  # what a spreadsheet may run, with the apostrophes that keep it from that
 NUMBER = re.compile("[+-][0-9]+(?:[.,][0-9]+)?")
 UNUSUAL = "\"'\t\r\n=+@-"  # in a line without these no cell is changed
@@ -21,9 +21,10 @@ QUOTED = re.compile('["\\t\\r\\n]|[,;] *[=+@-]')
 
 
 class Line(NamedTuple):
-    """A line of a table: where it stands, and its cells that are not empty by the name of their column."""
+    """A line of a table: where it stands, its cells that are not empty by the name of their column, and its note."""
     number: int
     cells: dict[str, str]
+    note: str = ""
 
 
 class Table(NamedTuple):
@@ -102,7 +103,9 @@ def open_table(text: str, label: str, columns: list[str], needed: Iterable[str],
 def _lines(records: Iterable[tuple[int, list[str]]], label: str, header: list[str], separator: str) -> Iterator[Line]:
     for number, cells in records:
         _check_width("%s: line %d" % (label, number), cells, header, separator)
-        yield Line(number, {name: cell for name, cell in zip(header, cells) if cell and name != NOTE})
+        found = {name: cell for name, cell in zip(header, cells) if cell}
+        note = found.pop(NOTE, "")
+        yield Line(number, found, note)
 
 
 def _check_header(where: str, header: list[str], columns: list[str], needed: Iterable[str]):

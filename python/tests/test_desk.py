@@ -415,8 +415,8 @@ class TurnedAwayTest(LedgerTestCase):
         for thread in threads:
             thread.join()
         statuses = Counter(answer.split()[1] for answer in answers)
-        self.assertEqual(set(statuses), {b"200", b"503"})
-        self.assertGreaterEqual(statuses[b"200"], 8)
+        self.assertEqual(set(statuses), {b"303", b"503"})
+        self.assertGreaterEqual(statuses[b"303"], 8)
         self.assert_served()
 
     def test_many_pages(self):
@@ -432,8 +432,8 @@ class TurnedAwayTest(LedgerTestCase):
         for thread in threads:
             thread.join()
         statuses = Counter(answer.split()[1] for answer in answers)
-        self.assertLessEqual(set(statuses), {b"200", b"503"})
-        self.assertGreaterEqual(statuses[b"200"], 12)
+        self.assertLessEqual(set(statuses), {b"303", b"503"})
+        self.assertGreaterEqual(statuses[b"303"], 12)
 
     def test_foreign_page(self):
         """What the page of another site sends is turned away, though it had a link; what a desk's own page sends is
@@ -526,6 +526,8 @@ class NamesTest(LedgerTestCase):
                  ("<i>filed</i>.csv", ("sheet,row,mechanism,mass,unit\n" + "\n".join(lines) + "\n").encode())]
         for path in ("/class", "/open"):
             answer = desk.client().ask("POST", path, *uploaded(files))
+            self.assertEqual(answer.status, 303)
+            answer = desk.client().ask("GET", dict(answer.headers)["Location"])
             self.assertEqual(answer.status, 200)
             for sign in ("<script>alert", "<img", "<b>nobody", "<i>"):
                 self.assertNotIn(sign, answer.text)

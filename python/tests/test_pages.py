@@ -94,7 +94,8 @@ class TestPages(unittest.TestCase):
         for name in ("", *(name for name, _ in render.LINKS)):
             cls.pages["/" + name] = client.get("/" + name).get_data(as_text=True)
         for name, ask in ASKS.items():
-            cls.pages["served " + name] = client.post("/" + name, data={"example": ask.example}).get_data(as_text=True)
+            cls.pages["served " + name] = client.post(
+                "/" + name, data={"example": ask.example}, follow_redirects=True).get_data(as_text=True)
 
     def test_well_formed_and_labelled(self):
         for name, html in self.pages.items():
@@ -401,7 +402,7 @@ class TestForm(unittest.TestCase):
             ("rows", 1, "load", "70.0"): "row-1-load", ("rows", 3, "trips", "31"): "row-3-trips",
             ("rows", 0, "load", "1.0"): "row-0-load", ("seasons", 1, "days", "300"): "season-1-days",
             ("seasons", 0, "vp", "10.0"): "season-0-vp", ("seasons", 0, "lowest", "10.0"): "season-0-lowest",
-            ("rows", 1, "mileage", "90000"): "row-1-mileage", ("rows", 3, "technology", "5"): "row-3-technology",
+            ("rows", 1, "mileage", "90000"): "row-1-load", ("rows", 3, "technology", "5"): "row-3-technology",
             ("rows", 2, "saturation", "9000.0"): "row-2-saturation", ("rows", 2, "fill", "101"): "row-2-fill",
         }.items():
             with self.subTest(edit):
@@ -412,7 +413,8 @@ class TestForm(unittest.TestCase):
                 self.assertEqual([fault["id"] for fault in found["faults"]], [id])
         for change, id in (({"durations": ["0"] * 24}, "durations"), ({"hours": ["60"] * 24}, "hours"),
                            ({"parking": "grid"}, "grid"), ({"seasons": []}, "seasons"), ({"rows": []}, "rows"),
-                           ({"rows": forms.example_form()["rows"] * 10}, "rows")):
+                           ({"rows": forms.example_form()["rows"] * 260}, "rows"),
+                           ({"rows": forms.example_form()["rows"] * 10, "hours": ["60"] * 24}, "hours")):
             with self.subTest(id):
                 found = forms.check_form(LIBRARY, forms.form_of({**forms.example_form(), **change}))
                 self.assertEqual([fault["id"] for fault in found["faults"]], [id])
@@ -430,12 +432,12 @@ class TestForm(unittest.TestCase):
 
     def test_words_that_are_no_numbers(self):
         form = forms.example_form()
-        form["rows"][0]["trips"], form["seasons"][1]["vp"] = "4,80", ""
+        form["rows"][0]["trips"], form["seasons"][1]["vp"] = "4,8,0", ""
         form["durations"][4] = "-1"
         found = forms.check_form(LIBRARY, forms.form_of(form))
         self.assertEqual(found["state"], "unread")
         self.assertEqual({fault["id"]: fault["text"] for fault in found["faults"]}, {
-            "row-0-trips": "trips: '4,80' is no number; the decimal sign is a point: 4.80",
+            "row-0-trips": "trips: '4,8,0' is no number",
             "season-1-vp": "vapour pressure is missing", "durations-5": "2.5 h: -1 has a sign, and the field has none"})
 
     def test_doubts_speak_of_rows(self):
@@ -473,7 +475,7 @@ class TestRoutes(unittest.TestCase):
         data = dict(more)
         for field, content, name in files:
             data.setdefault(field, []).append((io.BytesIO(content), name))
-        return self.client.post(where, data=data)
+        return self.client.post(where, data=data, follow_redirects=True)
 
     def test_thirty_sheets_are_marked(self):
         files = [("files", path.read_bytes(), path.name) for path in COURSE.iterdir() if path.name != "marks.csv"]
@@ -580,9 +582,7 @@ class TestRoutes(unittest.TestCase):
         files = [("files", (SAMPLES / "afternoon" / name).read_bytes(), name) for name in names]
         form = self.post("/form/read", *files).get_json()["form"]
         found = forms.check_form(LIBRARY, forms.form_of(form))
-        self.assertEqual([fault["id"] for fault in found["faults"]], ["row-0-trips"])
-        form["rows"][0]["trips"] = "4.80"
-        found = forms.check_form(LIBRARY, forms.form_of(form))
+        self.assertEqual(form["rows"][0]["trips"], "4,80")  # which in a form can mean one thing
         self.assertEqual([fault["id"] for fault in found["faults"]], ["row-1-load"])
         self.assertEqual(found["doubts"], ["row 3: vehicles left out, so 0"])
         for path in samples():

@@ -91,13 +91,13 @@ class FormTest(RequestTestCase):
         for body in (part('name="example"', "", b"region"), part('name="example"', "text/plain", b"region"),
                      part('name="example"', "text/plain; charset=UTF-8", b"region"),
                      part('name="example"', "text/plain;charset=us-ascii", b"region")):
-            self.assertEqual(status(self.form("/sheet", body)), 200, body)
+            self.assertEqual(status(self.form("/sheet", body)), 303, body)  # to the address of the result
         region = b"EVP" + bytes(100)
         for name in ('filename="a*b\'c.evp"', "filename*=UTF-8''%C3%A9.evp", 'filename="é.evp"'):
             answer = self.form("/sheet", part('name="files"; ' + name, "application/octet-stream", region))
-            self.assertEqual(status(answer), 200, name)  # the page of a sheet that is refused
+            self.assertEqual(status(answer), 303, name)  # to the page of a sheet that is refused
         answer = self.form("/sheet", "example=region&x=%C3%A9&y=%ff".encode(), "application/x-www-form-urlencoded")
-        self.assertEqual(status(answer), 200)
+        self.assertEqual(status(answer), 303)
         self.assert_quiet()
 
     def test_boundaries(self):

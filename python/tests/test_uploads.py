@@ -92,7 +92,8 @@ class PageTest(DeskTestCase):
     def post(self, path: str, lines: str):
         files = [(io.BytesIO(data), name) for name, data in (
             ("region.evp", sample("region")), ("filed.csv", (HEADER + lines).encode()))]
-        return self.client.post(path, data={"files": files}, content_type="multipart/form-data")
+        return self.client.post(path, data={"files": files}, content_type="multipart/form-data",
+                                follow_redirects=True)
 
     def test_bad_lines(self):
         for path in ("/class", "/open", "/sheet"):

@@ -94,11 +94,9 @@ FAULTS = (
     ("row class=1 technology=1 mileage=84_000", "line 1: mileage: '84_000' is no number"),
     ("row class=1 technology=1 mileage=1 mileage=1", "line 1: mileage is given twice"),
     ("row class=1 technology=1 mileage=1 spare=00000001", "line 1: row: mileage and spare are the same bytes"),
-    (FEW_CELLS + "row class=1 technology=0\nrow class=1 technology=1 mileage=0\nrow class=1 technology=1 mileage=7",
-     "line 4: row: a mileage wants a grid in place of durations and hours"),
-    # many rows: a grid beside them, and a count that the head has room for
-    (FEW_CELLS + "row class=1 technology=0\n" * 40,
-     "line 35: row: more than 32 rows want a grid in place of durations and hours"),
+    (FEW_CELLS + "row class=1 technology=0\nrow class=1 technology=1 mileage=0\nrow class=1 technology=1 mileage=7\n"
+     "version 1", "line 5: row: a mileage wants version 3 or 4, and version 1 is asked for"),
+    # many rows: a count that the head has room for
     (FEW_CELLS + "row class=1 technology=0\n" * 256 + "version 1",
      "line 259: 256 rows do not fit the head of version 1"),
     (grid_text({}) + "row class=1 technology=0\n" * 256 + "version 3",
@@ -198,6 +196,17 @@ class GridTest(SheetTestCase):
             (ONE_CELL + SEASON + ROW + "row class=9 technology=3", "refused 13 at 1192 (row 2: "),
         ):
             self.assert_verdict(text, verdict)
+
+    def test_lists_multiplied_out(self):
+        """More rows or a mileage need a grid: that of the products of the two lists."""
+        for rows, version in ((ROW * 33, 4), (ROW + "row class=1 technology=1 mileage=7\n", 3)):
+            data = sheet.write(FEW_CELLS + SEASON + rows)
+            first = sheet.write(FEW_CELLS + SEASON + ROW)
+            durations, hours = ([int.from_bytes(first[at + 2 * i:at + 2 * i + 2], "little") for i in range(24)]
+                                for at in (8, 56))
+            cells = [int.from_bytes(data[8 + 2 * i:10 + 2 * i], "little") for i in range(576)]
+            self.assertEqual(data[3], version)
+            self.assertEqual(cells, [d * t for t in hours for d in durations])
 
     def test_lists_as_version_2(self):
         with self.assertRaisesRegex(sheet.TextError, "too few"):

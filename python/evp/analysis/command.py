@@ -17,9 +17,11 @@ from evp.analysis.uncertainty import COLUMNS as INPUT_COLUMNS
 from evp.analysis.uncertainty import Uncertainty, read_uncertainties
 from evp.explain import explain
 from evp.files import InputError, check_target, make_folder, read_sheet, same_file, write_file
+from evp.layout import row_count
 from evp.library import Library
 from evp.masses import UNITS
 from evp.pages.needs import require
+from evp.sheet.names import Names, pooled_names
 from evp.tables import table_text
 from evp.wording import name_shown, quoted
 
@@ -228,10 +230,19 @@ def run_pool(given: Namespace) -> int:
         pooled = pooled_of(library, sheets)
     except PoolRefused as refused:
         raise commands.SheetRefused(_pool_refusal(library, refused, given.sheets, sheets)) from None
-    write_file(given.output, pooled, given.force, given.sheets)
+    commands.write_with_names(given.output, pooled, _names_of_pool(given.sheets, sheets), given.force, given.sheets)
     if given.output != "-":
         print("%s: %d bytes, %s" % (name_shown(given.output), len(pooled), explain(library, pooled).line))
     return commands.FINE
+
+
+def _names_of_pool(names: list[str], sheets: list[bytes]) -> Names:
+    """The names of the pooled sheet's records, of those beside the sheets."""
+    found, rows = commands.find_names(names[0], sheets[0]), row_count(sheets[0])
+    for name, data in zip(names[1:], sheets[1:]):
+        found = pooled_names(found, commands.find_names(name, data), rows)
+        rows += row_count(data)
+    return found
 
 
 def _pool_refusal(library: Library, refused: PoolRefused, names: list[str], sheets: list[bytes]) -> str:

@@ -19,14 +19,15 @@ class Ask(NamedTuple):
     example_words: str
 
 
-SHEET = ("files", "The sheet, a file .evp", False)
+SHEET = ("files", "The sheet .evp, or a workbook .xlsx or .ods", False)
 ASKS = {
     "class": Ask("Mark a class", "Sheets and filed.csv together: each filed mass is held against the band of its "
                  "sheet, and what is wrong stands first.", (("files", "The sheets .evp, and filed.csv", True),),
                  "course", "thirty sheets, made up"),
     "sheet": Ask("Look at a sheet", "Where its mass comes from, or why it is refused, byte by byte. With filed.csv "
                  "beside it, the filed figures with the bands on them.",
-                 (("files", "The sheet .evp, and filed.csv if you like", True),), "region", "a region of 24 rows"),
+                 (("files", "The sheet .evp or a workbook; filed.csv and its .names.csv if you like", True),), "region",
+                 "a region of 24 rows"),
     "day": Ask("A parking on a day", "The temperatures of each season, and which half-hours of a parking make vapour.",
                (SHEET,), "region", "a region of four seasons"),
     "parking": Ask("Parkings by end hour", "24 end hours by 24 durations, filled one after another, and what a parking "

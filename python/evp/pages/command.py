@@ -14,6 +14,7 @@ from evp.files import InputError, check_target, make_folder, read_sheet, write_f
 from evp.hints import with_hints
 from evp.library import Library, Refusal
 from evp.pages.needs import require
+from evp.sheet.names import pooled_names, shared_names
 from evp.wording import name_shown
 
 KINDS = ("class", "sheet", "day", "parking", "fuels", "species", "cells", "pool")
@@ -147,13 +148,14 @@ def _each(library: Library, given: Namespace, sheets: dict[str, marking.Marked],
 def page_sheet(given: Namespace) -> Made:
     from evp.pages.sheets import page_sheet as page
     library, data, name = commands.get_library(), read_sheet(given.sheet), os.path.basename(given.sheet)
-    refusal = explain(library, data).line if library.check(data) else ""
+    names = commands.find_names(given.sheet, data)
+    refusal = explain(library, data, names).line if library.check(data) else ""
     if not given.filed:
-        return Made(page(library, name, data), refusal)
+        return Made(page(library, name, data, names=names), refusal)
     filings = [filing for filing in marking.read_filed(given.filed).filings if filing.sheet == name]
     marks = marking.marks_of(library, {name: marking.marked(library, data)}, filings)
     wrong = _wrong(marks, 1) if filings else "%s has no figure for it" % name_shown(given.filed)
-    return Made(page(library, name, data, filings), refusal or wrong)
+    return Made(page(library, name, data, filings, names=names), refusal or wrong)
 
 
 def page_day(given: Namespace) -> Made:
@@ -161,7 +163,7 @@ def page_day(given: Namespace) -> Made:
     library = commands.get_library()
     data, report = commands.read_report(library, given.sheet)
     rows = [_chosen(row, len(report.rows), "--row") for row in given.row or ()]
-    return Made(page(library, os.path.basename(given.sheet), data, rows))
+    return Made(page(library, os.path.basename(given.sheet), data, rows, names=commands.find_names(given.sheet, data)))
 
 
 def page_parking(given: Namespace) -> Made:
@@ -170,14 +172,16 @@ def page_parking(given: Namespace) -> Made:
     data, report = commands.read_report(library, given.sheet)
     season = None if given.season is None else _chosen(given.season, data[5], "--season")
     row = _chosen(given.row, len(report.rows), "--row")
-    return Made(page(library, os.path.basename(given.sheet), data, season, row))
+    return Made(page(library, os.path.basename(given.sheet), data, season, row,
+                     names=commands.find_names(given.sheet, data)))
 
 
 def page_fuels(given: Namespace) -> Made:
     from evp.pages.fuels import page_fuels as page
     library = commands.get_library()
     sheets = tuple(commands.read_report(library, name)[0] for name in (given.a, given.b))
-    return Made(page(library, (os.path.basename(given.a), os.path.basename(given.b)), sheets))
+    beside = shared_names(*(commands.find_names(name, data) for name, data in zip((given.a, given.b), sheets)))
+    return Made(page(library, (os.path.basename(given.a), os.path.basename(given.b)), sheets, beside=beside))
 
 
 def page_species(given: Namespace) -> Made:

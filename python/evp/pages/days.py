@@ -7,7 +7,8 @@ from evp.layout import canister_of
 from evp.library import Band, Library
 from evp.pages.parts import DAY, temperatures, with_cell
 from evp.pages.render import render
-from evp.pages.words import canister_short, canister_words, grams, row_name, season_words, tenths
+from evp.pages.words import canister_short, canister_words, grams, named_row, season_words, tenths
+from evp.sheet.names import NO_NAMES, Names, with_name
 from evp.wording import name_shown
 
 DIURNAL = 1  # the factor of a parking
@@ -107,7 +108,7 @@ def _factors(library: Library, data: bytes, rows: list[int]) -> list[list[list[l
 
 
 def page_day(library: Library, name: str, data: bytes, rows: list[int] | None = None, served: bool = False,
-             packed: dict | None = None) -> str:
+             packed: dict | None = None, names: Names = NO_NAMES) -> str:
     """An accepted sheet's day; `rows` are counted from 0."""
     rows = _chosen(data, rows)[:2]
     seasons = [layout.season(data, i) for i in range(layout.season_count(data))]
@@ -116,16 +117,17 @@ def page_day(library: Library, name: str, data: bytes, rows: list[int] | None = 
     season = max(range(len(seasons)), key=lambda i: seasons[i]["highest"])
     end_hour, duration = AT_FIRST
     records = [layout.row(data, i) for i in rows]
-    told_rows = ["row %d (%s)" % (i + 1, canister_short(row)) for i, row in zip(rows, records)]
+    told_rows = ["row %d (%s)" % (i + 1, names.row(i) or canister_short(row)) for i, row in zip(rows, records)]
     drawn = [{"x": [chart.x(i) for i in range(DAY + 1)], "y": [[chart.y(t) for t in day] for day in days],
               "base": chart.base} for chart in charts]
     return render(
         "day.html", served, name=name_shown(name), charts=charts, days=days, season=season, end_hour=end_hour,
         duration=duration, on=parking_on(days[season], end_hour, duration), packed=packed, factors=factors,
-        seasons=[{"name": "season %d" % (i + 1), "words": season_words(s), "lowest": tenths(s["lowest"]),
-                  "highest": tenths(s["highest"]), "vp": tenths(s["vp"]), "days": s["days"]}
+        seasons=[{"name": with_name("season %d" % (i + 1), names.season(i)), "words": season_words(s),
+                  "lowest": tenths(s["lowest"]), "highest": tenths(s["highest"]), "vp": tenths(s["vp"]),
+                  "days": s["days"]}
                  for i, s in enumerate(seasons)],
-        rows=[{"number": i + 1, "who": row_name(row), "canister": canister_words(row), "short": short}
+        rows=[{"number": i + 1, "who": named_row(row, names.row(i)), "canister": canister_words(row), "short": short}
               for i, row, short in zip(rows, records, told_rows)],
         told={"rows": told_rows, "days": [[round(t, 3) for t in day] for day in days], "charts": drawn,
               "grams": [[[[grams(band) for band in hour] for hour in season] for season in row] for row in factors]})

@@ -2,33 +2,41 @@
 
 A form is the JSON `{"seasons": [{"days": "92", ..}], "parking": "lists" or "grid", "durations": [24 words],
 "hours": [24 words], "grid": [24 lists of 24 words], "rows": [{"class": "1", ..}]}`; every value is the word that was
-typed. Field N of record I has the id `season-I-N` or `row-I-N`, I from 0.
+typed, and a season or row may have a `name`. Field N of record I has the id `season-I-N` or `row-I-N`, I from 0.
 """
 
 import io
 import re
 import zipfile
 from collections.abc import Callable
+from functools import lru_cache
 from typing import NamedTuple
 
 from evp import layout
 from evp.explain import explain
 from evp.files import InputError, text_of
+from evp.doubting import doubt_lines
+from evp.figures import GROUP_NAMES, groups
 from evp.layout import CANISTERS, CLASSES, MILEAGE, ROW_FIELDS, SEASON_FIELDS, Field
-from evp.library import MECHANISMS, Library
+from evp.library import MECHANISMS, Band, Library, Report
 from evp.masses import shown
 from evp.pages.refusals import limits_of, minus_in
 from evp.pages.render import render
 from evp.pages.words import hours
 from evp.sheet import Builder, TextError, doubts, folder_of, folders, take_text
-from evp.sheet.folders import numbers, plain
+from evp.sheet.books import book_of, is_book
+from evp.sheet.folders import column_of, numbers, plain
+from evp.sheet.names import NO_NAMES, Names, as_name
 from evp.sheet.reader import record_words
+from evp.sheet.spelling import COUNT, respelt, respelt_record
 from evp.sheet.words import encode
 from evp.tables import read_table
 from evp.wording import counted, name_shown
 
 MOST_RECORDS = 1_200  # some more than a sheet may have, so that the library says so
 MOST_WORD = 200  # signs
+NAME = "name"  # of a season or row
+MULTIPLIED = "the two lists of parkings are written as the grid of their products; the masses are the same"
 PLACE = "fleet line %d"  # of a row, as messages about several rows take it
 FIELDS = {"season": SEASON_FIELDS, "row": (*ROW_FIELDS, MILEAGE)}
 CHOSEN = ("class", "technology", "canister")  # from a list
@@ -61,6 +69,7 @@ class Form(NamedTuple):
     grid: list[list[str]]
     rows: list[dict[str, str]]
     version: str = ""
+    names: Names = NO_NAMES
 
 
 # ------------------------------------------------------------------ JSON to a form
@@ -69,7 +78,7 @@ class Form(NamedTuple):
 def _words(given: object, many: int) -> list[str]:
     if not isinstance(given, list) or len(given) != many or not all(isinstance(word, str) for word in given):
         raise InputError("this is no form: %d words wanted" % many)
-    return [word.strip()[:MOST_WORD] for word in given]
+    return [respelt(word.strip()[:MOST_WORD], COUNT, comma=True) for word in given]
 
 
 def _records(given: object, kind: str) -> list[dict[str, str]]:
@@ -81,8 +90,13 @@ def _records(given: object, kind: str) -> list[dict[str, str]]:
     for line in given:
         if not all(isinstance(name, str) and isinstance(word, str) for name, word in line.items()):
             raise InputError("this is no form: a field is no word")
-        found.append({name: word.strip()[:MOST_WORD] for name, word in line.items() if name in names and word.strip()})
+        found.append(respelt_record(
+            {name: word.strip()[:MOST_WORD] for name, word in line.items() if name in names and word.strip()}, True))
     return found
+
+
+def _names(given: list[dict[str, str]]) -> list[str]:
+    return [as_name(line.get(NAME, "")[:MOST_WORD]) for line in given]
 
 
 def form_of(given: object) -> Form:
@@ -92,12 +106,12 @@ def form_of(given: object) -> Form:
     grid = given.get("grid") or [[""] * 24] * 24
     if given.get("parking") not in ("lists", "grid") or not isinstance(grid, list) or len(grid) != 24:
         raise InputError("this is no form: parking is lists or grid, and a grid has 24 end hours")
-    version = given.get("version", "")
+    version, seasons, rows = given.get("version", ""), given.get("seasons"), given.get("rows")
     return Form(
-        _records(given.get("seasons"), "season"), given["parking"],
+        _records(seasons, "season"), given["parking"],
         *(_words(given.get(name) or [""] * 24, 24) for name in ("durations", "hours")),
-        [_words(line, 24) for line in grid], _records(given.get("rows"), "row"),
-        version if version in ("1", "2", "3", "4") else "")
+        [_words(line, 24) for line in grid], _records(rows, "row"),
+        version if version in ("1", "2", "3", "4") else "", Names(_names(seasons), _names(rows)))
 
 
 # ------------------------------------------------------------------ a form to bytes
@@ -105,14 +119,21 @@ def form_of(given: object) -> Form:
 
 def _field_faults(kind: str, i: int, given: dict[str, str]) -> list[Fault]:
     """The words of a record that are none for their field."""
-    found = []
+    return [Fault("%s-%d-%s" % (kind, i, name), text, "%s %d" % (kind, i + 1))
+            for name, text in _record_faults(kind, tuple(given.items()))]
+
+
+@lru_cache(maxsize=4_096)
+def _record_faults(kind: str, items: tuple[tuple[str, str], ...]) -> list[tuple[str, str]]:
+    """The same by the names of the fields. Most records of a form that is checked again are as they were."""
+    given, found = dict(items), []
     for field in FIELDS[kind]:
-        word, id, where = given.get(field.name), "%s-%d-%s" % (kind, i, field.name), "%s %d" % (kind, i + 1)
+        word = given.get(field.name)
         if word is None and field.name in NEEDED[kind]:
-            found.append(Fault(id, "%s is missing" % label_of(field), where))
+            found.append((field.name, "%s is missing" % label_of(field)))
         if word is None or field.name == "canister" and word in CANISTERS or field.name == "tank" and word == "class":
             continue
-        found += _encoded(word, field, label_of(field), id, where)
+        found += [(field.name, fault.text) for fault in _encoded(word, field, label_of(field), "")]
     return found
 
 
@@ -145,12 +166,11 @@ def _builder(form: Form) -> Builder:
             builder.add_counts(name, tuple(word or "0" for word in words))
     for i, season in enumerate(form.seasons, 1):
         with builder.at("season %d" % i):
-            builder.add_season(season)
+            builder.add_season(season, form.names.season(i - 1))
     for i, row in enumerate(form.rows, 1):
         with builder.at(PLACE % i):
-            builder.add_row(row)
-    if form.version:
-        builder.single["version"] = int(form.version)
+            builder.add_row(row, form.names.row(i - 1))
+    builder.least_version = int(form.version or 1)
     return builder
 
 
@@ -159,6 +179,7 @@ class Made(NamedTuple):
     data: bytes | None
     faults: list[Fault]
     doubts: list[str]
+    names: Names = NO_NAMES
 
 
 def made_of(form: Form) -> Made:
@@ -169,7 +190,8 @@ def made_of(form: Form) -> Made:
         return Made(None, faults, [])
     builder = _builder(form)
     try:
-        return Made(builder.data(), [], [_in_form(line) for line in doubts(builder)])
+        notes = [MULTIPLIED] if builder.is_multiplied() else []
+        return Made(builder.data(), [], [*(_in_form(line) for line in doubts(builder)), *notes], builder.names)
     except TextError as error:
         return Made(None, [_whole_fault(form, message) for message in error.messages], [])
 
@@ -179,6 +201,9 @@ def _whole_fault(form: Form, message: str) -> Fault:
     place = re.match(r"fleet line ([0-9]+): (?:row: )?", message)
     if place and "mileage" in message:
         return Fault("row-%d-mileage" % (int(place[1]) - 1), message[place.end():], "row " + place[1])
+    lists = re.match(r"(durations|hours): (?:\1: )?", message)
+    if lists:
+        return Fault(lists[1], message[lists.end():])
     return Fault("rows" if place else "parking", _in_form(message))
 
 
@@ -192,6 +217,8 @@ def _in_form(text: str) -> str:
 
 def is_empty(form: Form) -> bool:
     """Whether nobody has filled in anything yet; what is chosen from a list is chosen always."""
+    if form.names.any():
+        return False
     typed = [word for row in form.rows for name, word in row.items() if name not in CHOSEN]
     counts = (*form.durations, *form.hours, *(word for line in form.grid for word in line))
     return len(form.seasons) < 2 and len(form.rows) < 2 and not any((*form.seasons, *typed, *counts))
@@ -206,7 +233,7 @@ def check_form(library: Library, form: Form) -> dict:
         many = counted(len(made.faults), "field")
         return {"state": "unread", "line": "%s cannot be read yet." % many, "doubts": [],
                 "faults": [fault._asdict() for fault in made.faults]}
-    found = explain(library, made.data)
+    found = explain(library, made.data, made.names)
     if found.number:
         id, where = _id_of(form, found.record, found.index, found.field), found.record_name if found.index else ""
         fault = Fault(id, minus_in(_told(found)), where)
@@ -216,7 +243,27 @@ def check_form(library: Library, form: Form) -> dict:
     parts = ", ".join("%s %s" % (name, shown(band)) for name, band in zip(MECHANISMS, report.all))
     return {"state": "accepted", "line": "Accepted: version %d, %s. %s a year: %s." % (
         layout.version_of(made.data), counted(len(made.data), "byte"), shown(report.total), parts),
-        "doubts": made.doubts, "faults": [], "bytes": len(made.data)}
+        "doubts": made.doubts, "faults": [], "bytes": len(made.data), "results": results_of(report)}
+
+
+def results_of(report: Report) -> list[dict]:
+    """The masses of a report for the table beside the form: in words, and both ends in milligrams, which say by how
+    much one has changed."""
+    lines = [(GROUP_NAMES[name], [*masses]) for name, masses in groups(report)]
+    return [{"name": name, "masses": [_mass(band) for band in masses]} for name, masses in lines] + [
+        {"name": "total", "masses": [_mass(report.total)]}]
+
+
+def _mass(band: Band) -> dict:
+    return {"text": shown(band), "low": str(band.low), "high": str(band.high)}
+
+
+def effects_of(library: Library, form: Form) -> list[str]:
+    """What else may not be meant in an accepted form, and what that does to its mass."""
+    made = made_of(form)
+    if made.data is None or library.check(made.data):
+        return []
+    return [minus_in(line) for line in doubt_lines(library, made.data, made.names)]
 
 
 def _told(found) -> str:
@@ -237,25 +284,36 @@ def _id_of(form: Form, record: str | None, index: int | None, field: str | None)
 # ------------------------------------------------------------------ a sheet to a form
 
 
-def form_from(data: bytes, name: str) -> dict:
-    """The form of a sheet's bytes, of a refused sheet too, or of a text's; InputError where it has none."""
-    if data[:3] != b"EVP" and data[:1] not in (b"", b"\0"):
-        try:
-            data = take_text(data.decode("utf-8-sig"), name_shown(name) + ": ").data()
-        except UnicodeDecodeError:
-            raise InputError("%s: this is no sheet, and no text in UTF-8" % name_shown(name)) from None
-        except TextError as error:
-            raise InputError("\n".join(error.messages[:3])) from None
+def sheet_of(data: bytes, name: str, names: Names = NO_NAMES) -> tuple[bytes, Names]:
+    """The bytes and names of a sheet, of a workbook or of a text; InputError where it is none."""
+    if data[:3] == b"EVP" or data[:1] in (b"", b"\0"):
+        return data, names
+    try:
+        builder = book_of(data, name_shown(name)) if is_book(name) else take_text(
+            data.decode("utf-8-sig"), name_shown(name) + ": ")
+        return builder.data(), builder.names
+    except UnicodeDecodeError:
+        raise InputError("%s: this is no sheet, no workbook, and no text in UTF-8" % name_shown(name)) from None
+    except TextError as error:
+        raise InputError("\n".join(error.messages[:3])) from None
+
+
+def form_from(data: bytes, name: str, names: Names = NO_NAMES) -> dict:
+    """The form of a sheet's bytes, of a refused sheet too, of a workbook's or of a text's; InputError where it has
+    none."""
+    data, names = sheet_of(data, name, names)
     if len(data) < 8 or layout.version_of(data) not in (1, 2, 3, 4) or len(data) != layout.length_of(data):
         raise InputError("%s: the form holds whole sheets of versions 1 to 4; the page of the sheet says what is "
                          "wrong" % name_shown(name))
     grid = layout.has_grid(data)
     lists = [list(map(str, layout.counts(data, at))) for at in ((8, 56) if not grid else ())] or [[""] * 24] * 2
     cells = [list(map(str, layout.counts(data, 8 + 48 * t))) for t in range(24)] if grid else [[""] * 24] * 24
-    return {"seasons": [record_words(data, layout.season_place(data, i), SEASON_FIELDS)
-                        for i in range(layout.season_count(data))],
+    seasons = [record_words(data, layout.season_place(data, i), SEASON_FIELDS)
+               for i in range(layout.season_count(data))]
+    rows = [_row_of(data, i) for i in range(layout.row_count(data))]
+    return {"seasons": [{NAME: names.season(i), **words} for i, words in enumerate(seasons)],
             "parking": "grid" if grid else "lists", "durations": lists[0], "hours": lists[1], "grid": cells,
-            "rows": [_row_of(data, i) for i in range(layout.row_count(data))], "version": _version_of(data)}
+            "rows": [{NAME: names.row(i), **words} for i, words in enumerate(rows)], "version": _version_of(data)}
 
 
 def _row_of(data: bytes, i: int) -> dict[str, str]:
@@ -293,8 +351,9 @@ def form_from_tables(files: dict[str, bytes]) -> dict:
 
 def _records_of(key: str, name: str, columns: list[str], needed: list[str]) -> Callable[[str], dict]:
     def read(text: str) -> dict:
-        lines = numbers(read_table(text, name, columns, needed))
-        return {key: [{column: line.cells.get(column, "") for column in columns} for line in lines]}
+        lines = numbers(read_table(text, name, columns, needed, column_of))
+        return {key: [{NAME: as_name(line.note), **{column: line.cells.get(column, "") for column in columns}}
+                      for line in lines]}
     return read
 
 
@@ -323,11 +382,11 @@ TABLES = {
 }
 
 
-def tables_of(data: bytes) -> bytes:
+def tables_of(data: bytes, names: Names = NO_NAMES) -> bytes:
     """The csv files of a sheet, together."""
     out = io.BytesIO()
     with zipfile.ZipFile(out, "w", zipfile.ZIP_DEFLATED) as archive:
-        for name, text in folder_of(data).items():
+        for name, text in folder_of(data, names=names).items():
             archive.writestr(zipfile.ZipInfo(name, (1980, 1, 1, 0, 0, 0)), text.encode("utf-8-sig"))
     return out.getvalue()
 
@@ -350,13 +409,15 @@ ABOUT = {  # as docs/SHEET.md has it
     "hot": "share of trips that end with a hot engine", "fill": "fill level of the tank",
     "tank": "size of the tank; left empty it is that of the class", "vehicles": "number of vehicles",
     "trips": "trips of a vehicle a day", "minutes": "length of a trip",
-    "load": "load of the canister when the parking starts", "saturation": "load that saturates the canister",
-    "mileage": "km that the vehicle has driven; in place of a load, and with a grid alone",
+    "load": "load of the canister when the parking starts; the guidebook gives no usual load, but one by mileage",
+    "saturation": "load that saturates the canister; the guidebook gives no usual m_sat, and with 0 the canister holds "
+                  "nothing",
+    "mileage": "km that the vehicle has driven, in place of a load: eq. 12 of the guidebook gives the load of it",
 }
 UNITS = {
     "days": "1 to 366", "lowest": "°C", "highest": "°C", "vp": "kPa", "class": "", "technology": "", "canister": "",
     "carburettor": "% of vehicles", "hot": "% of trips", "fill": "% of tank", "tank": "l", "vehicles": "number",
-    "trips": "a day", "minutes": "a trip", "load": "g", "saturation": "g", "mileage": "km; grid only",
+    "trips": "a day", "minutes": "a trip", "load": "g", "saturation": "g", "mileage": "km",
 }
 
 

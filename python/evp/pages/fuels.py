@@ -10,6 +10,7 @@ from evp.layout import canister_of
 from evp.library import GROUPS, MECHANISMS, Library
 from evp.pages.render import render
 from evp.pages.words import NARROW, canister_words, listed, minus, row_name, tenths
+from evp.sheet.names import NO_NAMES, Names, with_name
 from evp.show import Difference, differences
 from evp.wording import apart, name_shown
 
@@ -67,7 +68,7 @@ class Line(NamedTuple):
     masses: list[Compared]
 
 
-def _lines(found: list[Difference], data: bytes, fuel: Fuel | None) -> list[Line]:
+def _lines(found: list[Difference], data: bytes, fuel: Fuel | None, beside: Names) -> list[Line]:
     """The rows, mechanism by mechanism."""
     by_row: dict[str, list[Difference]] = {}
     for difference in found:
@@ -78,7 +79,8 @@ def _lines(found: list[Difference], data: bytes, fuel: Fuel | None) -> list[Line
             continue
         row = layout.row(data, int(name) - 1)
         law = bool(fuel and fuel.one_way) and canister_of(row) == 0
-        lines.append(Line("row " + name, "%s, %s" % (row_name(row), canister_words(row)), canister_of(row) != 0,
+        about = "%s, %s" % (row_name(row), canister_words(row))
+        lines.append(Line(with_name("row " + name, beside.row(int(name) - 1)), about, canister_of(row) != 0,
                           [Compared(mass, law) for mass in masses]))
     return lines
 
@@ -100,14 +102,14 @@ def _counted(counts: Counter) -> str:
     return listed(told)
 
 
-def _seasons(a: bytes, b: bytes) -> list[dict]:
+def _seasons(a: bytes, b: bytes, beside: Names) -> list[dict]:
     """The seasons of both where both have as many: what stands in A and in B, and whether it differs."""
     if layout.season_count(a) != layout.season_count(b):
         return []
     found = []
     for i in range(layout.season_count(a)):
         pair = layout.season(a, i), layout.season(b, i)
-        found.append({"name": "season %d" % (i + 1), "cells": [
+        found.append({"name": with_name("season %d" % (i + 1), beside.season(i)), "cells": [
             {"a": _shown(name, pair[0]), "b": _shown(name, pair[1]), "differs": pair[0][name] != pair[1][name]}
             for name in ("days", "lowest", "highest", "vp")]})
     return found
@@ -117,16 +119,18 @@ def _shown(name: str, season: dict[str, int]) -> str:
     return str(season[name]) if name == "days" else tenths(season[name])
 
 
-def page_fuels(library: Library, names: tuple[str, str], sheets: tuple[bytes, bytes], served: bool = False) -> str:
-    """Two accepted sheets side by side."""
+def page_fuels(library: Library, names: tuple[str, str], sheets: tuple[bytes, bytes], served: bool = False,
+               beside: Names = NO_NAMES) -> str:
+    """Two accepted sheets side by side; `beside` are the names of their rows and seasons."""
     a, b = (library.report(data) for data in sheets)
     found, fuel = differences(a, b), fuel_change(*sheets)
-    rows = _lines(found, sheets[0], fuel) if len(a.rows) == len(b.rows) else []
+    rows = _lines(found, sheets[0], fuel, beside) if len(a.rows) == len(b.rows) else []
     total = Compared(found[-1], False)
     return render(
         "fuels.html", served, names=[name_shown(name) for name in names], fuel=fuel, rows=rows, groups=_groups(found),
-        total=total, seasons=_seasons(*sheets), counts=_counted(Counter(d.verdict for d in found)), many=len(found),
-        words=WORDS, same=sheets[0] == sheets[1], changes=changes_table(*sheets, library=library),
+        total=total, seasons=_seasons(*sheets, beside), counts=_counted(Counter(d.verdict for d in found)),
+        many=len(found), words=WORDS, same=sheets[0] == sheets[1],
+        changes=changes_table(*sheets, library=library, records=(beside, beside)),
         left_out=len(a.rows) - len(rows) if rows else 0, row_counts=(len(a.rows), len(b.rows)),
         most=max(1, *(band.high for report in (a, b) for group in GROUPS for band in getattr(report, group))),
         mechanisms=MECHANISMS)

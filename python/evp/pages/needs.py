@@ -27,9 +27,16 @@ def require(*modules: str):
     missing = [name for name in modules if find_spec(name) is None]
     if not missing:
         return
+    prefer(*modules)
+    raise InputError("%s %s missing: %s" % (" and ".join(missing), "is" if len(missing) == 1 else "are", INSTALL))
+
+
+def prefer(*modules: str):
+    """Goes on with Debian's Python where this one lacks a module and that one has all."""
+    if all(find_spec(name) is not None for name in modules):
+        return
     if launcher is not None and HAS_CHANGED not in os.environ and _debian_has(modules):
         _start_anew(launcher)
-    raise InputError("%s %s missing: %s" % (" and ".join(missing), "is" if len(missing) == 1 else "are", INSTALL))
 
 
 def _debian_has(modules: tuple[str, ...]) -> bool:

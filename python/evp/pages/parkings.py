@@ -7,7 +7,8 @@ from evp.library import Band, Library
 from evp.pages.days import DIURNAL
 from evp.pages.parts import counts_of, with_cell, with_end_hours
 from evp.pages.render import render
-from evp.pages.words import canister_words, grams, hours, row_name, season_words
+from evp.pages.words import canister_words, grams, hours, named_row, season_words
+from evp.sheet.names import NO_NAMES, Names, with_name
 from evp.wording import apart, counted, name_shown
 
 LEVELS = 6  # of a colour, above none
@@ -63,7 +64,7 @@ def _means(library: Library, data: bytes, season: int, row: int, first) -> list[
 
 
 def page_parking(library: Library, name: str, data: bytes, season: int | None = None, row: int = 0,
-                 served: bool = False, packed: dict | None = None) -> str:
+                 served: bool = False, packed: dict | None = None, names: Names = NO_NAMES) -> str:
     """An accepted sheet's parkings, with the factors of a season and a row, counted from 0; the warmest where none is
     given."""
     seasons = [layout.season(data, i) for i in range(layout.season_count(data))]
@@ -85,19 +86,21 @@ def page_parking(library: Library, name: str, data: bytes, season: int | None = 
         whole=library.factor(data, season, row, DIURNAL), edges=edges, steps=steps,
         count_levels=[[_level(count, steps) for count in line] for line in counts],
         factor_levels=[[_level(band.high / 1e6, edges) for band in line] for line in factors],
-        season="season %d" % (season + 1), season_words=season_words(seasons[season]), row=row + 1,
-        who=row_name(record),
+        season=with_name("season %d" % (season + 1), names.season(season)),
+        season_words=season_words(seasons[season]), row=row + 1,
+        who=named_row(record, names.row(row)),
         canister=canister_words(record), busiest=by_hour.index(max(by_hour)) + 1, end_hour=24, duration=17,
         top={"grams": grams(factors[top[0]][top[1]], 2), "end": top[0] + 1, "hours": hours(top[1] + 1)}, packed=packed,
-        lists=not layout.has_grid(data), choices=_choices(data, seasons), season_index=season,
+        lists=not layout.has_grid(data), choices=_choices(data, seasons, names), season_index=season,
         drawn=DRAWN,
         told={"drawn": DRAWN, "counts": counts, "grams": [[grams(band) for band in line] for line in factors],
               "filled": [[apart(f.parkings), grams(f.mean, 4) if f.mean else ""] for f in filled],
               "alone": [grams(band, 3) if band else "" for band in alone], "parkings": counted(parkings, "parking")})
 
 
-def _choices(data: bytes, seasons: list[dict[str, int]]) -> dict[str, list[str]]:
+def _choices(data: bytes, seasons: list[dict[str, int]], names: Names) -> dict[str, list[str]]:
     """What a served page can be asked for."""
     rows = [layout.row(data, i) for i in range(layout.row_count(data))]
-    return {"season": ["%d: %s" % (i, season_words(season)) for i, season in enumerate(seasons, 1)],
-            "row": ["%d: %s" % (i, row_name(row)) for i, row in enumerate(rows, 1)]}
+    return {"season": ["%s: %s" % (with_name(str(i), names.season(i - 1)), season_words(season))
+                       for i, season in enumerate(seasons, 1)],
+            "row": ["%d: %s" % (i, named_row(row, names.row(i - 1))) for i, row in enumerate(rows, 1)]}

@@ -12,6 +12,7 @@ from markupsafe import Markup
 from evp.library import MECHANISMS
 from evp.masses import shown
 from evp.pages import words
+from evp.pages.kept import HOURS
 from evp.wording import apart, counted
 
 HERE = Path(__file__).resolve().parent
@@ -20,7 +21,8 @@ LINKS = (  # of the served pages, in the order of their menu
     ("class", "Class"), ("sheet", "Sheet"), ("form", "Form"), ("day", "Day"), ("parking", "Parking"),
     ("fuels", "Fuels"), ("species", "Species"), ("cells", "Cells"), ("pool", "Pool"),
 )
-SCRIPTS = ("begin", "class", "day", "parking", "form", "drop")
+FORM_SCRIPTS = ("form-state", "form-answers", "form-history", "form-paste", "form")  # in this order
+SCRIPTS = ("begin", "class", "day", "parking", *FORM_SCRIPTS, "drop")
 
 
 @cache
@@ -56,7 +58,7 @@ def environment(*folders: Path) -> jinja2.Environment:
         shown=shown, mg=words.band_mg, grams=words.grams, about=words.about, listed=words.listed)
     made.globals.update(
         css=source("style.css"), script=_script, policy=policy, links=LINKS, MECHANISMS=MECHANISMS, counted=counted,
-        in_unit=words.in_unit)
+        in_unit=words.in_unit, kept_hours=HOURS, form_scripts=FORM_SCRIPTS)
     return made
 
 

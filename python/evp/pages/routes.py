@@ -1,5 +1,6 @@
-"""The pages as a server gives them: a page asks for files, and answers with what they show. Nothing is kept between two
-requests: a page that leads to another page of the same sheet sends the sheet with it."""
+"""The pages as a server gives them: a page asks for files, makes what they show, and leads to its address, where it is
+kept for a time (kept.py): so Back and reloading work. A page that leads to another page of the same sheet sends the
+sheet with it."""
 
 import base64
 import binascii
@@ -9,7 +10,7 @@ from collections.abc import Callable
 from functools import cache, wraps
 from pathlib import PurePosixPath
 
-from flask import Blueprint, Response, abort, jsonify, request
+from flask import Blueprint, Response, abort, jsonify, redirect, request
 
 from evp import marking
 from evp.cells import travel_of
@@ -23,11 +24,16 @@ from evp.pages.asks import ASKS, examples, page_ask, page_home
 from evp.pages.classes import page_class
 from evp.pages.days import page_day
 from evp.pages.fuels import page_fuels
+from evp.pages.kept import GONE, RESULTS
 from evp.pages.parkings import page_parking
 from evp.pages.render import policy
 from evp.pages.sheets import page_sheet
 from evp.pages.splits import page_cells, page_pool, page_species
 from evp.pages.turns import CLASSES, FORMS, PAGES, Turns
+from evp.sheet import TextError
+from evp.sheet.books import book_bytes, is_book
+from evp.sheet.names import END as names_end
+from evp.sheet.names import NO_NAMES, Names, names_of, names_text, pooled_names, shared_names
 from evp.tables import table_text
 from evp.wording import counted, name_shown
 
@@ -38,6 +44,7 @@ MOST_CLASS = 4_000_000  # of one with the sheets of a class
 MOST_SHEETS = 200
 MOST_FILED = 50_000  # lines of filed masses: what is made of each takes some hundred times its bytes
 NAMES = re.compile(r"[^A-Za-z0-9._-]+")
+KEY = "kept"  # of an address: which result
 
 
 # ------------------------------------------------------------------ what comes and goes
@@ -64,7 +71,12 @@ def _headers(answer: Response) -> Response:
 
 
 class Given(dict):
-    """The files of a request by the names of their fields, each a list of (name, bytes)."""
+    """The files of a request by the names of their fields, each a list of (name, bytes); and the tables of names that
+    came with them, by the names of their sheets without .evp."""
+
+    def __init__(self):
+        super().__init__()
+        self.names: dict[str, str] = {}
 
     def one(self, field: str) -> tuple[str, bytes]:
         if not self.get(field):
@@ -81,33 +93,57 @@ def _given() -> Given:
     """What was uploaded, sent along by a page, or asked for as an example."""
     found = Given()
     for field, file in request.files.items(multi=True):
-        if file.filename:
-            found.setdefault(field, []).append((_name(file.filename), file.read(MOST_CLASS)))
+        if not file.filename:
+            continue
+        name, data = _name(file.filename), file.read(MOST_CLASS)
+        if name.lower().endswith(names_end):
+            found.names[name[:-len(names_end)]] = text_of(data, name)
+        else:
+            found.setdefault(field, []).append((name, data))
     if "sheet64" in request.form:
         try:
             data = base64.b64decode(request.form["sheet64"], validate=True)
         except (binascii.Error, ValueError):
             raise InputError("the sheet did not come whole") from None
-        found["files"] = [(_name(request.form.get("name", "")), data[:SHEET_BYTES + 1])]
+        name = _name(request.form.get("name", ""))
+        found["files"] = [(name, data[:SHEET_BYTES + 1])]
+        if request.form.get("names"):
+            found.names[_stem(name)] = request.form["names"]
     example = request.form.get("example")
     if example:
         found.update(examples().get(example, dict)())
     return found
 
 
-def _pack(name: str, data: bytes, filed: str = "") -> dict[str, str]:
+def _stem(name: str) -> str:
+    return name[:-4] if name.lower().endswith(".evp") else name
+
+
+def _pack(name: str, data: bytes, filed: str = "", names: Names = NO_NAMES) -> dict[str, str]:
     """What a page sends along to another page of the same sheet."""
     packed = {"name": name, "sheet64": base64.b64encode(data).decode()}
+    packed |= {"names": names_text(names)} if names.any() else {}
     return {**packed, "filed": filed} if filed else packed
 
 
 def _sheet(given: dict, field: str = "files") -> tuple[str, bytes]:
     """The first sheet among the files, of a long one no more than tells that it is too long."""
+    return _named_sheet(given, field)[:2]
+
+
+def _named_sheet(given: dict, field: str = "files") -> tuple[str, bytes, Names]:
+    """The same with the names of its rows and seasons; of a workbook the sheet that it makes."""
     sheets = [file for file in given.get(field, ()) if not file[0].lower().endswith(".csv")]
     if not sheets:
-        raise InputError("choose a sheet first, a file whose name ends with .evp")
+        raise InputError("choose a sheet first, a file whose name ends with .evp, or a workbook")
     name, data = sheets[0]
-    return name, data[:SHEET_BYTES + 1] if data[:3] == b"EVP" else data
+    if is_book(name):
+        made, names = forms.sheet_of(data, name)
+        return str(PurePosixPath(name).with_suffix(".evp")), made, names
+    data = data[:SHEET_BYTES + 1] if data[:3] == b"EVP" else data
+    table = getattr(given, "names", {}).get(_stem(name), "")
+    names = names_of(table, _stem(name) + names_end, data) if table else NO_NAMES
+    return name, data, names
 
 
 def _number(name: str, many: int) -> int | None:
@@ -122,11 +158,11 @@ def page(what: str, turns: Turns = PAGES) -> Callable:
         @wraps(show)
         def answer():
             if request.method == "GET":
-                return _empty(what)
+                return kept(what) if KEY in request.args else _empty(what)
             try:
                 given = _given()
                 with turns:
-                    return show(given)
+                    return lead_to(what, show(given))
             except InputError as error:
                 return page_ask(what, str(error), error.more), 400
         blueprint.add_url_rule("/" + what, view_func=answer, methods=["GET", "POST"])
@@ -134,15 +170,32 @@ def page(what: str, turns: Turns = PAGES) -> Callable:
     return route
 
 
-def accepted(show: Callable[[str, bytes], str]) -> Callable[[Given], str]:
+def lead_to(what: str, html: str) -> Response:
+    """Keeps a page and leads to its address."""
+    return redirect("/%s?%s=%s" % (what, KEY, RESULTS.put(what, html)), 303)
+
+
+def kept(what: str):
+    """A page at its address, or that it is gone."""
+    found = RESULTS.get(what, request.args.get(KEY, ""))
+    if found is not None:
+        return found
+    return (forms.page_form(message=GONE) if what == "form" else page_ask(what, GONE)), 410
+
+
+def accepted(show: Callable[[str, bytes, Names], str]) -> Callable[[Given], str]:
     """Of a refused sheet the page that says why."""
     @wraps(show)
     def answer(given: Given) -> str:
-        name, data = _sheet(given)
+        name, data, names = _named_sheet(given)
         if get_library().check(data):
-            return page_sheet(get_library(), name, data, served=True, packed=_pack(name, data))
-        return show(name, data)
+            return _page_refused(name, data, names)
+        return show(name, data, names)
     return answer
+
+
+def _page_refused(name: str, data: bytes, names: Names) -> str:
+    return page_sheet(get_library(), name, data, served=True, packed=_pack(name, data, names=names), names=names)
 
 
 # ------------------------------------------------------------------ the pages
@@ -172,9 +225,9 @@ def open_files():
         given = _given()
         files = [file for found in given.values() for file in found]
         sheets = [name for name, _ in files if not name.lower().endswith(".csv")]
-        show, turns = (show_class, CLASSES) if len(sheets) > 1 else (show_sheet, PAGES)
+        what, show, turns = ("class", show_class, CLASSES) if len(sheets) > 1 else ("sheet", show_sheet, PAGES)
         with turns:
-            return show(given)
+            return lead_to(what, show(given))
     except InputError as error:
         return page_home(str(error), error.more), 400
 
@@ -227,12 +280,12 @@ def show_sheet(given: Given) -> str:
     if len(sheets) > 1:
         raise InputError("%s, and one is shown here; Class takes several together with filed.csv" % (
             counted(len(sheets), "sheet")))
-    name, data = _sheet(given)
+    name, data, names = _named_sheet(given)
     tables = [file for file in given.get("files", ()) if file[0].lower().endswith(".csv")]
     text = text_of(tables[0][1], tables[0][0]) if tables else request.form.get("filed", "")
     label = tables[0][0] if tables else "the filed masses"
     filings = [f for f in marking.filed_of(text, label, MOST_FILED).filings if f.sheet == name] if text else None
-    return page_sheet(get_library(), name, data, filings, True, _pack(name, data, text))
+    return page_sheet(get_library(), name, data, filings, True, _pack(name, data, text, names), names)
 
 
 @blueprint.post("/sheet/save")
@@ -247,54 +300,55 @@ def save_sheet():
 
 @page("day")
 @accepted
-def show_day(name: str, data: bytes) -> str:
-    return page_day(get_library(), name, data, served=True, packed=_pack(name, data))
+def show_day(name: str, data: bytes, names: Names) -> str:
+    return page_day(get_library(), name, data, served=True, packed=_pack(name, data, names=names), names=names)
 
 
 @page("parking")
 @accepted
-def show_parking(name: str, data: bytes) -> str:
+def show_parking(name: str, data: bytes, names: Names) -> str:
     season, row = _number("season", season_count(data)), _number("row", row_count(data))
-    return page_parking(get_library(), name, data, season, row or 0, True, _pack(name, data))
+    return page_parking(get_library(), name, data, season, row or 0, True, _pack(name, data, names=names), names)
 
 
 @page("species")
 @accepted
-def show_species(name: str, data: bytes) -> str:
-    return page_species(get_library(), name, data, True, _pack(name, data))
+def show_species(name: str, data: bytes, names: Names) -> str:
+    return page_species(get_library(), name, data, True, _pack(name, data, names=names))
 
 
-def _two(given: Given) -> tuple[tuple[str, str], tuple[bytes, bytes]]:
-    (name_a, a), (name_b, b) = (_sheet(given, field) for field in ("a", "b"))
-    return (name_a, name_b), (a, b)
+def _two(given: Given) -> tuple[tuple[str, str], tuple[bytes, bytes], tuple[Names, Names]]:
+    (name_a, a, names_a), (name_b, b, names_b) = (_named_sheet(given, field) for field in ("a", "b"))
+    return (name_a, name_b), (a, b), (names_a, names_b)
 
 
 @page("fuels")
 def show_fuels(given: Given) -> str:
-    names, sheets = _two(given)
-    for name, data in zip(names, sheets):
+    names, sheets, beside = _two(given)
+    for name, data, its_names in zip(names, sheets, beside):
         if get_library().check(data):
-            return page_sheet(get_library(), name, data, served=True, packed=_pack(name, data))
-    return page_fuels(get_library(), names, sheets, True)
+            return _page_refused(name, data, its_names)
+    return page_fuels(get_library(), names, sheets, True, shared_names(*beside))
 
 
 @page("cells")
 def show_cells(given: Given) -> str:
-    library, (name, data), (table, travel) = get_library(), _sheet(given), given.one("travel")
+    library, (name, data, names), (table, travel) = get_library(), _named_sheet(given), given.one("travel")
     if library.check(data):
-        return page_sheet(library, name, data, served=True, packed=_pack(name, data))
+        return _page_refused(name, data, names)
     return page_cells(library, name, data, travel_of(text_of(travel, table), table, row_count(data)), True,
-                      _pack(name, data))
+                      _pack(name, data, names=names), names)
 
 
 @page("pool")
 def show_pool(given: Given) -> str:
-    library, (names, sheets) = get_library(), _two(given)
+    library, (names, sheets, beside) = get_library(), _two(given)
     try:
         pooled = library.pool(*sheets)
     except Refusal as refusal:
         raise InputError(pool_refusal(library, refusal, names, sheets)) from None
-    return page_pool(library, names, sheets, pooled, True, _pack("pooled.evp", pooled))
+    named = pooled_names(*beside, row_count(sheets[0]))
+    return page_pool(library, names, sheets, pooled, True, _pack("pooled.evp", pooled, names=named), named)
 
 
 # ------------------------------------------------------------------ the form
@@ -303,11 +357,11 @@ def show_pool(given: Given) -> str:
 @blueprint.route("/form", methods=["GET", "POST"])
 def show_form():
     if request.method == "GET":
-        return _empty("form")
+        return kept("form") if KEY in request.args else _empty("form")
     with FORMS:
         try:
-            name, data = _sheet(_given())
-            return forms.page_form(forms.form_from(data, name), name.removesuffix(".evp"))
+            name, data, names = _named_sheet(_given())
+            return lead_to("form", forms.page_form(forms.form_from(data, name, names), _stem(name)))
         except InputError as error:
             return forms.page_form(message=str(error)), 400
 
@@ -331,43 +385,77 @@ def check_form():
     return jsonify({**found, "serial": int(serial) if re.fullmatch("[0-9]{1,9}", serial) else 0})
 
 
+@blueprint.post("/form/doubts")
+def doubt_form():
+    """What else may not be meant, and what it does to the mass. This takes some reports, so that it is asked for apart,
+    where nothing else is."""
+    try:
+        with FORMS:
+            return jsonify({"doubts": forms.effects_of(get_library(), _form(request.get_data(as_text=True)))})
+    except InputError:
+        return jsonify({"doubts": []}), 400
+
+
+@blueprint.post("/form/open")
+def open_form():
+    """The page of the sheet that a form makes."""
+    try:
+        with PAGES:
+            made, name = _made(), _plain(request.form.get("name", ""), "evp") + ".evp"
+            return lead_to("sheet", page_sheet(get_library(), name, made.data, None, True,
+                                               _pack(name, made.data, names=made.names), made.names))
+    except InputError as error:
+        return forms.page_form(message=str(error)), 400
+
+
 @blueprint.post("/form/read")
 def read_form():
     """The form of a sheet that was dropped, or what its tables give of one."""
     try:
         with FORMS:
-            return _read_form(_given().get("files", []))
+            return _read_form(_given())
     except InputError as error:
         return jsonify({"message": str(error)}), 400
 
 
-def _read_form(files: list[tuple[str, bytes]]) -> Response:
-    tables = {name: data for name, data in files if name.lower().endswith(".csv")}
+def _read_form(given: Given) -> Response:
+    tables = {name: data for name, data in given.get("files", []) if name.lower().endswith(".csv")}
     if tables:
         return jsonify({"form": forms.form_from_tables(tables)})
-    name, data = _sheet({"files": files})
-    return jsonify({"form": forms.form_from(data, name), "name": PurePosixPath(name).stem})
+    name, data, names = _named_sheet(given)
+    return jsonify({"form": forms.form_from(data, name, names), "name": _stem(name)})
 
 
 @blueprint.post("/form/save")
 def save_form():
-    """The sheet or its tables as a file."""
+    """The sheet, its tables or its workbook as a file."""
+    name, what = request.form.get("name", ""), request.form.get("what")
     with FORMS:
         try:
-            made = forms.made_of(_form(request.form.get("form")))
-            if made.data is None:
-                raise InputError("nothing saved: %s cannot be read" % counted(len(made.faults), "field"))
-        except InputError as error:
+            made = _made()
+            if what == "xlsx":
+                return _file(name, "xlsx", book_bytes(made.data, made.names))
+            if what == "csv":
+                return _file(name + "-csv", "zip", forms.tables_of(made.data, made.names))
+        except (InputError, TextError) as error:
             return forms.page_form(message=str(error)), 400
-    name = request.form.get("name", "")
-    if request.form.get("what") == "csv":
-        return _file(name + "-csv", "zip", forms.tables_of(made.data))
     return _file(name, "evp", made.data)
+
+
+def _made() -> forms.Made:
+    """What the form that was sent makes; InputError where it makes no sheet."""
+    made = forms.made_of(_form(request.form.get("form")))
+    if made.data is None:
+        raise InputError("nothing saved: %s cannot be read" % counted(len(made.faults), "field"))
+    return made
+
+
+def _plain(name: str, suffix: str) -> str:
+    return NAMES.sub("-", name.removesuffix("." + suffix)).strip("-.")[:60] or "sheet"
 
 
 def _file(name: str, suffix: str, data: bytes) -> Response:
     """A file to save, under a plain name."""
-    plain = NAMES.sub("-", name.removesuffix("." + suffix)).strip("-.")[:60] or "sheet"
     answer = Response(data, mimetype="application/octet-stream")
-    answer.headers["Content-Disposition"] = 'attachment; filename="%s.%s"' % (plain, suffix)
+    answer.headers["Content-Disposition"] = 'attachment; filename="%s.%s"' % (_plain(name, suffix), suffix)
     return answer

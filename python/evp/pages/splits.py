@@ -6,7 +6,8 @@ from evp.figures import GROUP_NAMES, groups
 from evp.library import SPECIES, Band, Kind, Library, Report, Travel
 from evp.masses import shown
 from evp.pages.render import render
-from evp.pages.words import canister_words, row_name
+from evp.pages.words import canister_words, named_row
+from evp.sheet.names import NO_NAMES, Names
 from evp.wording import apart, name_shown
 
 FAMILIES = (("alkanes", 10), ("alkenes", 10), ("alkynes", 2), ("aromatics", 7))  # of Table 3-14, in its order
@@ -27,12 +28,12 @@ def page_species(library: Library, name: str, data: bytes, served: bool = False,
 
 
 def page_cells(library: Library, name: str, data: bytes, travels: list[Travel], served: bool = False,
-               packed: dict | None = None) -> str:
+               packed: dict | None = None, names: Names = NO_NAMES) -> str:
     """The urban, rural and highway cells of an accepted sheet's rows, and their sums."""
     report = library.report(data)
     *rows, sums = cells_of(library, report, travels)
     alike = len(set(travels)) == 1  # told once
-    told = [_cells_line(data, row, "" if alike else travel_words(travel))
+    told = [_cells_line(data, row, "" if alike else travel_words(travel), names)
             for row, travel in zip(rows[:MOST_ROWS], travels)]
     most = max((cell.high for row in rows for cell in row.cells), default=1) or 1
     return render("cells.html", served, name=name_shown(name), rows=told, left_out=len(rows) - len(told), most=most,
@@ -46,9 +47,10 @@ def travel_words(travel: Travel) -> str:
         "in town" if travel.town else "out of town", *map(apart, travel[1:]))
 
 
-def _cells_line(data: bytes, row: RowOfCells, where: str) -> dict:
+def _cells_line(data: bytes, row: RowOfCells, where: str, names: Names) -> dict:
     record = layout.row(data, int(row.row) - 1)
-    return {"number": row.row, "who": row_name(record), "vehicles": record["vehicles"], "cells": row.cells,
+    return {"number": row.row, "who": named_row(record, names.row(int(row.row) - 1)), "vehicles": record["vehicles"],
+            "cells": row.cells,
             "where": where}
 
 
@@ -61,8 +63,8 @@ def _cell_mass(cell) -> str:
 
 
 def page_pool(library: Library, names: tuple[str, str], sheets: tuple[bytes, bytes], pooled: bytes,
-              served: bool = False, packed: dict | None = None) -> str:
-    """Two sheets and the pooled one."""
+              served: bool = False, packed: dict | None = None, beside: Names = NO_NAMES) -> str:
+    """Two sheets and the pooled one; `beside` are the names of its rows."""
     reports = [library.report(data) for data in (*sheets, pooled)]
     rows = [layout.row_count(data) for data in (*sheets, pooled)]
     lines = [(GROUP_NAMES[group], mechanism, [_mass_of(report, group, m) for report in reports])
@@ -71,7 +73,8 @@ def page_pool(library: Library, names: tuple[str, str], sheets: tuple[bytes, byt
     if names[0] == names[1]:
         names = names[0] + " (first)", names[1] + " (second)"
     names = tuple(map(name_shown, names))
-    fleet = [{"number": i + 1, "from": names[i >= rows[0]], "who": row_name(row), "canister": canister_words(row),
+    fleet = [{"number": i + 1, "from": names[i >= rows[0]], "who": named_row(row, beside.row(i)),
+              "canister": canister_words(row),
               "vehicles": row["vehicles"]} for i, row in enumerate(records)]
     return render("pool.html", served, names=names, rows=rows, lines=lines,
                   totals=[report.total for report in reports], most=max(1, *(r.total.high for r in reports)),

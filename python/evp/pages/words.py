@@ -116,6 +116,11 @@ def row_name(row: dict[str, int]) -> str:
     return "%s, %s" % (CLASS_NAMES[row["class"]], technology_name(row["technology"]))
 
 
+def named_row(row: dict[str, int], name: str) -> str:
+    """A row by the name that it was given, and what it is."""
+    return "%s: %s" % (name, row_name(row)) if name else row_name(row)
+
+
 def row_more(row: dict[str, int]) -> str:
     """What else a row says."""
     tank = "%s l" % tenths(row["tank"]) if row["tank"] else "%d l, by class" % CLASSES[row["class"]][1]

@@ -1,12 +1,13 @@
-"""Makes a sheet from a readable text or from csv files, and back. A text with two lists of parkings makes a sheet of
-version 1, one with a grid a sheet of version 2, one with a grid and a mileage in some row a sheet of version 3, and one
-with a grid and more than 32 rows a sheet of version 4.
+"""Makes a sheet from a readable text, from csv files or from a workbook, and back. A text with two lists of parkings
+makes a sheet of version 1, one with a grid a sheet of version 2, one with a mileage in some row a sheet of version 3,
+and one with more than 32 rows a sheet of version 4. Versions 2 and later have a grid: where a mileage or the rows need
+one, two lists are multiplied out, which has the same exact masses.
 
 The writer puts down what the text says and refuses no value that its field can hold, so that faulty sheets can be made
 too. It rounds nothing: a number with more places than its field has, or with a point where the field counts whole
 things, is an error.
 
-The text, one record to a line, # starts a comment:
+The text, one record to a line, # starts a comment; behind a season or a row it is the name of that record:
 
   durations C C ...   24 counts for 0.5, 1, .. 12 h (may be spread over lines)
   hours C C ...       24 counts for end hours 1 to 24 (likewise)
@@ -16,8 +17,8 @@ The text, one record to a line, # starts a comment:
   row class=1 technology=0 canister=class carburettor=40 hot=30 fill=35
       tank=class vehicles=1000 trips=2.50 minutes=20 load=30.0 saturation=60.0
                       (all on one line)
-  row ... saturation=45.0 mileage=84000   with a grid: the load is that of the
-                      odometer, in km, and load is left out; 0 keeps the load
+  row ... saturation=45.0 mileage=84000   the load is that of the odometer, in
+                      km, and load is left out; 0 keeps the load
 
 canister is none, small, medium, large, class (by class) or a number; tank is class or litres. Temperatures are in
 degrees C, vp in kPa, shares and fill level in percent, load and saturation (m_sat) in grams. A row's class and

@@ -5,8 +5,11 @@ Each record comes with where it stands, such as `line 6`, which its messages nam
 
 from collections.abc import Iterator
 from contextlib import contextmanager
+from functools import lru_cache
 
 from evp.layout import CANISTERS, MILEAGE, MOST_ROWS, ROW_FIELDS, SEASON_FIELDS, Field
+from evp.sheet.names import Names, as_name
+from evp.sheet.products import check_sum, products
 from evp.sheet.words import TextError, encode, hexadecimal, whole_number
 from evp.wording import Messages
 
@@ -35,7 +38,7 @@ def version_for(has_grid: bool, has_mileage: bool, rows: int) -> int:
 class Builder:
     """What has been given so far."""
 
-    def __init__(self):
+    def __init__(self) -> None:
         self.parking: dict[str, list[bytes]] = {}
         self.ends: dict[str, str] = {}  # where each list ends
         self.seasons: list[bytes] = []
@@ -44,6 +47,9 @@ class Builder:
         self.rows: list[bytes] = []
         self.row_places: list[str] = []
         self.row_words: list[dict[str, str]] = []
+        self.names = Names([], [])
+        self.version: int | None = None  # that was asked for, whatever the records make
+        self.least_version = 1  # a later one where the records need it
         self.single: dict[str, int | bytes] = {}
         self.single_places: dict[str, str] = {}
         self.messages = Messages()
@@ -60,7 +66,7 @@ class Builder:
 
     # ------------------------------------------------------------------ records, each within at()
 
-    def add_counts(self, name: str, words: tuple[str, ...]):
+    def add_counts(self, name: str, words: tuple[str, ...]) -> None:
         """Counts of `durations`, of `hours`, or of an end hour of the grid, `grid 7`."""
         self.parking.setdefault(name, []).extend(encode(word, Field(name, 2)) for word in words)
         self.ends[name] = self.last
@@ -69,30 +75,27 @@ class Builder:
         if len(self.parking[name]) > 24:
             raise self._miscounted(name)
 
-    def add_season(self, given: dict[str, str]):
-        for name in SEASON_NAMES:
-            if name not in given:
-                raise TextError("season: %s is missing" % name)
-        self.seasons.append(b"".join(encode(given[field.name], field) for field in SEASON_FIELDS))
+    def add_season(self, given: dict[str, str], name: str = "") -> None:
+        for wanted in SEASON_NAMES:
+            if wanted not in given:
+                raise TextError("season: %s is missing" % wanted)
+        self.seasons.append(_season_record(tuple(given.items())))
         self.season_places.append(self.last)
         self.season_words.append(given)
+        self.names.seasons.append(as_name(name))
 
-    def add_row(self, given: dict[str, str]):
-        for name in ("class", "technology"):
-            if name not in given:
-                raise TextError("row: %s is missing" % name)
+    def add_row(self, given: dict[str, str], name: str = "") -> None:
+        for wanted in ("class", "technology"):
+            if wanted not in given:
+                raise TextError("row: %s is missing" % wanted)
         if "mileage" in given and "spare" in given:
             raise TextError("row: mileage and spare are the same bytes, and both are given")
-        record = b"".join(encode(_row_word(field.name, given), field) for field in ROW_FIELDS)
-        if "mileage" in given:
-            record += encode(given["mileage"], MILEAGE)
-        else:
-            record += hexadecimal(given.get("spare", "00000000"), "spare", 4)
-        self.rows.append(record)
+        self.rows.append(_row_record(tuple(given.items())))
         self.row_places.append(self.last)
         self.row_words.append(given)
+        self.names.rows.append(as_name(name))
 
-    def add_single(self, name: str, words: tuple[str, ...]):
+    def add_single(self, name: str, words: tuple[str, ...]) -> None:
         if name in self.single:
             raise TextError("%s is given twice" % name)
         if len(words) != 1:
@@ -115,12 +118,41 @@ class Builder:
     def _miscounted(self, name: str) -> TextError:
         return TextError("%s: 24 counts wanted, %d found" % (name, len(self.parking.get(name, []))))
 
+    def is_multiplied(self) -> bool:
+        """Whether two lists become the grid of their products: more rows or a mileage need it, or the version that was
+        asked for."""
+        if self.has_grid() or "version" in self.single:
+            return False
+        if self.version is not None:
+            return self.version > 1
+        return self.least_version > 1 or len(self.rows) > MOST_ROWS or bool(self._driven())
+
     def _counts(self) -> bytes:
         names = GRID if self.has_grid() else LISTS
         for name in names:
             if len(self.parking.get(name, [])) != 24:
                 raise TextError("%s: %s" % (self.ends.get(name, self.last), self._miscounted(name)))
+        if self.is_multiplied():
+            return self._products()
         return b"".join(b"".join(self.parking[name]) for name in names)
+
+    def _products(self) -> bytes:
+        durations, hours = ([int.from_bytes(count, "little") for count in self.parking[name]] for name in LISTS)
+        for name, counts, what in zip(LISTS, (durations, hours), ("durations", "end hours")):
+            try:
+                check_sum(counts, what)
+            except TextError as error:
+                raise TextError("%s: %s: %s" % (self.ends[name], name, error)) from None
+        try:
+            return products(durations, hours)
+        except TextError as error:
+            raise TextError("%s: %s; write a grid in place of the lists" % (self.ends[LISTS[1]], error)) from None
+
+    def _driven(self) -> list[str]:
+        """The places of rows with a mileage. Beside lists 0 is none; in a grid it tells the version."""
+        rows = zip(self.row_places, self.rows, self.row_words)
+        return [place for place, record, given in rows
+                if "mileage" in given and (self.has_grid() or any(record[20:24]))]
 
     def _head(self) -> bytes:
         """The first 8 bytes."""
@@ -132,14 +164,13 @@ class Builder:
         return head + self._count("rows", self.rows, 1, version) + bytes([self.single.get("zero", 0)])
 
     def _version(self) -> int:
-        has_grid = self.has_grid()
-        driven = [place for place, given in zip(self.row_places, self.row_words) if "mileage" in given]
+        driven, has_grid = self._driven(), self.has_grid() or self.is_multiplied()
+        asked = self.single.get("version", self.version)
         if driven and not has_grid:
-            raise TextError("%s: row: a mileage wants a grid in place of durations and hours" % driven[0])
-        if len(self.rows) > MOST_ROWS and not has_grid and "version" not in self.single:
-            raise TextError("%s: row: more than %d rows want a grid in place of durations and hours" % (
-                self.row_places[MOST_ROWS], MOST_ROWS))
-        version = self.single.get("version", version_for(has_grid, bool(driven), len(self.rows)))
+            raise TextError("%s: row: a mileage wants version 3 or 4, and version %d is asked for" % (
+                driven[0], asked or 1))
+        made = max(self.least_version, version_for(has_grid, bool(driven), len(self.rows)))
+        version = asked if asked is not None else made
         if version == 4 and "zero" in self.single:
             raise TextError("%s: zero: byte 7 of version 4 is one of the count of rows" % self.single_places["zero"])
         return version
@@ -151,6 +182,22 @@ class Builder:
             raise TextError("%s: %d %s do not fit the head of version %d" % (
                 self.single_places.get(name, self.last), value, name, version))
         return value.to_bytes(size, "little")
+
+
+@lru_cache(maxsize=256)
+def _season_record(items: tuple[tuple[str, str], ...]) -> bytes:
+    """The bytes of a season. A form that is checked again has most of its records as they were."""
+    given = dict(items)
+    return b"".join(encode(given[field.name], field) for field in SEASON_FIELDS)
+
+
+@lru_cache(maxsize=4_096)
+def _row_record(items: tuple[tuple[str, str], ...]) -> bytes:
+    given = dict(items)
+    record = b"".join(encode(_row_word(field.name, given), field) for field in ROW_FIELDS)
+    if "mileage" in given:
+        return record + encode(given["mileage"], MILEAGE)
+    return record + hexadecimal(given.get("spare", "00000000"), "spare", 4)
 
 
 def _row_word(name: str, given: dict[str, str]) -> str:

@@ -6,7 +6,7 @@ from decimal import Decimal, InvalidOperation
 from evp.layout import BY_CLASS, CLASSES
 from evp.sheet.builder import Builder
 
-# Fields that are 0 where they are left out; load and saturation where the row has a canister.
+# Fields that are 0 where they are left out; the load where the row has a canister.
 COUNTED = ("carburettor", "hot", "fill", "vehicles", "trips", "minutes")
 PSI = Decimal("6.89476")  # kPa
 HOT_NIGHT, HOT_DAY = 30, 45  # °C; few places have a lowest or a highest temperature above these
@@ -34,23 +34,23 @@ def _places(places: Sequence[str]) -> str:
 def _left_out(builder: Builder) -> Iterator[str]:
     """Fields that are left out of the same rows share a line."""
     names: dict[tuple[str, ...], list[str]] = {}
-    for name in (*COUNTED, "saturation", "load"):
+    for name in (*COUNTED, "load"):  # evp.doubting has m_sat
         rows = zip(builder.row_places, builder.rows, builder.row_words)
         places = tuple(place for place, record, given in rows
-                       if name not in given and (name in COUNTED or _wants(name, record)))
+                       if name not in given and (name in COUNTED or _wants_load(record)))
         names.setdefault(places, []).append(name)
     for places, left_out in names.items():
         if places:
             yield "%s: %s left out, so 0" % (_places(places), ", ".join(left_out))
 
 
-def _wants(name: str, record: bytes) -> bool:
-    """Whether a row should have a load or a saturation: with a canister, and the load where there is no mileage."""
+def _wants_load(record: bytes) -> bool:
+    """Whether a row should have a load: with a canister that can hold one, and without a mileage."""
     canister = record[2]
     if canister == BY_CLASS:
         canisters = CLASSES.get(record[0], ("", 0, ()))[2]
         canister = canisters[record[1]] if record[1] < len(canisters) else 0
-    return canister != 0 and (name == "saturation" or not any(record[20:24]))
+    return canister != 0 and any(record[18:20]) and not any(record[20:24])
 
 
 def _seasons(builder: Builder) -> Iterator[str]:

@@ -10,7 +10,9 @@ from evp.layout import (
     row_place, season_count, season_place, version_of,
 )
 from evp.sheet.builder import Builder
+from evp.sheet.names import NO_NAMES, Names
 from evp.sheet.reader import record_words
+from evp.sheet.spelling import COUNT, respelt, respelt_record
 from evp.sheet.words import TextError
 from evp.tables import NOTE, Line, Table, read_table, table_text
 from evp.wording import name_shown, quoted
@@ -22,6 +24,7 @@ PARKING_COLUMNS = ["duration", "lasting", "end_hour", "ending"]
 DURATIONS = ["%g" % (d / 2) for d in range(1, 25)]  # in hours
 HOURS = [str(t) for t in range(1, 25)]
 GRID_COLUMNS = ["end_hour", *DURATIONS]
+KNOWN = {*SEASON_COLUMNS, *ROW_COLUMNS, *PARKING_COLUMNS, NOTE}
 LISTS = {"durations": ("duration", "lasting", DURATIONS), "hours": ("end_hour", "ending", HOURS)}
 
 
@@ -32,13 +35,19 @@ def take_folder(folder: str | Path) -> Builder:
     """What the tables of a folder give."""
     folder, builder = Path(folder), Builder()
     _take_parking(builder, folder)
-    for number, cells in numbers(_table(folder, SEASONS, SEASON_COLUMNS, SEASON_COLUMNS)):
-        with builder.at(_where(folder, SEASONS, number)):
-            builder.add_season(cells)
-    for number, cells in numbers(_table(folder, FLEET, ROW_COLUMNS, ("class", "technology"))):
-        with builder.at(_where(folder, FLEET, number)):
-            builder.add_row(cells)
+    for line in numbers(_table(folder, SEASONS, SEASON_COLUMNS, SEASON_COLUMNS, column_of)):
+        with builder.at(_where(folder, SEASONS, line.number)):
+            builder.add_season(line.cells, line.note)
+    for line in numbers(_table(folder, FLEET, ROW_COLUMNS, ("class", "technology"), column_of)):
+        with builder.at(_where(folder, FLEET, line.number)):
+            builder.add_row(line.cells, line.note)
     return builder
+
+
+def column_of(word: str) -> str:
+    """The column that a header names, with its unit behind it or not: `lowest (°C)`, `Lowest`; `name` is the note."""
+    plain_name = re.sub(r" *[(\[][^()\[\]]*[)\]]$", "", word).strip().lower().replace(" ", "_")
+    return {"name": NOTE, "m_sat": "saturation"}.get(plain_name, plain_name if plain_name in KNOWN else word)
 
 
 def _where(folder: Path, name: str, number: int) -> str:
@@ -54,11 +63,9 @@ def _table(folder: Path, name: str, columns: list[str], needed: Iterable[str],
 
 
 def numbers(table: Table) -> Iterable[Line]:
-    """The lines with a point as the decimal sign. With ; a point is taken too: no field has three places, so that it
-    cannot be one between thousands."""
-    if table.separator == ",":
-        return table.lines
-    return [line._replace(cells={name: _with_point(word) for name, word in line.cells.items()}) for line in table.lines]
+    """The lines with the words of a sheet (spelling.py). With ; the decimal character is a comma or a point."""
+    comma = table.separator == ";"
+    return [line._replace(cells=respelt_record(line.cells, comma)) for line in table.lines]
 
 
 def _with_point(word: str) -> str:
@@ -76,13 +83,15 @@ def _take_parking(builder: Builder, folder: Path):
 
 
 def _take_grid(builder: Builder, folder: Path):
-    for line in _table(folder, GRID, GRID_COLUMNS, GRID_COLUMNS, plain).lines:
+    table = _table(folder, GRID, GRID_COLUMNS, GRID_COLUMNS, plain)
+    for line in table.lines:
         with builder.at(_where(folder, GRID, line.number)):
             hour = _key(line.cells.get("end_hour", ""), HOURS, "end_hour")
             name = "grid %s" % hour
             if name in builder.parking:
                 raise TextError("end_hour %s is given twice" % hour)
-            builder.add_counts(name, tuple(line.cells.get(duration, "0") for duration in DURATIONS))
+            builder.add_counts(name, tuple(
+                respelt(line.cells.get(duration, "0"), COUNT, table.separator == ";") for duration in DURATIONS))
 
 
 def plain(word: str) -> str:
@@ -108,7 +117,7 @@ def _take_lists(builder: Builder, folder: Path):
                 key = _key(line.cells.get(key_column, ""), keys, key_column)
                 if key in found:
                     raise TextError("%s %s is given twice" % (key_column, key))
-                found[key] = line.cells.get(count_column, "0")
+                found[key] = respelt(line.cells.get(count_column, "0"), COUNT, table.separator == ";")
         with builder.at(name_shown(folder / PARKING)):
             missing = [key for key in keys if key not in found]
             if missing:
@@ -121,9 +130,10 @@ def _take_lists(builder: Builder, folder: Path):
 # ------------------------------------------------------------------ write
 
 
-def folder_of(data: bytes, semicolon: bool = False) -> dict[str, str]:
-    """The tables of a sheet, by the names of their files; TextError where they cannot hold its bytes."""
-    _check_plain(data)
+def folder_of(data: bytes, semicolon: bool = False, names: Names = NO_NAMES) -> dict[str, str]:
+    """The tables of a sheet, by the names of their files, with the names of its records in the column `note` where it
+    has any; TextError where they cannot hold its bytes."""
+    check_plain(data)
     fields = (*ROW_FIELDS, MILEAGE) if has_mileage(data) else ROW_FIELDS
     seasons = [record_words(data, season_place(data, i), SEASON_FIELDS) for i in range(season_count(data))]
     rows = [record_words(data, row_place(data, i), fields) for i in range(row_count(data))]
@@ -131,13 +141,13 @@ def folder_of(data: bytes, semicolon: bool = False) -> dict[str, str]:
         for name in ("canister", "tank"):
             row[name] = "" if row[name] == "class" else row[name]
     return {
-        SEASONS: _table_of(SEASON_COLUMNS, seasons, semicolon),
-        FLEET: _table_of([field.name for field in fields], rows, semicolon),
+        SEASONS: _table_of(SEASON_COLUMNS, seasons, semicolon, names.seasons),
+        FLEET: _table_of([field.name for field in fields], rows, semicolon, names.rows),
         **(_grid_of(data, semicolon) if has_grid(data) else _lists_of(data, semicolon)),
     }
 
 
-def _check_plain(data: bytes):
+def check_plain(data: bytes):
     """That the tables can hold the bytes: only what they tell stands in them."""
     if len(data) < 8 or data[:3] != b"EVP" or version_of(data) not in (1, 2, 3, 4) or len(data) != length_of(data):
         raise TextError("tables hold whole sheets of versions 1 to 4 alone; evp explain says what is wrong here")
@@ -149,9 +159,11 @@ def _check_plain(data: bytes):
                             "evp read without --csv makes a text of it" % (i + 1))
 
 
-def _table_of(columns: list[str], records: Iterable[dict[str, str]], semicolon: bool) -> str:
-    lines = ([_signed(record[name], semicolon) for name in columns] for record in records)
-    return table_text(columns, lines, semicolon)
+def _table_of(columns: list[str], records: Iterable[dict[str, str]], semicolon: bool, names: list[str]) -> str:
+    lines = [[_signed(record[name], semicolon) for name in columns] for record in records]
+    if not any(names):
+        return table_text(columns, lines, semicolon)
+    return table_text([NOTE, *columns], ([name, *line] for name, line in zip(names, lines)), semicolon)
 
 
 def _signed(word: str, semicolon: bool) -> str:
@@ -185,7 +197,7 @@ WORDS = {
     "minutes": "a trip",
     "load": "g; 0 without canister",
     "saturation": "g; m_sat of the canister",
-    "mileage": "km; with grid.csv alone; in place of a load",
+    "mileage": "km; in place of a load",
 }
 
 

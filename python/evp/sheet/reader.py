@@ -1,19 +1,21 @@
 """The text of a sheet's bytes."""
 
 from collections.abc import Iterable, Iterator
+from itertools import zip_longest
 
 from evp.layout import (
     CANISTER_NAMES, GRID_END, LISTS_END, MILEAGE, MOST_ROWS, ROW_FIELDS, SEASON_FIELDS, Field, counts, has_grid,
     has_mileage, length_of, row_count, row_place, season_count, season_place, version_of,
 )
 from evp.sheet.builder import GRID, LISTS, version_for
+from evp.sheet.names import NO_NAMES, Names
 from evp.sheet.words import TextError
 
 MOST_TAIL = GRID_END - LISTS_END  # bytes behind the records that a text tells: what a grid has more than two lists
 
 
-def read(data: bytes) -> str:
-    """The text of a sheet's bytes; write() makes the same bytes of it."""
+def read(data: bytes, names: Names = NO_NAMES) -> str:
+    """The text of a sheet's bytes, with the names of its records as comments; write() makes the same bytes of it."""
     if len(data) < 8:
         raise TextError("%d bytes, too few for a head" % len(data))
     end = length_of(data)
@@ -22,7 +24,8 @@ def read(data: bytes) -> str:
     if len(data) > end + MOST_TAIL:
         raise TextError("%d bytes follow the records its head tells of; evp explain says what is wrong" % (
             len(data) - end))
-    lines = [*_head(data), *_parking(data), *_seasons(data), *_rows(data)]
+    lines = [*_head(data), *_parking(data), *_named_lines(_seasons(data), names.seasons),
+             *_named_lines(_rows(data), names.rows)]
     if data[end:]:
         lines.append("tail %s" % data[end:].hex())
     return "\n".join(lines) + "\n"
@@ -62,6 +65,13 @@ def _rows(data: bytes) -> Iterator[str]:
         spare = data[place + 20:place + 24]
         rest = " spare=%s" % spare.hex() if not has_mileage(data) and any(spare) else ""
         yield "row " + _named(record_words(data, place, fields)) + rest
+
+
+def _named_lines(lines: Iterable[str], names: list[str]) -> Iterator[str]:
+    """The lines of records, each with the name of its record behind it."""
+    for line, name in zip_longest(lines, names, fillvalue=""):
+        if line:
+            yield "%s  # %s" % (line, name) if name else line
 
 
 def _named(words: dict[str, str]) -> str:

@@ -23,6 +23,9 @@ class TextError(Exception):
 
 def _no_number(word: str) -> str:
     """What to write in place of a word that is no number, where that is plain."""
+    two = re.fullmatch(r"[+-]?([0-9]{1,3}),([0-9]{3})", word)
+    if two and two[2] == "000":
+        return "; it can mean %s%s or %s.%s: write the digits alone" % (*two.groups(), *two.groups())
     if re.fullmatch(r"[+-]?[0-9]+,[0-9]{1,2}", word):
         return "; the decimal sign is a point: %s" % word.replace(",", ".")
     if re.fullmatch(r"[0-9]{1,3}([ ,_'\u00a0\u202f][0-9]{3})+", word):

@@ -18,9 +18,10 @@ def take_text(text: str, label: str = "") -> Builder:
     builder = Builder()
     for number, line in enumerate(_lines(text), 1):
         with builder.at("%sline %d" % (label, number)):
-            words = line.partition("#")[0].split()
+            given, _, comment = line.partition("#")
+            words = given.split()
             if words:
-                _take_line(builder, *words)
+                _take_line(builder, comment, *words)
     return builder
 
 
@@ -34,15 +35,16 @@ def _lines(text: str) -> Iterator[str]:
         yield text[place:]
 
 
-def _take_line(builder: Builder, name: str, *words: str):
+def _take_line(builder: Builder, comment: str, name: str, *words: str):
+    """A line; the comment behind a season or a row is its name."""
     if name in LISTS:
         builder.add_counts(name, words)
     elif name == "grid":
         builder.add_counts(_end_hour(words), words[1:])
     elif name == "season":
-        builder.add_season(_fields(words, SEASON_NAMES))
+        builder.add_season(_fields(words, SEASON_NAMES), comment)
     elif name == "row":
-        builder.add_row(_fields(words, ROW_NAMES))
+        builder.add_row(_fields(words, ROW_NAMES), comment)
     elif name in SINGLE:
         builder.add_single(name, words)
     else:

@@ -100,6 +100,8 @@ class BrowserTestCase(unittest.TestCase):
     def setUp(self):
         self.browser = chromium()
         self.look(1280, 900)
+        self.browser.get(desk() + "/health")  # a form that is left keeps its draft
+        self.run_script("localStorage.clear()")
         self.browser.get_log("browser")
 
     def tearDown(self):

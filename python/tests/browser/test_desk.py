@@ -160,12 +160,8 @@ class TestForm(BrowserTestCase):
     def test_dropped_tables_fill_the_form_with_their_mistakes(self):
         self.open("/form")
         self.drop(list((SAMPLES / "afternoon").glob("*.csv")))
-        self.wait(lambda: self.text("#durations-sum") == "982" and self.state() == "unread", "the tables")
-        self.assertIn("Row 1: trips: '4,80' is no number", self.text("#told"))
-        field = self.one("#row-0-trips")
-        field.clear()
-        field.send_keys("4.80")
-        self.wait(lambda: self.state() == "refused", "the next mistake")
+        self.wait(lambda: self.text("#durations-sum") == "982" and self.state() == "refused", "the tables")
+        self.assertEqual(self.one("#row-0-trips").get_attribute("value"), "4,80")  # which can mean one thing here
         self.assertIn("Row 2: load 70.0 g is above m_sat 60.0 g; write at most 60.0", self.text("#told"))
 
     def test_the_guidebooks_tables_by_one_click(self):

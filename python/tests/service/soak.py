@@ -233,7 +233,7 @@ class Uploader(Worker):
             files.append(("files", "filed.csv", (SAMPLES / "course" / "filed.csv").read_bytes()))
         headers, body = wire.multipart(files)
         answer = self.ask("upload", "POST", path, body, headers)
-        self.want(answer, 200, *((400,) if path == "/form" else ()))  # no form holds a sheet that is cut short
+        self.want(answer, 303, *((400,) if path == "/form" else ()))  # no form holds a sheet that is cut short
         time.sleep(0.3)
 
     def some(self, many: int) -> list[tuple[str, str, bytes]]:
