@@ -13,21 +13,21 @@ from evp import marking, show
 from evp.cells import cells_csv, cells_of, read_travel
 from evp.convert import converted
 from evp.explain import Explanation, call_text, explain, looks_like
-from evp.files import (
-    FileError, InputError, check_target, make_folder, read_sheet, read_text, same_file, write_file,
-)
+from evp.files import InputError, check_target, make_folder, read_sheet, read_text, same_file, write_file
 from evp.hints import with_hints
+from evp.intake import ClassFiles, read_class, readings_csv
 from evp.library import SHEET_BYTES, Library, Refusal, Report
 from evp.making import make_library
-from evp.marking import FiledTable, Mark, Marked
+from evp.marking import Mark
 from evp.pages.needs import require
 from evp.sheet import Builder, TextError, doubts, folder_of, read, take_folder, take_text, templates
 from evp.sheet.folders import TABLES
 from evp.sheet.reader import told_version
-from evp.wording import apart, counted, name_shown
+from evp.wording import apart, counted, name_shown, printable, shortened
 
 MOST_LINES = 20  # of messages that any input can make
 MOST_HINTS = 12  # of these
+MOST_REMARKS = 6  # on how tables were read
 FINE, REFUSED = 0, 1
 
 
@@ -247,23 +247,20 @@ class Progress:
 
 def mark(given: Namespace) -> int:
     _check_outputs(given)
-    library, filed = get_library(), marking.read_filed(given.filed)
-    if not os.path.isdir(given.folder):
-        raise InputError("%s: a folder with sheets is wanted" % name_shown(given.folder))
-    sheets = marking.read_sheets(library, given.folder, Progress())
-    marks = marking.marks_of(library, sheets, filed.filings)
+    library = get_library()
+    given_class = read_class(library, given.folder, given.filed, Progress())
+    sheets, filings = given_class.sheets, given_class.taken.filings
+    marks = marking.marks_of(library, sheets, filings)
     summary, remarks = marking.summary(marks, len(sheets)), []
     if given.hints:
-        marks, remarks = with_hints(library, sheets, filed.filings, marks, Progress())
-    _save_marks(given, sheets, filed, marks)
+        marks, remarks = with_hints(library, sheets, filings, marks, Progress())
+    _save_marks(given, given_class, marks)
     if given.json:
         print_json([line._asdict() for line in marks])
     elif given.output != "-":
-        say([*_on_one_screen(summary, remarks), *_files_made(given, marks)])
-    unread = [str(FileError(os.path.join(given.folder, name), sheet.unread)) for name, sheet in sheets.items()
-              if sheet.unread]
-    if unread:
-        raise InputError("\n".join(unread))
+        say([*_on_one_screen(summary, [*remarks, *_read_lines(given_class, given)]), *_files_made(given, marks)])
+    if given_class.unread or given_class.taken.unread:
+        raise InputError("\n".join([*given_class.unread, *given_class.taken.unread]))
     return FINE if all(line.verdict in marking.FINE for line in marks) else REFUSED
 
 
@@ -273,32 +270,50 @@ def _check_outputs(given: Namespace):
         raise InputError("two of -o, --json and --page would share standard output")
     if given.page:
         require("jinja2")
-    if given.output and given.page and same_file(given.output, given.page):
-        raise InputError("-o and --page name one file")
-    for target in filter(None, (given.output, given.page)):
-        check_target(target, given.force, [given.filed])
+    targets = [target for target in (given.output, given.page, given.readings) if target]
+    for i, target in enumerate(targets):
+        if any(same_file(target, other) for other in targets[:i]):
+            raise InputError("two of -o, --page and --readings name one file")
+        check_target(target, given.force, given.filed)
 
 
-def _save_marks(given: Namespace, sheets: dict[str, Marked], filed: FiledTable, marks: list[Mark]):
-    """marks.csv, and the page of the class."""
-    sources = given.filed, *(os.path.join(given.folder, name) for name in sheets)
+def _save_marks(given: Namespace, of_class: ClassFiles, marks: list[Mark]):
+    """marks.csv, readings.csv, and the page of the class."""
+    semicolon = of_class.taken.semicolon
     if given.output:
-        text = marking.marks_csv(marks, filed.semicolon)
-        write_file(given.output, text.encode("utf-8", "surrogateescape"), given.force, sources)  # names as the folder's
+        text = marking.marks_csv(marks, semicolon)
+        write_file(given.output, text.encode("utf-8", "surrogateescape"), given.force, of_class.sources)
+    if given.readings:
+        text = readings_csv(of_class.taken.readings, semicolon)
+        write_file(given.readings, text.encode("utf-8", "surrogateescape"), given.force, of_class.sources)
     if given.page:
         from evp.pages.classes import page_class
-        html = page_class(sheets, filed.filings, marks, hints=given.hints)
-        write_file(given.page, html.encode(), given.force, sources)
+        html = page_class(of_class.sheets, of_class.taken.filings, marks, hints=given.hints, taken=of_class.taken)
+        write_file(given.page, html.encode(), given.force, of_class.sources)
+
+
+def _read_lines(of_class: ClassFiles, given: Namespace) -> Iterator[str]:
+    """What was said once of the tables, and how many figures were read that were not plain."""
+    taken = of_class.taken
+    yield from ("  note: %s" % remark for remark in limited(taken.remarks, "such notes", MOST_REMARKS))
+    if taken.readings:
+        first = taken.readings[0]
+        yield "  read: %s not plain; first %s, %s: %s is %s%s" % (
+            counted(len(taken.readings), "figure"), first.file, printable(first.place),
+            printable(shortened(first.filed, 60)), printable(first.read),
+            "" if given.readings else "; --readings FILE has all")
 
 
 def _on_one_screen(summary: Iterable[str], remarks: list[str]) -> list[str]:
-    hints = limited(remarks, "such lines; the notes of the marks have all", MOST_HINTS)
+    hints = limited(remarks, "such lines; -o and --readings have all", MOST_HINTS)
     return [*limited(summary, "sheets to look at", MOST_LINES - len(hints)), *hints]
 
 
 def _files_made(given: Namespace, marks: list[Mark]) -> Iterator[str]:
     yield "%s: %s" % (name_shown(given.output), counted(len(marks), "line")) if given.output else (
         "-o FILE keeps the marks of all figures")
+    if given.readings:
+        yield "%s: what was read, beside the original" % name_shown(given.readings)
     if given.page:
         yield "%s: the page of the class" % name_shown(given.page)
 

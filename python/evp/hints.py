@@ -53,10 +53,11 @@ def with_hints(library: Library, sheets: dict[str, Marked], filings: list[Filing
     """The marks with a guess in the note of each wrong figure, and what to say of the guesses."""
     filed: dict[str, dict[Figure, Filing]] = {}
     for filing in filings:
-        filed.setdefault(filing.sheet, {})[filing.figure] = filing
+        if filing.filed is not None and not filing.tens:
+            filed.setdefault(filing.sheet, {})[filing.figure] = filing
     wrong: dict[str, list[int]] = {}
     for i, mark in enumerate(marks):
-        if mark.verdict in WRONG:
+        if mark.verdict in WRONG and not filings[i].tens:
             wrong.setdefault(mark.sheet, []).append(i)
     guessers = {name: Guesser(library, sheets[name], filed[name], [filings[i] for i in places])
                 for name, places in wrong.items()}
