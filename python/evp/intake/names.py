@@ -191,6 +191,8 @@ class Sheets:
             return name
         key = name, folder
         if key not in self._found:
+            if len(self._found) > 5_000:
+                self._found.clear()
             self._found[key] = self._find(name, folder)
         return self._found[key]
 

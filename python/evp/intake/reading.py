@@ -4,9 +4,8 @@ else is marked; what was not plain is kept as a reading beside the original."""
 import re
 from collections.abc import Callable, Iterable, Iterator
 from dataclasses import dataclass, field
-from functools import partial
 from itertools import islice
-from typing import NamedTuple
+from typing import NamedTuple, cast
 
 from evp.figures import TOTAL, Figure
 from evp.files import InputError
@@ -19,11 +18,11 @@ from evp.intake.names import SUM, Sheets
 from evp.intake.numbers import TWO_THINGS, NotRead, Number
 from evp.intake.separators import Line, is_show, records, separator_of, show_records
 from evp.intake.workbook import kind_of, tabs
-from evp.library import Filed, Unit
+from evp.library import GROUPS, MECHANISMS, Filed, Unit
 from evp.marking import MOST_WORD, Filing
 from evp.wording import counted, name_shown, quoted, shortened
 
-MOST_UNREAD = 10_000  # lines of a table that are told one by one; the others are counted
+MOST_UNREAD = 5_000  # lines of a table that are told one by one; of the others only plain ones are read
 MOST_READINGS = 100_000
 SHOWN = 60  # characters of a cell in a message
 _PLAIN = re.compile(r"[0-9]+(?:\.[0-9]+)?")
@@ -67,6 +66,7 @@ class _Table(NamedTuple):
     separator: str
     faults: dict[tuple[int, int], str]
     remarks: list[str]
+    numbers: set[tuple[int, int]] = set()
 
     @property
     def label(self) -> str:
@@ -126,7 +126,7 @@ def _tables(file: File) -> Iterator[_Table]:
             if tab.hidden and tab.lines:
                 yield _Table(file, tab.name, lambda: iter(()), "", {}, [])
             elif tab.lines:
-                yield _Table(file, tab.name, partial(iter, tab.lines), "", tab.faults, tab.notes)
+                yield _Table(file, tab.name, tab.lines.__iter__, "", tab.faults, tab.notes, tab.numbers)
         return
     text, encoding = decode(file.data)
     remarks = ["read as %s" % encoding] if encoding else []
@@ -148,18 +148,18 @@ class _Settled(NamedTuple):
     unit: str
 
 
-def _settle(lines: Iterable[Line], layout: Layout) -> _Settled:
+def _settle(lines: Iterable[Line], layout: Layout, are_numbers: set[tuple[int, int]]) -> _Settled:
     found: dict[str, set[str]] = {}
     masses, sheet_at, unit_at = layout.masses, layout.place(SHEET), layout.place(UNIT)
     found_units: set[str] = set()
     for number, cells in lines:
-        if number <= layout.header:
-            continue
         width = len(cells)
+        if number <= layout.header or width == 1:
+            continue
         if unit_at is not None and unit_at < width and cells[unit_at] and len(found_units) < 3:
             found_units.add(cells[unit_at])
         for at in masses:
-            if at < width and ("." in cells[at] or "," in cells[at]):
+            if at < width and ("." in cells[at] or "," in cells[at]) and (number, at + 1) not in are_numbers:
                 sign = numbers.evidence(cells[at])
                 if sign:
                     key = cells[sheet_at] if sheet_at is not None and sheet_at < width else ""
@@ -175,12 +175,15 @@ class _Reader:
 
     def __init__(self, taken: Taken, table: _Table, layout: Layout, sheets: Sheets, most: int | None):
         self.taken, self.table, self.layout, self.sheets, self.most = taken, table, layout, sheets, most
-        self.settled = _settle(table.lines(), layout)
+        self.settled = _settle(table.lines(), layout, table.numbers)
         self.conventional = "," if table.separator == ";" else "."
         file = table.file
         self.default = sheets.of_file(table.tab, file.name, *reversed(file.folder.split("/"))) or (
             next(iter(sheets.names)) if len(sheets.names) == 1 else "")
         self.last_sheet = self.last_row = self.own_point = ""
+        self.label, self.least = table.label, 0
+        self.figures: dict[tuple[str, str], Figure] = {}
+        self.fast: tuple[int, int, int, int, int] | None = None
         self.unread = self.passed = self.read_lines = 0
         self._places()
 
@@ -188,6 +191,14 @@ class _Reader:
         place = self.layout.place
         self.sheet_at, self.row_at, self.mechanism_at = place(SHEET), place(ROW), place(MECHANISM)
         self.unit_at, self.figure_at, self.masses = place(UNIT), place(FIGURE), self.layout.masses
+        found = self.sheet_at, self.row_at, self.mechanism_at, self.masses[0], self.unit_at
+        column, self.fast = self.layout.columns[self.masses[0]], None
+        if len(self.masses) == 1 and None not in found and not (
+                column.row or column.mechanism or column.unit) and not self.table.faults:
+            self.fast = cast(tuple[int, int, int, int, int], found)
+            self.least = max(self.fast) + 1
+        self.points = self.settled.decimal == "." or not self.settled.decimal and self.conventional == "." and (
+            not self.settled.by_sheet)
 
     def read(self) -> None:
         self._check_sheet()
@@ -200,8 +211,11 @@ class _Reader:
                 self.read_lines += 1
                 self._line(number, cells)
         if self.unread > MOST_UNREAD:
-            self._problem(self.default or self.table.file.name, Figure("", ""), "", "", "%s: %s more cannot be read" % (
-                self.table.label, counted(self.unread - MOST_UNREAD, "line")))
+            many = counted(self.unread - MOST_UNREAD, "line")
+            self.taken.filings.append(Filing(
+                self.default or self.table.file.name, Figure("", ""), "", "", None,
+                "%s: %s more cannot be read" % (self.label, many)))
+            self.taken.unread.append("%s: %s cannot be read" % (self.label, counted(self.unread, "line")))
         if self.passed:
             self._remark("%s without a figure passed over" % counted(self.passed, "line"))
 
@@ -244,7 +258,33 @@ class _Reader:
 
     # -------------------------------------------------------------- lines
 
+    def _plain_line(self, number: int, cells: list[str]) -> bool:
+        """Reads a line of a long table that is plain in all its cells; most are."""
+        if self.fast is None or len(cells) < self.least:
+            return False
+        sheet_at, row_at, mechanism_at, mass_at, unit_at = self.fast
+        sheet, mass, unit = cells[sheet_at], cells[mass_at], units.PLAIN.get(cells[unit_at])
+        if sheet not in self.sheets.names or unit is None or not self.points or not _PLAIN.fullmatch(mass):
+            return False
+        key = cells[row_at], cells[mechanism_at]
+        figure = self.figures.get(key) or _plain_figure(*key)
+        if figure is None:
+            return False
+        self.figures[key] = figure
+        self.last_sheet, self.last_row = sheet, key[0]
+        whole, _, places = mass.partition(".")
+        digits = (whole + places).lstrip("0")
+        value = int(digits or "0") if len(digits) <= 19 else MOST_WORD
+        self.taken.filings.append(Filing(sheet, figure, mass, cells[unit_at], Filed(
+            min(value, MOST_WORD), len(places), _UNIT_BY_POWER[unit]), "", 0, "%s, line %d" % (self.label, number)))
+        return True
+
     def _line(self, number: int, cells: list[str]) -> None:
+        if len(cells) > 1 and self._plain_line(number, cells):
+            return
+        if self.unread + self.passed > MOST_UNREAD:
+            self.unread += 1
+            return
         self.own_point = ""
         if len(cells) == 1 or ";" in cells[0] and self.table.separator == ",":
             cells, self.own_point = _split_again(cells, self.table.separator, len(self.layout.columns))
@@ -390,7 +430,8 @@ class _Reader:
             fault = self.table.faults.get((number, at + 1), "")
             if fault:
                 raise NotRead(fault)
-            parsed = self._number(text, cells)
+            is_number = (number, at + 1) in self.table.numbers
+            parsed = numbers.read(text, ".") if is_number else self._number(text, cells)
             unit, unit_text, why = self._unit(parsed, unit_text, self.layout.columns[at])
         except NotRead as error:
             return self._problem(sheet, figure, text, unit_text, "%s (%s)" % (
@@ -479,8 +520,16 @@ class _Reader:
 
     def _problem(self, sheet: str, figure: Figure, mass: str, unit: str, problem: str) -> None:
         self.unread += 1
-        if self.unread <= MOST_UNREAD or not figure.row:
+        if self.unread <= MOST_UNREAD:
             self.taken.filings.append(Filing(sheet, figure, mass, unit, None, problem))
+
+
+def _plain_figure(row: str, mechanism: str) -> Figure | None:
+    """A figure whose row and mechanism are plain; None where they are not."""
+    if mechanism in MECHANISMS:
+        number = row.isascii() and row.isdigit() and row[0] != "0" and len(row) < 19
+        return Figure(row, mechanism) if number or row in GROUPS else None
+    return Figure(TOTAL, "") if row == TOTAL and not mechanism else None
 
 
 def _split_again(cells: list[str], separator: str, width: int) -> tuple[list[str], str]:

@@ -55,14 +55,14 @@ def records(text: str, separator: str) -> Iterator[Line]:
 def _plain(text: str, separator: str) -> Iterator[Line]:
     if "\r" in text:
         text = text.replace("\r\n", "\n").replace("\r", "\n")
-    at, number = 0, 0
+    at, number, spaced = 0, 0, re.search(r"[^\S\n%s]" % re.escape(separator), text) is not None
     while at < len(text):  # no list of all lines: a text of bad lines alone would take a lot of memory
         end = text.find("\n", at)
         end = len(text) if end < 0 else end
         number += 1
         if end > at:
             cells = text[at:end].split(separator)
-            yield number, [cell.strip() for cell in cells]
+            yield number, [cell.strip() for cell in cells] if spaced else cells
         at = end + 1
 
 

@@ -26,12 +26,14 @@ MOST_TABS = 100
 
 
 class Tab(NamedTuple):
-    """A table of a workbook: its name, whether it is hidden, its lines, and cells that are no values, with reasons."""
+    """A table of a workbook: its name, whether it is hidden, its lines, cells that are no values, with reasons, what to
+    say of it, and which cells are numbers, which have a decimal point here whatever their sheet shows."""
     name: str
     hidden: bool
     lines: list[tuple[int, list[str]]]
     faults: dict[tuple[int, int], str]  # by line and column, both from 1
     notes: list[str]
+    numbers: set[tuple[int, int]]
 
 
 def kind_of(data: bytes) -> str:
@@ -107,8 +109,8 @@ def _find_formulas(data: bytes, tabs_found: list[Tab]) -> None:
     for sheet, tab in zip(book.worksheets, tabs_found):
         sheet.reset_dimensions()
         lines = dict(tab.lines)
-        for number, row in enumerate(sheet.iter_rows(max_col=MOST_COLUMNS, values_only=True), 1):
-            for column, value in enumerate(row, 1):
+        for number, row in enumerate(sheet.iter_rows(values_only=True), 1):
+            for column, value in enumerate(row[:MOST_COLUMNS], 1):
                 if isinstance(value, str) and value.startswith("=") and number in lines and (
                         column > len(lines[number]) or not lines[number][column - 1]):
                     lines[number].extend([""] * (column - len(lines[number])))
@@ -119,10 +121,10 @@ def _find_formulas(data: bytes, tabs_found: list[Tab]) -> None:
 
 
 def _xlsx_tab(sheet: Any, hidden: bool) -> Tab:
-    tab, many = Tab(sheet.title, hidden, [], {}, []), 0
-    for number, row in enumerate(sheet.iter_rows(max_col=MOST_COLUMNS), 1):
+    tab, many = Tab(sheet.title, hidden, [], {}, [], set()), 0
+    for number, row in enumerate(sheet.iter_rows(), 1):
         cells = []
-        for column, cell in enumerate(row, 1):
+        for column, cell in enumerate(row[:MOST_COLUMNS], 1):
             value = cell.value
             text, fault = ("", "") if value is None else (value.strip(), "") if isinstance(value, str) else _value(
                 value, cell.number_format or "General")
@@ -130,6 +132,8 @@ def _xlsx_tab(sheet: Any, hidden: bool) -> Tab:
                 fault = "not a mass: %s, an error of the spreadsheet" % value
             if fault:
                 tab.faults[number, column] = fault
+            if isinstance(value, (int, float)):
+                tab.numbers.add((number, column))
             cells.append(text)
         many += len(cells)
         if many > MOST_CELLS:
@@ -205,12 +209,14 @@ def _ods(data: bytes) -> list[Tab]:
 
 def _ods_tab(table: Any) -> Tab:
     from odf.table import TableRow
-    tab, number, many = Tab(str(table.getAttribute("name")), False, [], {}, []), 0, 0
+    tab, number, many = Tab(str(table.getAttribute("name")), False, [], {}, [], set()), 0, 0
     for row in table.getElementsByType(TableRow):
         cells = []
-        for column, (text, fault) in enumerate(_ods_cells(row), 1):
+        for column, (text, fault, is_number) in enumerate(_ods_cells(row), 1):
             if fault:
                 tab.faults[number + 1, column] = fault
+            if is_number:
+                tab.numbers.add((number + 1, column))
             cells.append(text)
         repeated = int(row.getAttribute("numberrowsrepeated") or 1)
         while cells and not cells[-1]:
@@ -225,7 +231,7 @@ def _ods_tab(table: Any) -> Tab:
     return tab
 
 
-def _ods_cells(row: Any) -> Iterator[tuple[str, str]]:
+def _ods_cells(row: Any) -> Iterator[tuple[str, str, bool]]:
     count = 0
     for cell in row.childNodes:
         if not cell.qname[1] in ("table-cell", "covered-table-cell"):
@@ -233,7 +239,7 @@ def _ods_cells(row: Any) -> Iterator[tuple[str, str]]:
         found = _ods_cell(cell)
         for _ in range(min(int(cell.getAttribute("numbercolumnsrepeated") or 1), MOST_COLUMNS - count)):
             count += 1
-            yield found
+            yield *found, cell.getAttribute("valuetype") == "float"
 
 
 def _ods_cell(cell: Any) -> tuple[str, str]:
