@@ -132,8 +132,11 @@ def _add_report_commands(add):
     mark.add_argument("-o", dest="output", metavar="FILE",
                       help="csv: the same columns, then verdict,low_mg,high_mg,off_mg,note,sha256")
     mark.add_argument("--readings", metavar="FILE", help="csv: what was read of cells that were not plain")
+    mark.add_argument("--letters", metavar="FOLDER", help="a letter for each participant, a page to print on A4")
+    mark.add_argument("--before", metavar="FILE", help="marks.csv of an earlier submission, or its folder, for letters")
+    mark.add_argument("--class-table", metavar="FILE", help="a line for each participant, .csv or .xlsx")
     mark.add_argument("--page", metavar="FILE", help="a page of the class for a browser, as evp page class makes it")
-    mark.add_argument("--hints", action="store_true", help="guess at the reason of a wrong figure")
+    mark.add_argument("--hints", action="store_true", help="guess longer at the reason of a wrong figure, misreadings too")
     compare = _add(add, "compare", commands.compare,
                    "says which masses of two sheets differ for certain, and which way",
                    "evp compare summer.evp derogation.evp", "json")

@@ -6,16 +6,18 @@ import os
 import sys
 import time
 from argparse import Namespace
-from collections.abc import Iterable, Iterator
+from collections.abc import Callable, Iterable, Iterator
+from typing import NamedTuple
 
+from evp import diagnosis, letters, marking, show
 from evp import library as calls
-from evp import marking, show
 from evp.cells import cells_csv, cells_of, read_travel
 from evp.convert import converted
 from evp.explain import Explanation, call_text, explain, looks_like
 from evp.files import InputError, check_target, make_folder, read_sheet, read_text, same_file, write_file
-from evp.hints import with_hints
-from evp.intake import ClassFiles, read_class, readings_csv
+from evp.hints import plainly_explained, with_hints
+from evp.intake import ClassFiles, checks, read_class, readings_csv
+from evp.intake.checks import Finding
 from evp.library import SHEET_BYTES, Library, Refusal, Report
 from evp.making import make_library
 from evp.marking import Mark
@@ -234,68 +236,111 @@ def _later_version(library: Library, name: str, data: bytes, version: int) -> tu
 class Progress:
     """A bar on standard error where it takes longer than a second, on a terminal alone."""
 
-    def __init__(self):
-        self.start, self.drawn = time.monotonic(), False
+    def __init__(self, what: str = "sheets"):
+        self.start, self.drawn, self.what = time.monotonic(), False, what
 
     def __call__(self, done: int, many: int):
         if not sys.stderr.isatty() or not self.drawn and time.monotonic() - self.start < 1:
             return
         self.drawn = True
         bar = ("#" * (40 * done // many)).ljust(40, ".")
-        print("\r%s %d of %d sheets" % (bar, done, many), end="\n" if done == many else "", file=sys.stderr, flush=True)
+        print("\r%s %d of %d %s" % (bar, done, many, self.what), end="\n" if done == many else "", file=sys.stderr, flush=True)
 
 
 def mark(given: Namespace) -> int:
     _check_outputs(given)
     library = get_library()
-    given_class = read_class(library, given.folder, given.filed, Progress())
-    sheets, filings = given_class.sheets, given_class.taken.filings
-    marks = marking.marks_of(library, sheets, filings)
-    summary, remarks = marking.summary(marks, len(sheets)), []
-    if given.hints:
-        marks, remarks = with_hints(library, sheets, filings, marks, Progress())
-    _save_marks(given, given_class, marks)
+    of_class = read_class(library, given.folder, given.filed, Progress())
+    result = marked_class(library, of_class, given.hints, Progress)
+    people = letters.participants(of_class, result.marks, result.findings, result.diagnoses,
+                                  letters.read_before(given.before) if given.before else {})
+    _save_marks(given, of_class, result, people)
     if given.json:
-        print_json([line._asdict() for line in marks])
+        print_json([line._asdict() for line in result.marks])
     elif given.output != "-":
-        say([*_on_one_screen(summary, [*remarks, *_read_lines(given_class, given)]), *_files_made(given, marks)])
-    if given_class.unread or given_class.taken.unread:
-        raise InputError("\n".join([*given_class.unread, *given_class.taken.unread]))
-    return FINE if all(line.verdict in marking.FINE for line in marks) else REFUSED
+        summary = marking.summary(result.marks, len(of_class.sheets))
+        remarks = [*result.remarks, *_read_lines(of_class, given)]
+        say([*_on_one_screen(summary, remarks), *_files_made(given, result.marks)])
+    if of_class.unread or of_class.taken.unread:
+        raise InputError("\n".join([*of_class.unread, *of_class.taken.unread]))
+    return FINE if all(line.verdict in marking.FINE for line in result.marks) else REFUSED
+
+
+class Result(NamedTuple):
+    """The marks of a class, what does not fit in a filing, the changes of inputs that fit, and lines that say so."""
+    marks: list[Mark]
+    findings: dict[str, list[Finding]]
+    diagnoses: dict[str, diagnosis.Diagnosis]
+    remarks: list[str]
+
+
+def marked_class(library: Library, of_class: ClassFiles, hints: bool,
+                 progress: Callable[[str], Callable[[int, int], None]]) -> Result:
+    """Marks a class, compares each filing with itself, and looks for the one changed input where nothing simpler
+    explains the figures; with `hints` for longer, and for misreadings of the guidebook too."""
+    sheets, filings = of_class.sheets, of_class.taken.filings
+    marks = marking.marks_of(library, sheets, filings)
+    findings = checks.against_themselves(library, sheets, filings, marks)
+    remarks = ["  against itself: %s" % line for line in checks.lines(findings)]
+    explained = {name for name, found in findings.items() if any("digits" in finding.text for finding in found)}
+    explained |= plainly_explained(library, sheets, filings, marks)
+    if hints:
+        marks, guesses = with_hints(library, sheets, filings, marks, progress("sheets guessed at"))
+        explained |= {name for name in sheets if all(
+            "; guess: " in mark.note for mark in marks if mark.sheet == name and mark.verdict in ("low", "high"))}
+        remarks += guesses
+    diagnoses = diagnosis.diagnose_all(library, sheets, filings, marks, hints, progress("sheets tried"), explained)
+    remarks += ["  by inputs: %s" % line for line in diagnosis.lines(diagnoses, hints)]
+    return Result(marks, findings, diagnoses, remarks)
 
 
 def _check_outputs(given: Namespace):
-    """Before the work: that what is asked for can be told apart, and that a page can be made."""
+    """Before the work: that what is asked for can be told apart, and that it can be made."""
     if given.json and given.output == "-" or given.page == "-" and (given.json or given.output == "-"):
         raise InputError("two of -o, --json and --page would share standard output")
-    if given.page:
+    if given.page or given.letters:
         require("jinja2")
-    targets = [target for target in (given.output, given.page, given.readings) if target]
+    if given.class_table and given.class_table.lower().endswith(".xlsx"):
+        require("openpyxl")
+    targets = [target for target in (given.output, given.page, given.readings, given.class_table) if target]
     for i, target in enumerate(targets):
         if any(same_file(target, other) for other in targets[:i]):
-            raise InputError("two of -o, --page and --readings name one file")
-        check_target(target, given.force, given.filed)
+            raise InputError("two of -o, --page, --readings and --class-table name one file")
+        check_target(target, given.force, [*given.filed, *filter(None, [given.before])])
 
 
-def _save_marks(given: Namespace, of_class: ClassFiles, marks: list[Mark]):
-    """marks.csv, readings.csv, and the page of the class."""
-    semicolon = of_class.taken.semicolon
-    if given.output:
-        text = marking.marks_csv(marks, semicolon)
-        write_file(given.output, text.encode("utf-8", "surrogateescape"), given.force, of_class.sources)
-    if given.readings:
-        text = readings_csv(of_class.taken.readings, semicolon)
-        write_file(given.readings, text.encode("utf-8", "surrogateescape"), given.force, of_class.sources)
+def _save_marks(given: Namespace, of_class: ClassFiles, result: Result, people: list[letters.Participant]):
+    """marks.csv, readings.csv, the page and the table of the class, and the letters."""
+    semicolon, sources = of_class.taken.semicolon, [*of_class.sources, *filter(None, [given.before])]
+
+    def save(name: str | os.PathLike | None, made: Callable[[], str | bytes]):
+        if name:
+            data = made()
+            write_file(name, data if isinstance(data, bytes) else data.encode("utf-8", "surrogateescape"), given.force,
+                       sources)
+
+    save(given.output, lambda: marking.marks_csv(result.marks, semicolon))
+    save(given.readings, lambda: readings_csv(of_class.taken.readings, semicolon))
+    workbook = given.class_table and given.class_table.lower().endswith(".xlsx")
+    save(given.class_table, lambda: letters.class_xlsx(people, result.marks) if workbook else (
+        letters.class_csv(people, semicolon)))
     if given.page:
         from evp.pages.classes import page_class
-        html = page_class(of_class.sheets, of_class.taken.filings, marks, hints=given.hints, taken=of_class.taken)
-        write_file(given.page, html.encode(), given.force, of_class.sources)
+        save(given.page, lambda: page_class(of_class.sheets, of_class.taken.filings, result.marks, hints=given.hints,
+                                            taken=of_class.taken, remarks=result.remarks))
+    if given.letters:
+        from evp.pages.letters import page_letter
+        named, folder = letters.letter_names(people), make_folder(given.letters)
+        for name in named:  # all of them before the first is written
+            check_target(folder / name, given.force, sources)
+        for name, one in named.items():
+            save(folder / name, lambda one=one: page_letter(one))
 
 
 def _read_lines(of_class: ClassFiles, given: Namespace) -> Iterator[str]:
     """What was said once of the tables, and how many figures were read that were not plain."""
     taken = of_class.taken
-    yield from ("  note: %s" % remark for remark in limited(taken.remarks, "such notes", MOST_REMARKS))
+    yield from ("  note: %s" % printable(remark) for remark in limited(taken.remarks, "such notes", MOST_REMARKS))
     if taken.readings:
         first = taken.readings[0]
         yield "  read: %s not plain; first %s, %s: %s is %s%s" % (
@@ -314,6 +359,10 @@ def _files_made(given: Namespace, marks: list[Mark]) -> Iterator[str]:
         "-o FILE keeps the marks of all figures")
     if given.readings:
         yield "%s: what was read, beside the original" % name_shown(given.readings)
+    if given.class_table:
+        yield "%s: the class, a line for each participant" % name_shown(given.class_table)
+    if given.letters:
+        yield "%s: a letter for each participant" % name_shown(given.letters)
     if given.page:
         yield "%s: the page of the class" % name_shown(given.page)
 

@@ -70,6 +70,19 @@ def with_hints(library: Library, sheets: dict[str, Marked], filings: list[Filing
     return hinted, _remarks(guessers)
 
 
+def plainly_explained(library: Library, sheets: dict[str, Marked], filings: list[Filing], marks: list[Mark]) -> set[str]:
+    """The sheets whose wrong figures are all explained by a unit, by rounding, or by an exchange."""
+    filed: dict[str, dict[Figure, Filing]] = {}
+    wrong: dict[str, list[Filing]] = {}
+    for filing, mark in zip(filings, marks):
+        if filing.filed is not None and not filing.tens:
+            filed.setdefault(filing.sheet, {})[filing.figure] = filing
+            if mark.verdict in WRONG:
+                wrong.setdefault(filing.sheet, []).append(filing)
+    return {name for name, found in wrong.items()
+            if not Guesser(library, sheets[name], filed[name], found).left()}
+
+
 def try_misreadings(guessers: list["Guesser"], progress: Callable[[int, int], None]):
     """Tries the misreadings on the figures without a guess. Reckoning a row takes some milliseconds for each season, so
     the sheets share what TRIES allows; what is left goes to those that a misreading has begun to explain."""

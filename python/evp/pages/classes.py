@@ -248,7 +248,7 @@ def _legend(counts: Counter) -> list[dict]:
 
 def page_class(sheets: dict[str, Marked], filings: list[Filing], marks: list[Mark], served: bool = False,
                pages: dict[str, str] | None = None, packed: dict[str, dict] | None = None, hints: bool = False,
-               marks_csv: str = "", taken: Taken | None = None) -> str:
+               marks_csv: str = "", taken: Taken | None = None, remarks: Iterable[str] = ()) -> str:
     """The marks of a class. `pages` has the page of a sheet by its file, `packed` what a served page sends for it."""
     counts = Counter(mark.verdict for mark in marks)
     filed = {filing.figure for filing in filings}
@@ -263,6 +263,7 @@ def page_class(sheets: dict[str, Marked], filings: list[Filing], marks: list[Mar
         counts=counts, legend=_legend(counts), across=across, heads=[head for head in heads if head[1]],
         with_total=Figure(TOTAL, "") in filed, with_rows=any(figure.row.isdigit() for figure in filed),
         pages=pages or {}, packed=packed or {}, hints=hints, remarks=taken.remarks[:MOST_REMARKS] if taken else [],
+        shows=[remark.strip() for remark in remarks][:MOST_REMARKS],
         readings=taken.readings[:MOST_READINGS] if taken else [],
         more_readings=max(len(taken.readings) - MOST_READINGS, 0) if taken else 0,
         marks=b64encode(marks_csv.encode("utf-8", "replace")).decode())

@@ -11,7 +11,6 @@ from evp import commands, marking
 from evp.cells import read_travel
 from evp.explain import explain
 from evp.files import InputError, check_target, make_folder, read_sheet, write_file
-from evp.hints import with_hints
 from evp.intake import filed_for, read_class
 from evp.library import Library, Refusal
 from evp.pages.needs import require
@@ -122,11 +121,11 @@ def page_class(given: Namespace) -> Made:
     library = commands.get_library()
     found = read_class(library, given.folder, given.filed, commands.Progress())
     sheets, filings = found.sheets, found.taken.filings
-    marks = marking.marks_of(library, sheets, filings)
-    if given.hints:
-        marks, _ = with_hints(library, sheets, filings, marks, commands.Progress())
+    result = commands.marked_class(library, found, given.hints, commands.Progress)
+    marks = result.marks
     pages = _each(library, given, sheets, filings) if given.each else {}
-    html = classes.page_class(sheets, filings, marks, pages=pages, hints=given.hints, taken=found.taken)
+    html = classes.page_class(sheets, filings, marks, pages=pages, hints=given.hints, taken=found.taken,
+                              remarks=result.remarks)
     return Made(html, _wrong(marks, len(sheets)))
 
 

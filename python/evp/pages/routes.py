@@ -13,9 +13,8 @@ from flask import Blueprint, Response, abort, jsonify, request
 
 from evp import marking
 from evp.cells import travel_of
-from evp.commands import get_library, pool_refusal
+from evp.commands import get_library, marked_class, pool_refusal
 from evp.files import InputError, text_of
-from evp.hints import with_hints
 from evp.intake import ClassFiles, Taken, filed_of, read_class_of
 from evp.layout import row_count, season_count
 from evp.library import SHEET_BYTES, Refusal
@@ -184,13 +183,14 @@ def open_files():
 def show_class(given: Given) -> str:
     files = [file for found in given.values() for file in found]
     library, found = get_library(), _class_of(files)
-    marks, hints = marking.marks_of(library, found.sheets, found.taken.filings), "hints" in request.form
-    if hints:
-        marks, _ = with_hints(library, found.sheets, found.taken.filings, marks, lambda done, many: None)
+    hints = "hints" in request.form
+    result = marked_class(library, found, hints, lambda what: lambda done, many: None)
+    marks = result.marks
     filed_for = _filed_for(found.taken)
     packed = {name: _pack(name, sheet.data, filed_for.get(name, "")) for name, sheet in found.sheets.items()}
     return page_class(found.sheets, found.taken.filings, marks, True, packed=packed, hints=hints,
-                      marks_csv=marking.marks_csv(marks, found.taken.semicolon), taken=found.taken)
+                      marks_csv=marking.marks_csv(marks, found.taken.semicolon), taken=found.taken,
+                      remarks=result.remarks)
 
 
 def _class_of(files: list[tuple[str, bytes]]) -> ClassFiles:

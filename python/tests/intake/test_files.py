@@ -38,11 +38,13 @@ def taken_of(files: dict[str, bytes], names=NAMES) -> Taken:
     return reading.take([file for file in found if not file.is_sheet], names)
 
 
-class FilesTest(unittest.TestCase):
+class Base(unittest.TestCase):
     def read(self, taken: Taken, many: int = 4) -> dict[tuple[str, Figure], reading.Filing]:
         self.assertEqual(len([filing for filing in taken.filings if filing.filed]), many, taken)
         return {(filing.sheet, filing.figure): filing for filing in taken.filings}
 
+
+class FilesTest(Base):
     def test_archive(self):
         found = taken_of({"all.zip": zipped({
             "class/filed.csv": TEXT.encode(), "__MACOSX/class/._filed.csv": b"\0\5\x16\7", "class/.DS_Store": b"\0\0\0",
@@ -118,7 +120,7 @@ class FilesTest(unittest.TestCase):
 
 
 @unittest.skipUnless(HAS_XLSX, NO_XLSX)
-class XlsxTest(FilesTest):
+class XlsxTest(Base):
     def book(self, change=lambda sheet: None, lines=LINES, title="filed") -> bytes:
         import openpyxl
         book = openpyxl.Workbook()
@@ -211,7 +213,7 @@ class XlsxTest(FilesTest):
 
 
 @unittest.skipUnless(HAS_ODS, NO_ODS)
-class OdsTest(FilesTest):
+class OdsTest(Base):
     def book(self, soak=("float", "13.303", "13,303")) -> bytes:
         from odf.opendocument import OpenDocumentSpreadsheet
         from odf.table import Table, TableCell, TableRow
