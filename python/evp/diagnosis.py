@@ -14,8 +14,8 @@ from evp.library import Filed, Library, Outcome, Refusal
 from evp.marking import Filing, Mark, Marked
 from evp.wording import apart, counted, listed, name_shown
 
-COST = 40_000  # rows times seasons that the reports of one sheet may take: a part of a second
-MORE_COST = 400_000  # with --hints
+COST = 150_000  # rows times seasons that the reports of one sheet may take: a part of a second
+MORE_COST = 1_500_000  # with --hints
 LEAST_COST = 60  # what a report costs whatever its size
 MOST_FITS = 3  # changes that are told
 WRONG = ("low", "high")
@@ -111,9 +111,11 @@ class Changes:
 
     def all(self) -> Iterator[Change]:
         yield from self._left_out()
-        yield from self._seasons()
         yield from self._exchanged()
-        for name in ("trips", "minutes", "hot", "carburettor", "fill", "vehicles", "tank", "load", "saturation"):
+        yield from self._fahrenheit()
+        yield from self._of_rows("trips")
+        yield from self._seasons()
+        for name in ("minutes", "hot", "vehicles", "fill", "carburettor", "load", "saturation", "tank"):
             yield from self._of_rows(name)
         yield from self._copied()
 
@@ -148,7 +150,6 @@ class Changes:
                 for words, other in others:
                     yield from self._change("%s of season %d %s in place of %s%s" % (
                         _label(name), i, place[1].shown(other), place[1].shown(value), words), (place, other))
-        yield from self._fahrenheit()
         for i, one in enumerate(self.season_fields):
             for j in range(i):
                 for name in ("days", "vp"):
@@ -186,6 +187,17 @@ class Changes:
                 yield from self._change("the mileage of row %d left out" % (i + 1), (mileage, 0))
 
     def _of_rows(self, name: str) -> Iterator[Change]:
+        """One number written wrong: in all rows that have it, as where it was looked up once, and in each row."""
+        shared: dict[int, list[int]] = {}
+        for i, places in enumerate(self.row_fields):
+            shared.setdefault(self._value(places[name]), []).append(i)
+        for value, rows in shared.items():
+            if len(rows) > 1 and value and not {*rows}.isdisjoint(self.rows):
+                field = self.row_fields[0][name][1]
+                for other in _slips(value):
+                    yield from self._change("%s of rows %s %s in place of %s" % (
+                        _label(name), listed(str(i + 1) for i in rows), field.shown(other), field.shown(value)),
+                        *((self.row_fields[i][name], other) for i in rows))
         for i in self.rows:
             place = self.row_fields[i][name]
             value = self._value(place)

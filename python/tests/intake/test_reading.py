@@ -9,7 +9,7 @@ sys.path.insert(0, str(Path(__file__).resolve().parents[2]))
 from intake.ways import WAYS, Way
 
 from evp.figures import Figure
-from evp.intake import filed_of
+from evp.intake import filed_of, reading
 
 SOAK, OTHERS = Figure("cars", "soak"), (Figure("cars", "running"), Figure("1", "diurnal"), Figure("total", ""))
 
@@ -31,7 +31,9 @@ class ReadTest(unittest.TestCase):
     def check(self, way: Way, filings: list):
         if not way.reason:
             self.assertEqual([filing for filing in filings if filing.figure == SOAK and filing.filed is None], [])
-            self.assertTrue(any(filing.figure == SOAK for filing in filings), filings)
+            values = {round(reading._value(filing)[0] * 10.0 ** (reading._value(filing)[1] - 6), 6)
+                      for filing in filings if filing.figure == SOAK and filing.sheet == "north.evp"}  # in kg
+            self.assertEqual(values, {13300.0 if "0.0133'" in way.name else 13303.0})
         else:
             self.assertTrue(any(way.reason in filing.problem for filing in filings), filings)
             self.assertFalse(any(filing.figure == SOAK and filing.filed for filing in filings))
