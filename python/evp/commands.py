@@ -258,7 +258,7 @@ def mark(given: Namespace) -> int:
     if given.json:
         print_json([line._asdict() for line in result.marks])
     elif given.output != "-":
-        summary = marking.summary(result.marks, len(of_class.sheets))
+        summary = marking.summary(result.plain, len(of_class.sheets))
         remarks = [*result.remarks, *_read_lines(of_class, given)]
         say([*_on_one_screen(summary, remarks), *_files_made(given, result.marks)])
     if of_class.unread or of_class.taken.unread:
@@ -267,7 +267,9 @@ def mark(given: Namespace) -> int:
 
 
 class Result(NamedTuple):
-    """The marks of a class, what does not fit in a filing, the changes of inputs that fit, and lines that say so."""
+    """The marks of a class, without guesses in their notes and with them, what does not fit in a filing, the changes of
+    inputs that fit, and lines that say so."""
+    plain: list[Mark]
     marks: list[Mark]
     findings: dict[str, list[Finding]]
     diagnoses: dict[str, diagnosis.Diagnosis]
@@ -279,19 +281,19 @@ def marked_class(library: Library, of_class: ClassFiles, hints: bool,
     """Marks a class, compares each filing with itself, and looks for the one changed input where nothing simpler
     explains the figures; with `hints` for longer, and for misreadings of the guidebook too."""
     sheets, filings = of_class.sheets, of_class.taken.filings
-    marks = marking.marks_of(library, sheets, filings)
+    plain = marks = marking.marks_of(library, sheets, filings)
     findings = checks.against_themselves(library, sheets, filings, marks)
-    remarks = ["  against itself: %s" % line for line in checks.lines(findings)]
+    guesses: list[str] = []
     explained = {name for name, found in findings.items() if any("digits" in finding.text for finding in found)}
     explained |= plainly_explained(library, sheets, filings, marks)
     if hints:
         marks, guesses = with_hints(library, sheets, filings, marks, progress("sheets guessed at"))
         explained |= {name for name in sheets if all(
             "; guess: " in mark.note for mark in marks if mark.sheet == name and mark.verdict in ("low", "high"))}
-        remarks += guesses
     diagnoses = diagnosis.diagnose_all(library, sheets, filings, marks, hints, progress("sheets tried"), explained)
+    remarks = ["  against itself: %s" % line for line in checks.lines(findings)]
     remarks += ["  by inputs: %s" % line for line in diagnosis.lines(diagnoses, hints)]
-    return Result(marks, findings, diagnoses, remarks)
+    return Result(plain, marks, findings, diagnoses, remarks + guesses)
 
 
 def _check_outputs(given: Namespace):

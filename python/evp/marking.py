@@ -167,8 +167,8 @@ def _sheet_summary(marks: list[Mark]) -> str:
     if first.verdict in ("absent", "unreadable") and not first.sha256 and len({mark.note for mark in marks}) == 1:
         return "%s filed, and %s" % (counted(len(marks), "figure"), first.note)
     words = _verdicts(Counter(mark.verdict for mark in marks))
-    filed = "%s: %s filed" % (printable(shortened(Figure(first.row, first.mechanism).name)), printable(
-        shortened(" ".join(filter(None, (first.mass, first.unit))))) or "nothing")
+    mass = " ".join(filter(None, (shortened(first.mass), shortened(first.unit, 20)))) if first.mass else "nothing"
+    filed = "%s: %s filed" % (printable(shortened(Figure(first.row, first.mechanism).name)), printable(mass))
     return "%s; first %s, %s" % (words, filed, first.note)
 
 

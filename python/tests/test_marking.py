@@ -33,7 +33,7 @@ class CourseTest(DeskTestCase):
     def test_one_screen(self):
         """With hints the summary has fewer lines, so that both stand on one screen."""
         found = run("mark", COURSE, "--filed", COURSE / "filed.csv", "-o", self.folder / "marks.csv", "--hints")
-        self.assertIn("\n8 more sheets to look at\n", found.out)
+        self.assertIn("\n9 more sheets to look at\n", found.out)
         self.assertEqual(len(found.out.splitlines()), 21)  # and the line of the file
 
     def test_made(self):
@@ -273,15 +273,15 @@ class FiledTest(DeskTestCase):
                 self.put_sheet("a.evp", TEXT)
                 filed = self.put("filed.csv", HEADER + line + "\na.evp,2,soak,2,t\n")
                 found = run("mark", self.folder, "--filed", filed, "--json")
-                self.assert_plain(found, 1)
+                self.assertEqual((found.status, found.err), (1, ""))
                 marks = json.loads(found.out)
-                self.assertEqual([mark["verdict"] for mark in marks], ["unreadable", "low"])
+                self.assertEqual([mark["verdict"] for mark in marks], ["unreadable", "high"])
                 self.assertEqual(marks[0]["note"], said % filed)
 
     def test_a_quotation_mark_loses_no_line(self):
         """One that opens a note and is not closed would take the lines behind it along."""
         self.assertEqual(self.marks('a.evp,1,soak,2,t,"he said\na.evp,2,soak,2,t,\n', HEADER.strip() + ",note\n"),
-                         ["low", "low"])
+                         ["low", "high"])
 
     def test_names(self):
         """A sheet may start with #, and none makes a terminal do anything."""
@@ -320,7 +320,7 @@ class FiledTest(DeskTestCase):
     def test_twice(self):
         """Two masses for one figure: neither is marked; the same twice: once."""
         self.assertEqual(self.marks("a.evp,1,soak,2,t\na.evp,2,soak,2,t\na.evp,1,soak,3,kg\n"),
-                         ["unreadable", "low", "unreadable"])
+                         ["unreadable", "high", "unreadable"])
         self.assertIn("can mean two things: 2 t in %s, line 2 and 3 kg in %s, line 4" % (
             2 * (self.folder / "filed.csv",)), (self.folder / "m.csv").read_text())
         self.assertEqual(self.marks("a.evp,1,soak,2,t\na.evp,1,soak,2000,kg\n"), ["low"])

@@ -46,7 +46,7 @@ def read_class(library: Library, folder: str, filed: Iterable[str], progress: Ca
     if not found:
         raise InputError("%s: no sheet, that is no file whose name ends with .evp" % name_shown(folder))
     own = {id(file) for file in tables}
-    return _class(library, found, [file for file in rest if id(file) in own], [*inside, *tables], progress)
+    return _class(library, found, [file for file in rest if id(file) in own], progress)
 
 
 def _but(tables: list[File], others: list[File]) -> list[File]:
@@ -60,16 +60,17 @@ def read_class_of(library: Library, files: Iterable[tuple[str, bytes]], most: in
     """The class of the files of a request."""
     given = find.given(files)
     found, rest = sheets.split(given)
-    return _class(library, found, rest, given, lambda done, many: None, most)
+    return _class(library, found, rest, lambda done, many: None, most)
 
 
-def _class(library: Library, found: dict[str, sheets.Found], rest: list[File], files: list[File],
-           progress: Callable[[int, int], None], most: int | None = None) -> ClassFiles:
+def _class(library: Library, found: dict[str, sheets.Found], rest: list[File], progress: Callable[[int, int], None],
+           most: int | None = None) -> ClassFiles:
     marked = sheets.mark_all(library, found, progress)
     taken = reading.take(rest, found, most)
     taken.remarks[:0] = [one.remark for one in found.values() if one.remark]
     unread = ["%s: %s" % (one.label, one.unread) for one in found.values() if one.unread]
-    return ClassFiles(marked, taken, unread, [file.source for file in files if file.source])
+    sources = [source for one in found.values() for source in one.sources] + taken.used
+    return ClassFiles(marked, taken, unread, list(filter(None, sources)))
 
 
 def filed_of(data: str | bytes, label: str, most: int | None = None, sheet_names: Iterable[str] = ()) -> Taken:

@@ -50,6 +50,7 @@ class Taken:
     remarks: list[str] = field(default_factory=list)
     unread: list[str] = field(default_factory=list)
     semicolons: list[bool] = field(default_factory=list)
+    used: list[str] = field(default_factory=list)  # the files of the disk that something was read from
 
     @property
     def semicolon(self) -> bool:
@@ -92,6 +93,7 @@ def _unread(taken: Taken, file: File, sheets: Sheets, reason: str) -> None:
     """A table that cannot be read is a line of the result for its participant."""
     sheet = sheets.of_file(file.name, *reversed(file.folder.split("/"))) or file.name
     taken.unread.append("%s: %s" % (file.label, reason))
+    taken.used.append(file.source)
     taken.filings.append(Filing(sheet, Figure("", ""), "", "", None, "%s: %s" % (file.label, reason)))
 
 
@@ -108,6 +110,7 @@ def _take_file(taken: Taken, file: File, sheets: Sheets, most: int | None) -> No
             taken.remarks.append("%s: these are marks that evp mark has made, and no filing" % table.label)
             continue
         taken.semicolons.append(table.separator == ";")
+        taken.used.append(file.source)
         _Reader(taken, table, layout, sheets, most).read()
     if not seen:
         raise NotRead("no table of filed masses is found in it: a header such as sheet,row,mechanism,mass,unit, or "

@@ -27,6 +27,7 @@ class Found(NamedTuple):
     digest: str = ""
     unread: str = ""
     remark: str = ""
+    sources: tuple[str, ...] = ()
 
 
 def split(files: list[File]) -> tuple[dict[str, Found], list[File]]:
@@ -36,17 +37,17 @@ def split(files: list[File]) -> tuple[dict[str, Found], list[File]]:
     folders = _table_folders(files)
     for file in files:
         if file.is_sheet:
-            by_path[file.path] = _of_file(file)
+            by_path[file.path] = _of_file(file)._replace(sources=(file.source,))
         elif file.folder in folders and file.name.casefold() in TABLES:
             continue
         elif _is_sheet_workbook(file):
-            by_path[_evp(file.path)] = _of_workbook(file)
+            by_path[_evp(file.path)] = _of_workbook(file)._replace(sources=(file.source,))
         else:
             rest.append(file)
     for folder, tables in folders.items():
         name = _evp(folder or _top_name(tables))
         if name not in by_path:
-            by_path[name] = _of_tables(tables, folder)
+            by_path[name] = _of_tables(tables, folder)._replace(sources=tuple(file.source for file in tables))
     return _named(by_path), rest
 
 
