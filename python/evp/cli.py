@@ -136,7 +136,7 @@ def _add_report_commands(add):
     mark.add_argument("--before", metavar="FILE", help="marks.csv of an earlier submission, or its folder, for letters")
     mark.add_argument("--class-table", metavar="FILE", help="a line for each participant, .csv or .xlsx")
     mark.add_argument("--page", metavar="FILE", help="a page of the class for a browser, as evp page class makes it")
-    mark.add_argument("--hints", action="store_true", help="guess longer at the reason of a wrong figure, misreadings too")
+    mark.add_argument("--hints", action="store_true", help="guess longer at the reason of a wrong figure")
     compare = _add(add, "compare", commands.compare,
                    "says which masses of two sheets differ for certain, and which way",
                    "evp compare summer.evp derogation.evp", "json")

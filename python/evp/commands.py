@@ -244,7 +244,8 @@ class Progress:
             return
         self.drawn = True
         bar = ("#" * (40 * done // many)).ljust(40, ".")
-        print("\r%s %d of %d %s" % (bar, done, many, self.what), end="\n" if done == many else "", file=sys.stderr, flush=True)
+        end = "\n" if done == many else ""
+        print("\r%s %d of %d %s" % (bar, done, many, self.what), end=end, file=sys.stderr, flush=True)
 
 
 def mark(given: Namespace) -> int:

@@ -1,7 +1,7 @@
 """Diagnosis by inputs: the one changed field of a sheet with which all filed figures agree.
 
-Each change that people make by mistake is put into the sheet, the library makes its report, and its bands decide on every
-filed figure. So an answer is checked and no guess; other changes may fit too, and how many were tried is said.
+Each change that people make by mistake is put into the sheet, the library makes its report, and its bands decide on
+every filed figure. So an answer is checked and no guess; other changes may fit too, and how many were tried is said.
 """
 
 from collections.abc import Callable, Iterator
@@ -45,7 +45,7 @@ class Diagnosis(NamedTuple):
         if not self.fits:
             return ""
         more = " (%s tried, %s)" % (counted(self.tried, "change"), _others(len(self.fits), self.whole))
-        return "with %s all %d filed figures agree%s" % (listed_or(self.fits[:MOST_FITS]), self.figures, more)
+        return "with %s all %d figures agree%s" % (listed_or(self.fits[:MOST_FITS]), self.figures, more)
 
 
 def _others(many: int, whole: bool) -> str:
@@ -82,8 +82,8 @@ def _label(name: str) -> str:
 
 
 def _slips(value: int) -> Iterator[int]:
-    """The numbers that one slip makes of a number: two digits exchanged, a digit changed, left out or doubled, a decimal
-    place lost."""
+    """The numbers that one slip makes of a number: two digits exchanged, a digit changed or left out, a decimal place
+    lost."""
     word = str(abs(value))
     sign = -1 if value < 0 else 1
     seen = {value}
@@ -219,7 +219,8 @@ class Changes:
 # ------------------------------------------------------------------ trials
 
 
-def diagnose(library: Library, sheet: Marked, filings: dict[Figure, Filing], wrong: set[Figure], cost: int) -> Diagnosis:
+def diagnose(library: Library, sheet: Marked, filings: dict[Figure, Filing], wrong: set[Figure],
+             cost: int) -> Diagnosis:
     """Tries changes of a sheet, as many as the cost allows, on all its filed figures."""
     figures = [(figure, filing.filed) for figure, filing in filings.items()
                if filing.filed is not None and not filing.tens and figure in sheet.bands]

@@ -70,7 +70,8 @@ def with_hints(library: Library, sheets: dict[str, Marked], filings: list[Filing
     return hinted, _remarks(guessers)
 
 
-def plainly_explained(library: Library, sheets: dict[str, Marked], filings: list[Filing], marks: list[Mark]) -> set[str]:
+def plainly_explained(library: Library, sheets: dict[str, Marked], filings: list[Filing],
+                      marks: list[Mark]) -> set[str]:
     """The sheets whose wrong figures are all explained by a unit, by rounding, or by an exchange."""
     filed: dict[str, dict[Figure, Filing]] = {}
     wrong: dict[str, list[Filing]] = {}

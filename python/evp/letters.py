@@ -106,7 +106,8 @@ def letter_names(people: Iterable[Participant]) -> dict[str, Participant]:
     """The participants by the names of the files of their letters."""
     found: dict[str, Participant] = {}
     for one in people:
-        plain = re.sub(r"[^\w.-]+", "-", re.sub(r"\.evp$", "", one.file, flags=re.IGNORECASE)).strip("-.")[:80] or "sheet"
+        stem = re.sub(r"\.evp$", "", one.file, flags=re.IGNORECASE)
+        plain = re.sub(r"[^\w.-]+", "-", stem).strip("-.")[:80] or "sheet"
         name, number = plain, 1
         while name.casefold() in {other.casefold() for other in found}:
             number += 1
@@ -124,8 +125,9 @@ def class_lines(people: Iterable[Participant]) -> list[tuple[object, ...]]:
     for one in people:
         right_before = sum(earlier.verdict in FINE for earlier in one.before.values()) if one.before else ""
         look = next((mark.note for mark in one.marks if mark.verdict not in FINE), "" if one.marks else "nothing filed")
-        found.append((one.file, sum(bool(mark.row) for mark in one.marks),
-                      *(one.count(verdict) for verdict in VERDICTS[:-1]), right_before, look, "; ".join(one.advice[:3])))
+        counts = [one.count(verdict) for verdict in VERDICTS[:-1]]
+        found.append((one.file, sum(bool(mark.row) for mark in one.marks), *counts, right_before, look,
+                      "; ".join(one.advice[:3])))
     return found
 
 

@@ -266,7 +266,8 @@ class FiledTest(DeskTestCase):
             ("a.evp,1,,2,t", "the mechanism is missing: diurnal, soak, running (%s, line 2, column 3 (mechanism))"),
             ("a.evp,0,soak,2,t", "row: rows are counted from 1 (%s, line 2, column 2 (row))"),
             ("a.evp,bus,soak,2,t",
-             "row: 'bus' is no row; write a number from 1, cars, light, two, all or total (%s, line 2, column 2 (row))"),
+             "row: 'bus' is no row; write a number from 1, cars, light, two, all or total "
+             "(%s, line 2, column 2 (row))"),
             ("a.evp,1,soak,\x1b[2J,t", "'\\x1b[2J' is no mass (%s, line 2, column 4 (mass))"),
         ):
             with self.subTest(said):

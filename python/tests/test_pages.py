@@ -62,7 +62,8 @@ def class_page(**more) -> str:
 def pages() -> dict[str, str]:
     """Every page of the samples."""
     region, survey = sample("region"), sample("survey")
-    filed = [filing for filing in filed_for([str(COURSE / "filed.csv")], ["ridge.evp"]).filings if filing.sheet == "ridge.evp"]
+    filings = filed_for([str(COURSE / "filed.csv")], ["ridge.evp"]).filings
+    filed = [filing for filing in filings if filing.sheet == "ridge.evp"]
     districts = sample("districts")
     return {
         "class": class_page(), "sheet": page_sheet(LIBRARY, "region.evp", region),

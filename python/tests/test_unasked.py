@@ -58,7 +58,8 @@ class InstallTest(DeskTestCase):
     def test_pages(self):
         status, said, installed = self.bash(".ci/install", "pages")
         self.assertEqual((status, said, installed), (
-            1, "missing: sudo apt install python3-flask python3-jinja2 python3-waitress", False))
+            1, "missing: sudo apt install python3-flask python3-jinja2 python3-waitress python3-openpyxl python3-odf",
+            False))
         if os.getuid() == 0:
             self.assertTrue(self.bash(".ci/install", "pages", "--install")[2])
             self.assertTrue(self.bash(".ci/install", "pages", EVP_INSTALL="1")[2])

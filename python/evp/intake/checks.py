@@ -1,6 +1,6 @@
 """A filing against itself: rows that do not add up to their filed subtotal, subtotals that do not add up to the total,
-two digits exchanged, a figure copied from its neighbour. Nothing is guessed: the filed digits alone tell it, and where a
-repaired figure is named the library has found it right."""
+two digits exchanged, a figure copied from its neighbour. Nothing is guessed: the filed digits alone tell it, and where
+a repaired figure is named the library has found it right."""
 
 from collections.abc import Iterable, Iterator, Sequence
 from typing import NamedTuple

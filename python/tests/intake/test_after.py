@@ -90,7 +90,7 @@ class DiagnosisTest(unittest.TestCase):
             with self.subTest(words):
                 found = self.found(data)
                 self.assertTrue(any(words in fit for fit in found.fits), found)
-                self.assertRegex(found.line(), r"^with .* all 34 filed figures agree \([0-9,]+ changes tried, ")
+                self.assertRegex(found.line(), r"^with .* all 34 figures agree \([0-9,]+ changes tried, ")
 
     def test_nothing(self):
         sheets, filings, marks = marked(filed(NORTH, cars_soak="12345", two_running="1"))

@@ -75,7 +75,8 @@ class FilesTest(Base):
     def test_other_files(self):
         """A file that is no table is a line of the result for its participant, and the others are read."""
         for data, reason in (
-            (b"%PDF-1.7", "a PDF"), (b"\x89PNG\r\n", "a picture"), (b"", "empty"), (b"\xd0\xcf\x11\xe0\xa1\xb1\x1a\xe1", "password"),
+            (b"%PDF-1.7", "a PDF"), (b"\x89PNG\r\n", "a picture"), (b"", "empty"),
+            (b"\xd0\xcf\x11\xe0\xa1\xb1\x1a\xe1", "password"),
             (b"<html><table></table>", "a web page"), (b"{\\rtf1", "RTF"), (b"Dear marker,\nsee below.\n", "no table"),
             (zipped({"word/document.xml": b"x"}), "Word"), (zipped({"Index/Document.iwa": b"x"}), "Numbers"),
             (b"PK\3\4" + bytes(100), "damaged"), (b"\x1f\x8b\x08", "gzip"), (b"a\0b\0\1\2\3", "zero bytes"),
@@ -100,7 +101,7 @@ class FilesTest(Base):
         self.assertIn("nortth.evp", {filing.sheet for filing in both.filings})  # it may be another participant
 
     def test_own_marks(self):
-        marks = HEADER.strip() + ",verdict,low_mg,high_mg,off_mg,note,sha256\nnorth.evp,cars,soak,13.303,t,agrees,1,2,,,\n"
+        marks = HEADER.strip() + ",verdict,low_mg,high_mg,off_mg,note,sha256\n" + "north.evp,cars,soak,1,t,agrees,1,2,,,\n"
         taken = taken_of({"marks.csv": marks.encode(), "filed.csv": TEXT.encode()})
         self.read(taken)
         self.assertIn("marks that evp mark has made", taken.remarks[0])
@@ -127,7 +128,8 @@ class XlsxTest(Base):
         sheet = book.active
         sheet.title = title
         for line in lines:
-            sheet.append([float(cell) if i == 3 and cell[:1].isdigit() else cell or None for i, cell in enumerate(line)])
+            sheet.append([float(cell) if i == 3 and cell[:1].isdigit() else cell or None
+                          for i, cell in enumerate(line)])
         change(sheet)
         made = io.BytesIO()
         book.save(made)

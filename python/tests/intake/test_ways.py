@@ -28,11 +28,13 @@ class MarkedTest(DeskTestCase):
                 with open(target, encoding="utf-8", newline="") as file:
                     text = file.read()
                 marks = list(csv.DictReader(text.splitlines(), delimiter=";" if text.startswith("sheet;") else ","))
-                verdicts = {Figure(mark["row"], mark["mechanism"]): mark for mark in marks if mark["sheet"] == "north.evp"}
+                verdicts = {Figure(mark["row"], mark["mechanism"]): mark for mark in marks
+                            if mark["sheet"] == "north.evp"}
                 for figure in OTHERS:
                     self.assertEqual(verdicts[figure]["verdict"], "agrees", marks)
                 if way.reason:
-                    self.assertTrue(any(mark["verdict"] == "unreadable" and way.reason in mark["note"] for mark in marks))
+                    notes = [mark["note"] for mark in marks if mark["verdict"] == "unreadable"]
+                    self.assertTrue(any(way.reason in note for note in notes), notes)
                 else:
                     self.assertIn(verdicts[SOAK]["verdict"], ("agrees", "high"), marks)  # 13303.0 kg is 63 g too high
                     self.assertEqual(verdicts[SOAK]["low_mg"], "13302827532")

@@ -39,7 +39,8 @@ UNITS = [_mass(*pair) for pair in (
 )] + [
     _mass("13303", "MG", "can mean two things"), _mass("13.303", "tons", "can mean two things"),
     _mass("13.303", "MT", "can mean two things"), _mass("13.303", "", "no unit is given"),
-    _mass("13.303", "lb", "none of mass"), _mass("13.303", "t/day", "is a rate"), _mass("13.303", "litres", "none of mass"),
+    _mass("13.303", "lb", "none of mass"), _mass("13.303", "t/day", "is a rate"),
+    _mass("13.303", "litres", "none of mass"),
 ]
 UNITS = [way for way in UNITS if way.name != "mass '13.303' "]  # a unit left out beside others is theirs, below
 
@@ -54,14 +55,18 @@ NUMBERS = [_mass(*pair) for pair in (
     _mass(mass, "t", reason) for mass, reason in (
         ("", "nothing filed"), ("-", "nothing filed"), ("–", "nothing filed"), ("NE", "NE, not estimated"),
         ("NA", "NA, not applicable"), ("n/a", "NA, not applicable"), ("N.A.", "NA, not applicable"),
-        ("NO", "NO, not occurring"), ("IE", "IE, included elsewhere"), ("C", "C, confidential"), ("ne", "NE, not estimated"),
-        ("NE,IE", "IE, included elsewhere"), ("#REF!", "error of the spreadsheet"), ("#DIV/0!", "error of the spreadsheet"),
+        ("NO", "NO, not occurring"), ("IE", "IE, included elsewhere"), ("C", "C, confidential"),
+        ("ne", "NE, not estimated"),
+        ("NE,IE", "IE, included elsewhere"), ("#REF!", "error of the spreadsheet"),
+        ("#DIV/0!", "error of the spreadsheet"),
         ("#N/A", "not applicable"), ("#VALUE!", "error of the spreadsheet"), ("########", "too narrow"),
         ("-2", "below 0"), ("\u22122", "below 0"), ("13 %", "percentage"), ("<0.5", "limit"),
-        ("13.2-13.4", "range"), ("13.3 ± 0.1", "range"), ("13. Mrz", "date"), ("13-Mar", "date"), ("2026-03-13", "date"),
+        ("13.2-13.4", "range"), ("13.3 ± 0.1", "range"), ("13. Mrz", "date"), ("13-Mar", "date"),
+        ("2026-03-13", "date"),
         ("03/13", "date"), ("=B2*C2", "formula"), ("TRUE", "true or false"), ("see attachment", "is no mass"),
         ("1.2.3.4", "is no number"), ("28 34", "is no number"), ("O.730", "is no mass"), ("nan", "no number was filed"),
-        ("?", "no number was filed"), ("13.303 lb", "none of mass"), ("\x1b[2J", "is no mass"), ("13.303 kg", "two things"),
+        ("?", "no number was filed"), ("13.303 lb", "none of mass"), ("\x1b[2J", "is no mass"),
+        ("13.303 kg", "two things"),
     )
 ]
 
@@ -92,7 +97,8 @@ TABLES = [
     Way("Windows-1252 and a no-break space", _SEMICOLON.replace("13,303;t", "13\u00a0303,0;kg").encode("cp1252")),
     Way("CSV (Macintosh)", _SEMICOLON.replace("13,303;t", "13\u00a0303,0;kg").replace("\n", "\r").encode("mac_roman")),
     Way("CSV (MS-DOS)", (_TEXT + "Zürich.evp,cars,soak,1,t\n").encode("cp850")),
-    Way("carriage returns", _TEXT.replace("\n", "\r").encode()), Way("both line ends", _TEXT.replace("\n", "\r\n").encode()),
+    Way("carriage returns", _TEXT.replace("\n", "\r").encode()),
+    Way("both line ends", _TEXT.replace("\n", "\r\n").encode()),
     Way("no last line end", _TEXT.rstrip("\n").encode()), Way("empty lines", _TEXT.replace("\n", "\n\n").encode()),
     Way("lines of separators", (_TEXT + ",,,,\n" * 5).encode()), Way("sep=;", ("sep=;\n" + _SEMICOLON).encode()),
     Way("sep=,", ("sep=,\r\n" + _TEXT).encode()), Way("semicolons", _SEMICOLON.encode()),
@@ -105,27 +111,34 @@ TABLES = [
     Way("a column note", (_TEXT.replace("unit\n", "unit,note\n")).encode()),
     Way("empty columns behind", _TEXT.replace("\n", ",,,\n").encode()),
     Way("empty columns before", "".join("," + line + "\n" for line in _TEXT.splitlines()).encode()),
-    Way("columns in another order", "".join(",".join(line.split(",")[::-1]) + "\n" for line in _TEXT.splitlines()).encode()),
+    Way("columns in another order", "".join(
+        ",".join(line.split(",")[::-1]) + "\n" for line in _TEXT.splitlines()).encode()),
     Way("other headers", _TEXT.replace("sheet,row,mechanism,mass,unit", "File,Category,Process,Value,Units").encode()),
-    Way("German headers", _TEXT.replace("sheet,row,mechanism,mass,unit", "Blatt,Zeile,Mechanismus,Masse,Einheit").encode()),
+    Way("German headers", _TEXT.replace(
+        "sheet,row,mechanism,mass,unit", "Blatt,Zeile,Mechanismus,Masse,Einheit").encode()),
     Way("a header with typing errors", _TEXT.replace("mechanism", "mecanism").encode()),
-    Way("capitals in the header", _TEXT.replace("sheet,row,mechanism,mass,unit", "Sheet,Row,Mechanism,Mass,Unit").encode()),
+    Way("capitals in the header", _TEXT.replace(
+        "sheet,row,mechanism,mass,unit", "Sheet,Row,Mechanism,Mass,Unit").encode()),
     Way("a unit in the header", _TEXT.replace("mass,unit", "mass [t],remark").replace(",t\n", ",\n").encode()),
     Way("a unit behind the header", _TEXT.replace("mass,unit", "mass in t,remark").replace(",t\n", ",\n").encode()),
     Way("a unit left out", _TEXT.replace("13.303,t", "13.303,").encode()),
     Way("titles above the header", ("Results,,,,\nmy course,,,,\n,,,,\n" + _TEXT).encode()),
     Way("no header", _TEXT.split("\n", 1)[1].encode()),
-    Way("a row of totals", (_TEXT + "Total,,,40.9,t\n").encode()), Way("a footnote", (_TEXT + "* preliminary,,,,\n").encode()),
+    Way("a row of totals", (_TEXT + "Total,,,40.9,t\n").encode()),
+    Way("a footnote", (_TEXT + "* preliminary,,,,\n").encode()),
     Way("the header again", (_TEXT + HEADER + "north.evp,all,soak,13.728,t\n").encode()),
     Way("a line twice", (_TEXT + "north.evp,cars,soak,13.303,t\n").encode()),
     Way("two figures for one place", (_TEXT + "north.evp,cars,soak,13.304,t\n").encode(), "can mean two things"),
     Way("the name once", _TEXT.replace("north.evp,cars,running", ",cars,running").encode()),
     Way("the name and the row once", _TEXT.replace("north.evp,cars,running", ",,running").encode()),
-    Way("the name on a line of its own", ("sheet,row,mechanism,mass,unit\nnorth.evp,,,,\n" + _TEXT.split("\n", 1)[1].replace(
+    Way("the name on a line of its own", (
+        "sheet,row,mechanism,mass,unit\nnorth.evp,,,,\n" + _TEXT.split("\n", 1)[1].replace(
         "north.evp", "")).encode()),
     Way("an open quotation mark", (_TEXT + 'north.evp,cars,"diurnal,1.927,t\n').encode()),
-    Way("a line break in a cell", (_TEXT.replace("unit\n", "unit,note\n") + 'north.evp,all,soak,13.728,t,"a\nb"\n').encode()),
-    Way("a table with semicolons behind", (_TEXT + HEADER.replace(",", ";") + "north.evp;all;soak;13,728;t\n").encode()),
+    Way("a line break in a cell", (
+        _TEXT.replace("unit\n", "unit,note\n") + 'north.evp,all,soak,13.728,t,"a\nb"\n').encode()),
+    Way("a table with semicolons behind", (
+        _TEXT + HEADER.replace(",", ";") + "north.evp;all;soak;13,728;t\n").encode()),
     Way("names of figures", b"sheet,figure,mass\nnorth.evp,cars soak,13.303 t\nnorth.evp,cars running,5.848 t\n"
         b"north.evp,row 1 diurnal,0.730 t\nnorth.evp,total,21.951 t\n"),
     Way("wide", b"sheet,row,diurnal,soak,running,total,unit\nnorth.evp,cars,1.927,13.303,5.848,,t\n"
@@ -140,8 +153,10 @@ TABLES = [
         b"north.evp,13.303,5.848,0.730,21.951\n"),
     Way("two lines of header", b",cars,,,row 1,total\nsheet,diurnal,soak,running,diurnal,total\n"
         b"north.evp,1.927 t,13.303 t,5.848 t,0.730 t,21.951 t\n"),
-    Way("no sheet, but its name", _TEXT.replace("north.evp,", "").replace("sheet,", "").encode(), file="North final.csv"),
-    Way("no sheet, but a title", ("Results of north\n" + _TEXT.replace("north.evp,", "").replace("sheet,", "")).encode()),
+    Way("no sheet, but its name",
+        _TEXT.replace("north.evp,", "").replace("sheet,", "").encode(), file="North final.csv"),
+    Way("no sheet, but a title", (
+        "Results of north\n" + _TEXT.replace("north.evp,", "").replace("sheet,", "")).encode()),
     Way("what evp show prints", b"""\
 samples/course/north.evp: version 1, 2 seasons, 7 rows, 16,410 vehicles
 
