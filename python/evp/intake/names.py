@@ -6,7 +6,7 @@ import unicodedata
 from collections.abc import Collection, Mapping
 from functools import lru_cache
 from pathlib import PurePosixPath
-from typing import NamedTuple
+from typing import Any, NamedTuple, cast
 
 from evp.figures import TOTAL, Figure
 from evp.intake.numbers import TWO_THINGS, NotRead
@@ -59,12 +59,9 @@ class _Tries:
 
 
 def start() -> None:
-    """Allows as many comparisons as a class may need; what was not compared for want of them is forgotten."""
-    if _Tries.left <= 0:
-        mechanism_of.cache_clear()
-        row_of.cache_clear()
-        figure_of.cache_clear()
-        figure.cache_clear()
+    """Allows as many comparisons as a class may need, and forgets what was read of another class."""
+    for cached in (mechanism_of, row_of, figure_of, figure, plain):
+        cast(Any, cached).cache_clear()
     _Tries.left = _Tries.MOST
 
 

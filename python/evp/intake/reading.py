@@ -5,7 +5,7 @@ import re
 from collections.abc import Callable, Iterable, Iterator
 from dataclasses import dataclass, field
 from itertools import islice
-from typing import NamedTuple, cast
+from typing import Any, NamedTuple, cast
 
 from evp.figures import TOTAL, Figure
 from evp.files import InputError
@@ -77,16 +77,25 @@ class _Table(NamedTuple):
 def take(files: Iterable[File], sheet_names: Iterable[str], most: int | None = None) -> Taken:
     """All that is filed in these files, for the sheets that are there; InputError where there are more than `most`
     lines."""
-    names.start()
     taken, sheets = Taken(), Sheets(list(sheet_names))
-    for file in files:
-        try:
-            _take_file(taken, file, sheets, most)
-        except NotRead as error:
-            _unread(taken, file, sheets, str(error))
-    _settle_names(taken, sheets)
-    _settle_twice(taken)
-    return taken
+    try:
+        for file in files:
+            try:
+                _take_file(taken, file, sheets, most)
+            except NotRead as error:
+                _unread(taken, file, sheets, str(error))
+        _settle_names(taken, sheets)
+        _settle_twice(taken)
+        return taken
+    finally:
+        _forget()
+
+
+def _forget() -> None:
+    """Keeps nothing of a class for the next."""
+    names.start()
+    for cached in (numbers._normal, numbers.evidence, numbers.not_a_mass, units.read, layouts.column_of):
+        cast(Any, cached).cache_clear()
 
 
 def _unread(taken: Taken, file: File, sheets: Sheets, reason: str) -> None:

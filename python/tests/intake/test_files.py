@@ -101,7 +101,8 @@ class FilesTest(Base):
         self.assertIn("nortth.evp", {filing.sheet for filing in both.filings})  # it may be another participant
 
     def test_own_marks(self):
-        marks = HEADER.strip() + ",verdict,low_mg,high_mg,off_mg,note,sha256\n" + "north.evp,cars,soak,1,t,agrees,1,2,,,\n"
+        marks = HEADER.strip() + ",verdict,low_mg,high_mg,off_mg,note,sha256\n"
+        marks += "north.evp,cars,soak,1,t,agrees,1,2,,,\n"
         taken = taken_of({"marks.csv": marks.encode(), "filed.csv": TEXT.encode()})
         self.read(taken)
         self.assertIn("marks that evp mark has made", taken.remarks[0])
