@@ -253,8 +253,9 @@ def mark(given: Namespace) -> int:
     library = get_library()
     of_class = read_class(library, given.folder, given.filed, Progress())
     result = marked_class(library, of_class, given.hints, Progress)
-    people = letters.participants(of_class, result.marks, result.findings, result.diagnoses,
-                                  letters.read_before(given.before) if given.before else {})
+    before = letters.read_before(given.before) if given.before else {}
+    people = letters.participants(of_class, result.marks, result.findings, result.diagnoses, before) if (
+        given.letters or given.class_table) else []
     _save_marks(given, of_class, result, people)
     if given.json:
         print_json([line._asdict() for line in result.marks])

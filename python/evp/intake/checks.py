@@ -48,8 +48,8 @@ def against_themselves(library: Library, sheets: dict[str, Marked], filings: Seq
             by_sheet.setdefault(filing.sheet, {})[filing.figure] = i
     found = {}
     for name, places in by_sheet.items():
-        if all(marks[i].verdict == "agrees" for i in places.values()):
-            continue  # what agrees adds up
+        if not any(marks[i].verdict in ("low", "high") for i in places.values()):
+            continue  # what agrees or fits adds up
         of_sheet = _Filing(library, name, sheets[name], {figure: filings[i] for figure, i in places.items()},
                            {figure: marks[i].verdict for figure, i in places.items()})
         lines = [*of_sheet.sums(), *of_sheet.digits(), *of_sheet.copies()]

@@ -167,12 +167,14 @@ def home():
 
 @blueprint.post("/open")
 def open_files():
-    """What was dropped on the first page: a class where there are several sheets, else a sheet."""
+    """What was dropped on the first page: a class where there are several sheets, an archive or a workbook, else a
+    sheet."""
     try:
         given = _given()
         files = [file for found in given.values() for file in found]
         sheets = [name for name, _ in files if not name.lower().endswith(".csv")]
-        show, turns = (show_class, CLASSES) if len(sheets) > 1 else (show_sheet, PAGES)
+        many = len(sheets) > 1 or any(name.lower().endswith((".zip", ".xlsx", ".ods")) for name in sheets)
+        show, turns = (show_class, CLASSES) if many else (show_sheet, PAGES)
         with turns:
             return show(given)
     except InputError as error:

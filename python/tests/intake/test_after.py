@@ -3,6 +3,7 @@
 import csv
 import io
 import unittest
+import zipfile
 from importlib.util import find_spec
 
 from support import LIBRARY, SAMPLES, DeskTestCase, run
@@ -142,6 +143,33 @@ class LettersTest(DeskTestCase):
             marks = [(mark["sheet"], mark["row"], mark["verdict"]) for mark in csv.DictReader(file)]
         self.assertEqual(marks, [("North.evp", "cars", "agrees"), ("broken.csv", "", "unreadable"),
                                  ("Harbour.evp", "cars", "agrees")])
+
+
+@unittest.skipUnless(find_spec("flask"), "flask is not there")
+class ClassPageTest(unittest.TestCase):
+    """The class page takes what people send, by the same functions."""
+
+    def test_dropped(self):
+        from flask import Flask
+
+        from evp.pages.routes import blueprint
+        app = Flask("a test")
+        app.register_blueprint(blueprint)
+        archive = io.BytesIO()
+        with zipfile.ZipFile(archive, "w") as made:
+            made.writestr("class/North.evp", NORTH)
+            made.writestr("class/north final.csv", "row;mechanism;mass;unit\ncars;hot soak;13 303;Kg\ntotal;;NE;t\n")
+            made.writestr("__MACOSX/class/._North.evp", b"x")
+        harbour = (COURSE / "harbour.evp").read_bytes()
+        for path in ("/class", "/open"):
+            answer = app.test_client().post(path, data={"files": [
+                (io.BytesIO(archive.getvalue()), "class.zip"), (io.BytesIO(harbour), "Harbour.EVP"),
+                (io.BytesIO(b"sheet,row,mechanism,mass,unit\nharbour,cars,soak,12.437,t\n"), "my results.csv"),
+                (io.BytesIO(b"%PDF"), "notes.csv")]}, content_type="multipart/form-data")
+            text = answer.get_data(as_text=True)
+            self.assertEqual(answer.status_code, 200, text[:500])
+            for words in ("cars soak: 13303 kg", "NE, not estimated", "two digits are exchanged", "this is a PDF"):
+                self.assertIn(words, text)
 
 
 if __name__ == "__main__":
