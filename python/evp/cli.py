@@ -135,12 +135,17 @@ def _add_report_commands(add):
     mark = _add(add, "mark", commands.mark, "marks filed masses against the sheets of a folder",
                 "evp mark sheets --filed filed.csv -o marks.csv\n"
                 "evp mark sheets --filed filed.csv -o marks.csv --hints", "json", "force")
-    mark.add_argument("folder", metavar="FOLDER", help="its files whose names end with .evp are the sheets")
-    mark.add_argument("--filed", required=True, metavar="FILE", help="csv: sheet,row,mechanism,mass,unit")
+    mark.add_argument("folder", metavar="FOLDER", help="a folder or a zip: the sheets .evp in it, and below it")
+    mark.add_argument("--filed", required=True, action="append", metavar="FILE",
+                      help="a table of filed masses (csv, xlsx, ods), or a folder or zip of them; as often as you like")
     mark.add_argument("-o", dest="output", metavar="FILE",
                       help="csv: the same columns, then verdict,low_mg,high_mg,off_mg,note,sha256")
+    mark.add_argument("--readings", metavar="FILE", help="csv: what was read of cells that were not plain")
+    mark.add_argument("--letters", metavar="FOLDER", help="a letter for each participant, a page to print on A4")
+    mark.add_argument("--before", metavar="FILE", help="marks.csv of an earlier submission, or its folder, for letters")
+    mark.add_argument("--class-table", metavar="FILE", help="a line for each participant, .csv or .xlsx")
     mark.add_argument("--page", metavar="FILE", help="a page of the class for a browser, as evp page class makes it")
-    mark.add_argument("--hints", action="store_true", help="guess at the reason of a wrong figure")
+    mark.add_argument("--hints", action="store_true", help="guess longer at the reason of a wrong figure")
     compare = _add(add, "compare", commands.compare,
                    "says which masses of two sheets differ for certain, and what each changed input brings",
                    "evp compare summer.evp derogation.evp\nevp compare 2006.evp 2007.evp --csv", "json")

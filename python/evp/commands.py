@@ -6,34 +6,36 @@ import os
 import sys
 import time
 from argparse import Namespace
-from collections.abc import Iterable, Iterator
+from collections.abc import Callable, Iterable, Iterator
+from typing import NamedTuple
 
+from evp import diagnosis, letters, marking, show
 from evp import library as calls
-from evp import marking, show
 from evp.analysis import telling
 from evp.analysis.changes import changes_of
 from evp.cells import cells_csv, cells_of, read_travel
 from evp.convert import converted
 from evp.doubting import doubt_lines
 from evp.explain import Explanation, call_text, explain, looks_like
-from evp.files import (
-    FileError, InputError, check_target, make_folder, read_sheet, read_text, same_file, write_file,
-)
-from evp.hints import with_hints
+from evp.files import InputError, check_target, make_folder, read_sheet, read_text, same_file, write_file
+from evp.hints import plainly_explained, with_hints
+from evp.intake import ClassFiles, checks, read_class, readings_csv
+from evp.intake.checks import Finding
 from evp.layout import version_of
 from evp.library import SHEET_BYTES, Library, Refusal, Report
 from evp.making import make_library
-from evp.marking import FiledTable, Mark, Marked
+from evp.marking import Mark
 from evp.pages.needs import prefer, require
 from evp.sheet import Builder, TextError, doubts, folder_of, read, take_folder, take_text, templates
 from evp.sheet.books import book_bytes, is_book, take_book
 from evp.sheet.folders import TABLES
 from evp.sheet.names import NO_NAMES, Names, names_beside, names_file, names_text, shared_names
 from evp.sheet.reader import told_version
-from evp.wording import apart, counted, name_shown
+from evp.wording import apart, counted, name_shown, printable, shortened
 
 MOST_LINES = 20  # of messages that any input can make
 MOST_HINTS = 12  # of these
+MOST_REMARKS = 6  # on how tables were read
 FINE, REFUSED = 0, 1
 
 
@@ -310,71 +312,137 @@ def _later_version(library: Library, name: str, data: bytes, version: int) -> tu
 class Progress:
     """A bar on standard error where it takes longer than a second, on a terminal alone."""
 
-    def __init__(self):
-        self.start, self.drawn = time.monotonic(), False
+    def __init__(self, what: str = "sheets"):
+        self.start, self.drawn, self.what = time.monotonic(), False, what
 
     def __call__(self, done: int, many: int):
         if not sys.stderr.isatty() or not self.drawn and time.monotonic() - self.start < 1:
             return
         self.drawn = True
         bar = ("#" * (40 * done // many)).ljust(40, ".")
-        print("\r%s %d of %d sheets" % (bar, done, many), end="\n" if done == many else "", file=sys.stderr, flush=True)
+        end = "\n" if done == many else ""
+        print("\r%s %d of %d %s" % (bar, done, many, self.what), end=end, file=sys.stderr, flush=True)
 
 
 def mark(given: Namespace) -> int:
     _check_outputs(given)
-    library, filed = get_library(), marking.read_filed(given.filed)
-    if not os.path.isdir(given.folder):
-        raise InputError("%s: a folder with sheets is wanted" % name_shown(given.folder))
-    sheets = marking.read_sheets(library, given.folder, Progress())
-    marks = marking.marks_of(library, sheets, filed.filings)
-    summary, remarks = marking.summary(marks, len(sheets)), []
-    if given.hints:
-        marks, remarks = with_hints(library, sheets, filed.filings, marks, Progress())
-    _save_marks(given, sheets, filed, marks)
+    library = get_library()
+    of_class = read_class(library, given.folder, given.filed, Progress())
+    result = marked_class(library, of_class, given.hints, Progress)
+    before = letters.read_before(given.before) if given.before else {}
+    people = letters.participants(of_class, result.marks, result.findings, result.diagnoses, before) if (
+        given.letters or given.class_table) else []
+    _save_marks(given, of_class, result, people)
     if given.json:
-        print_json([line._asdict() for line in marks])
+        print_json([line._asdict() for line in result.marks])
     elif given.output != "-":
-        say([*_on_one_screen(summary, remarks), *_files_made(given, marks)])
-    unread = [str(FileError(os.path.join(given.folder, name), sheet.unread)) for name, sheet in sheets.items()
-              if sheet.unread]
-    if unread:
-        raise InputError("\n".join(unread))
-    return FINE if all(line.verdict in marking.FINE for line in marks) else REFUSED
+        summary = marking.summary(result.plain, len(of_class.sheets))
+        remarks = [*result.remarks, *_read_lines(of_class, given)]
+        say([*_on_one_screen(summary, remarks), *_files_made(given, result.marks)])
+    if of_class.unread or of_class.taken.unread:
+        raise InputError("\n".join([*of_class.unread, *of_class.taken.unread]))
+    return FINE if all(line.verdict in marking.FINE for line in result.marks) else REFUSED
+
+
+class Result(NamedTuple):
+    """The marks of a class, without guesses in their notes and with them, what does not fit in a filing, the changes of
+    inputs that fit, and lines that say so."""
+    plain: list[Mark]
+    marks: list[Mark]
+    findings: dict[str, list[Finding]]
+    diagnoses: dict[str, diagnosis.Diagnosis]
+    remarks: list[str]
+
+
+def marked_class(library: Library, of_class: ClassFiles, hints: bool,
+                 progress: Callable[[str], Callable[[int, int], None]]) -> Result:
+    """Marks a class, compares each filing with itself, and looks for the one changed input where nothing simpler
+    explains the figures; with `hints` for longer, and for misreadings of the guidebook too."""
+    sheets, filings = of_class.sheets, of_class.taken.filings
+    plain = marks = marking.marks_of(library, sheets, filings)
+    findings = checks.against_themselves(library, sheets, filings, marks)
+    guesses: list[str] = []
+    explained = {name for name, found in findings.items() if any("digits" in finding.text for finding in found)}
+    explained |= plainly_explained(library, sheets, filings, marks)
+    if hints:
+        marks, guesses = with_hints(library, sheets, filings, marks, progress("sheets guessed at"))
+        explained |= {name for name in sheets if all(
+            "; guess: " in mark.note for mark in marks if mark.sheet == name and mark.verdict in ("low", "high"))}
+    diagnoses = diagnosis.diagnose_all(library, sheets, filings, marks, hints, progress("sheets tried"), explained)
+    remarks = ["  against itself: %s" % line for line in checks.lines(findings)]
+    remarks += ["  by inputs: %s" % line for line in diagnosis.lines(diagnoses, hints)]
+    return Result(plain, marks, findings, diagnoses, remarks + guesses)
 
 
 def _check_outputs(given: Namespace):
-    """Before the work: that what is asked for can be told apart, and that a page can be made."""
+    """Before the work: that what is asked for can be told apart, and that it can be made."""
     if given.json and given.output == "-" or given.page == "-" and (given.json or given.output == "-"):
         raise InputError("two of -o, --json and --page would share standard output")
-    if given.page:
+    if given.page or given.letters:
         require("jinja2")
-    if given.output and given.page and same_file(given.output, given.page):
-        raise InputError("-o and --page name one file")
-    for target in filter(None, (given.output, given.page)):
-        check_target(target, given.force, [given.filed])
+    if given.class_table and given.class_table.lower().endswith(".xlsx"):
+        require("openpyxl")
+    targets = [target for target in (given.output, given.page, given.readings, given.class_table) if target]
+    for i, target in enumerate(targets):
+        if any(same_file(target, other) for other in targets[:i]):
+            raise InputError("two of -o, --page, --readings and --class-table name one file")
+        check_target(target, given.force, [*given.filed, *filter(None, [given.before])])
 
 
-def _save_marks(given: Namespace, sheets: dict[str, Marked], filed: FiledTable, marks: list[Mark]):
-    """marks.csv, and the page of the class."""
-    sources = given.filed, *(os.path.join(given.folder, name) for name in sheets)
-    if given.output:
-        text = marking.marks_csv(marks, filed.semicolon)
-        write_file(given.output, text.encode("utf-8", "surrogateescape"), given.force, sources)  # names as the folder's
+def _save_marks(given: Namespace, of_class: ClassFiles, result: Result, people: list[letters.Participant]):
+    """marks.csv, readings.csv, the page and the table of the class, and the letters."""
+    semicolon, sources = of_class.taken.semicolon, [*of_class.sources, *filter(None, [given.before])]
+
+    def save(name: str | os.PathLike | None, made: Callable[[], str | bytes]):
+        if name:
+            data = made()
+            write_file(name, data if isinstance(data, bytes) else data.encode("utf-8", "surrogateescape"), given.force,
+                       sources)
+
+    save(given.output, lambda: marking.marks_csv(result.marks, semicolon))
+    save(given.readings, lambda: readings_csv(of_class.taken.readings, semicolon))
+    workbook = given.class_table and given.class_table.lower().endswith(".xlsx")
+    save(given.class_table, lambda: letters.class_xlsx(people, result.marks) if workbook else (
+        letters.class_csv(people, semicolon)))
     if given.page:
         from evp.pages.classes import page_class
-        html = page_class(sheets, filed.filings, marks, hints=given.hints)
-        write_file(given.page, html.encode(), given.force, sources)
+        save(given.page, lambda: page_class(of_class.sheets, of_class.taken.filings, result.marks, hints=given.hints,
+                                            taken=of_class.taken, remarks=result.remarks))
+    if given.letters:
+        from evp.pages.letters import page_letter
+        named, folder = letters.letter_names(people), make_folder(given.letters)
+        for name in named:  # all of them before the first is written
+            check_target(folder / name, given.force, sources)
+        for name, one in named.items():
+            save(folder / name, lambda one=one: page_letter(one))
+
+
+def _read_lines(of_class: ClassFiles, given: Namespace) -> Iterator[str]:
+    """What was said once of the tables, and how many figures were read that were not plain."""
+    taken = of_class.taken
+    yield from ("  note: %s" % printable(remark) for remark in limited(taken.remarks, "such notes", MOST_REMARKS))
+    if taken.readings:
+        first = taken.readings[0]
+        yield "  read: %s not plain; first %s, %s: %s is %s%s" % (
+            counted(len(taken.readings), "figure"), first.file, printable(first.place),
+            printable(shortened(first.filed, 60)), printable(first.read),
+            "" if given.readings else "; --readings FILE has all")
 
 
 def _on_one_screen(summary: Iterable[str], remarks: list[str]) -> list[str]:
-    hints = limited(remarks, "such lines; the notes of the marks have all", MOST_HINTS)
+    hints = limited(remarks, "such lines; -o and --readings have all", MOST_HINTS)
     return [*limited(summary, "sheets to look at", MOST_LINES - len(hints)), *hints]
 
 
 def _files_made(given: Namespace, marks: list[Mark]) -> Iterator[str]:
     yield "%s: %s" % (name_shown(given.output), counted(len(marks), "line")) if given.output else (
         "-o FILE keeps the marks of all figures")
+    if given.readings:
+        yield "%s: what was read, beside the original" % name_shown(given.readings)
+    if given.class_table:
+        yield "%s: the class, a line for each participant" % name_shown(given.class_table)
+    if given.letters:
+        yield "%s: a letter for each participant" % name_shown(given.letters)
     if given.page:
         yield "%s: the page of the class" % name_shown(given.page)
 

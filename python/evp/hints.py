@@ -53,10 +53,11 @@ def with_hints(library: Library, sheets: dict[str, Marked], filings: list[Filing
     """The marks with a guess in the note of each wrong figure, and what to say of the guesses."""
     filed: dict[str, dict[Figure, Filing]] = {}
     for filing in filings:
-        filed.setdefault(filing.sheet, {})[filing.figure] = filing
+        if filing.filed is not None and not filing.tens:
+            filed.setdefault(filing.sheet, {})[filing.figure] = filing
     wrong: dict[str, list[int]] = {}
     for i, mark in enumerate(marks):
-        if mark.verdict in WRONG:
+        if mark.verdict in WRONG and not filings[i].tens:
             wrong.setdefault(mark.sheet, []).append(i)
     guessers = {name: Guesser(library, sheets[name], filed[name], [filings[i] for i in places])
                 for name, places in wrong.items()}
@@ -67,6 +68,20 @@ def with_hints(library: Library, sheets: dict[str, Marked], filings: list[Filing
         for i in places:
             hinted[i] = marks[i]._replace(note="%s; %s" % (marks[i].note, notes[filings[i].figure]))
     return hinted, _remarks(guessers)
+
+
+def plainly_explained(library: Library, sheets: dict[str, Marked], filings: list[Filing],
+                      marks: list[Mark]) -> set[str]:
+    """The sheets whose wrong figures are all explained by a unit, by rounding, or by an exchange."""
+    filed: dict[str, dict[Figure, Filing]] = {}
+    wrong: dict[str, list[Filing]] = {}
+    for filing, mark in zip(filings, marks):
+        if filing.filed is not None and not filing.tens:
+            filed.setdefault(filing.sheet, {})[filing.figure] = filing
+            if mark.verdict in WRONG:
+                wrong.setdefault(filing.sheet, []).append(filing)
+    return {name for name, found in wrong.items()
+            if not Guesser(library, sheets[name], filed[name], found).left()}
 
 
 def try_misreadings(guessers: list["Guesser"], progress: Callable[[int, int], None]):

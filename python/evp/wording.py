@@ -1,6 +1,7 @@
 """Words that messages share."""
 
 import os
+from collections.abc import Iterable
 
 
 def apart(number: int) -> str:
@@ -11,6 +12,12 @@ def apart(number: int) -> str:
 def counted(number: int, name: str) -> str:
     """So many of a thing: 1 row, 24 rows."""
     return "%s %s%s" % (apart(number), name, "" if number == 1 else "s")
+
+
+def listed(words: Iterable[str]) -> str:
+    """a, b and c."""
+    words = list(words)
+    return " and ".join([", ".join(words[:-1]), words[-1]]) if len(words) > 1 else "".join(words)
 
 
 def shortened(word: str, most: int = 40) -> str:

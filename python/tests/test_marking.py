@@ -15,9 +15,9 @@ from unittest import mock
 import make_course
 from support import LIBRARY, LISTS, SAMPLES, SEASONS, TEXT, TOP, DeskTestCase, run, run_without_rights, sample
 
-from evp import hints, layout, marking, sheet
+from evp import hints, layout, sheet
 from evp.figures import Figure, bands
-from evp.library import SHEET_BYTES, Band, Filed, Unit
+from evp.library import SHEET_BYTES, Band
 from evp.masses import shown
 from evp.tables import table_text
 from tools import reckoning
@@ -33,7 +33,7 @@ class CourseTest(DeskTestCase):
     def test_one_screen(self):
         """With hints the summary has fewer lines, so that both stand on one screen."""
         found = run("mark", COURSE, "--filed", COURSE / "filed.csv", "-o", self.folder / "marks.csv", "--hints")
-        self.assertIn("\n8 more sheets to look at\n", found.out)
+        self.assertIn("\n9 more sheets to look at\n", found.out)
         self.assertEqual(len(found.out.splitlines()), 21)  # and the line of the file
 
     def test_made(self):
@@ -257,47 +257,32 @@ class FiledTest(DeskTestCase):
             return [mark["verdict"] for mark in csv.DictReader(file, delimiter=sign)]
 
     def test_mistakes(self):
+        """A cell that cannot be read is a verdict of that one figure, with its place; the others are marked."""
         for line, said in (
-            ('a.evp,total,,"2,834",t',
-             "mass: '2,834' is no mass; with columns parted by , the decimal sign is a point"),
-            ("a.evp,total,,2.8.34,t", "mass: '2.8.34' is no mass; write digits and at most one decimal sign"),
-            ("a.evp,total,,-2,t", "mass: '-2' is no mass; write digits and at most one decimal sign"),
-            ("a.evp,total,,2e3,t", "mass: '2e3' is no mass; write digits and at most one decimal sign"),
-            ("a.evp,total,,,t", "mass: '' is no mass; write digits and at most one decimal sign"),
-            ("a.evp,total,,2.,t", "mass: '2.' is no mass; write digits and at most one decimal sign"),
-            ("a.evp,total,,\u0663,t", "mass: '\u0663' is no mass; write digits and at most one decimal sign"),
-            ("a.evp,total,,2,T", "unit: 'T' is none of mg, g, kg, t"),
-            ("a.evp,total,soak,2,t", "mechanism: 'soak' beside total, which has none"),
-            ("a.evp,1,,2,t", "mechanism: '' is none of diurnal, soak, running"),
-            ("a.evp,0,soak,2,t", "row: '0' is no row; write a number from 1, cars, light, two, all or total"),
-            ("a.evp,car,soak,2,t", "row: 'car' is no row; write a number from 1, cars, light, two, all or total"),
-            ("a.evp,007,soak,2,t", "row: '007' is no row; write a number from 1, cars, light, two, all or total"),
-            ("a.evp,1.0,soak,2,t", "row: '1.0' is no row; write a number from 1, cars, light, two, all or total"),
-            ("a.evp,\uff11,soak,2,t",
-             "row: '\uff11' is no row; write a number from 1, cars, light, two, all or total"),
-            ("a.evp,total,,\uff12,t", "mass: '\uff12' is no mass; write digits and at most one decimal sign"),
-            ("a.evp,total,,2 834,t", "mass: '2 834' is no mass; write digits and at most one decimal sign"),
-            ("a.evp,total,,\x1b[2J,t", "mass: '\\x1b[2J' is no mass; write digits and at most one decimal sign"),
-            ("a.evp;total;;2,834;t", "its cells are parted by ;, and the columns of the header by ,"),
-            ('a.evp,total,,"2.834,t', "a quotation mark opens a cell, and none closes it"),
-            ("a.evp,1,soak,2,834,t", "6 cells, and the header has 5 columns; the decimal sign is a point here"),
-            (",1,soak,2,t", "sheet: the name of the sheet is missing"),
+            ('a.evp,1,soak,"2,834",t', "'2,834': can mean two things: 2.834 or 2834 (%s, line 2, column 4 (mass))"),
+            ("a.evp,1,soak,2..34,t", "'2..34' is no number (%s, line 2, column 4 (mass))"),
+            ("a.evp,1,soak,-2,t", "'-2' is below 0, and no mass is (%s, line 2, column 4 (mass))"),
+            ("a.evp,1,soak,,t", "nothing filed (%s, line 2, column 4 (mass))"),
+            ("a.evp,1,,2,t", "the mechanism is missing: diurnal, soak, running (%s, line 2, column 3 (mechanism))"),
+            ("a.evp,0,soak,2,t", "row: rows are counted from 1 (%s, line 2, column 2 (row))"),
+            ("a.evp,bus,soak,2,t",
+             "row: 'bus' is no row; write a number from 1, cars, light, two, all or total "
+             "(%s, line 2, column 2 (row))"),
+            ("a.evp,1,soak,\x1b[2J,t", "'\\x1b[2J' is no mass (%s, line 2, column 4 (mass))"),
         ):
             with self.subTest(said):
-                found = self.mark(line + "\n")
-                self.assert_plain(found, 2)
-                self.assertEqual(found.err, "evp: %s: line 2: %s\n" % (self.folder / "filed.csv", said))
-
-    def test_tabs(self):
-        self.assertEqual(self.mark("", HEADER.replace(",", "\t")).err,
-                         "evp: %s: the columns are parted by tabs; save it with , or ; between them\n" % (
-                             self.folder / "filed.csv"))
+                self.put_sheet("a.evp", TEXT)
+                filed = self.put("filed.csv", HEADER + line + "\na.evp,2,soak,2,t\n")
+                found = run("mark", self.folder, "--filed", filed, "--json")
+                self.assertEqual((found.status, found.err), (1, ""))
+                marks = json.loads(found.out)
+                self.assertEqual([mark["verdict"] for mark in marks], ["unreadable", "high"])
+                self.assertEqual(marks[0]["note"], said % filed)
 
     def test_a_quotation_mark_loses_no_line(self):
         """One that opens a note and is not closed would take the lines behind it along."""
-        found = self.mark('a.evp,1,soak,2,t,"he said\na.evp,2,soak,2,t,\n', HEADER.strip() + ",note\n")
-        self.assertEqual((found.status, found.err), (
-            2, "evp: %s: line 2: a quotation mark opens a cell, and none closes it\n" % (self.folder / "filed.csv")))
+        self.assertEqual(self.marks('a.evp,1,soak,2,t,"he said\na.evp,2,soak,2,t,\n', HEADER.strip() + ",note\n"),
+                         ["low", "high"])
 
     def test_names(self):
         """A sheet may start with #, and none makes a terminal do anything."""
@@ -305,7 +290,6 @@ class FiledTest(DeskTestCase):
             self.put_sheet(name, TEXT)
         found = self.mark("#1.evp,1,soak,2,t\n\x1b[2J,1,soak,2,t\n\x1b[2J.evp,1,soak,2,t\n")
         self.assertNotIn("\x1b", found.out)
-        self.assertIn("  ?[2J: 1 figure filed, and there is no such sheet; ?[2J.evp is there\n", found.out)
         self.assertEqual(self.marks("#1.evp,1,soak,2,t\n"), ["low", "missing", "missing"])
 
     def test_sheets_that_cannot_be_read(self):
@@ -335,12 +319,15 @@ class FiledTest(DeskTestCase):
         self.assertIn(",%s,t,unreadable," % ("9" * 100_000), (self.folder / "m.csv").read_text())
 
     def test_twice(self):
-        found = self.mark("a.evp,1,soak,2,t\nb.evp,1,soak,2,t\na.evp,1,soak,3,kg\n")
-        self.assertEqual(found.err,
-            "evp: %s: line 4: row 1 soak of 'a.evp' stands in line 2 already\n" % (self.folder / "filed.csv"))
+        """Two masses for one figure: neither is marked; the same twice: once."""
+        self.assertEqual(self.marks("a.evp,1,soak,2,t\na.evp,2,soak,2,t\na.evp,1,soak,3,kg\n"),
+                         ["unreadable", "high", "unreadable"])
+        self.assertIn("can mean two things: 2 t in %s, line 2 and 3 kg in %s, line 4" % (
+            2 * (self.folder / "filed.csv",)), (self.folder / "m.csv").read_text())
+        self.assertEqual(self.marks("a.evp,1,soak,2,t\na.evp,1,soak,2000,kg\n"), ["low"])
 
     def test_many_mistakes(self):
-        self.assert_plain(self.mark("a.evp,x,soak,2,t\n" * 5000), 2)
+        self.assert_plain(self.mark("a.evp,x,soak,2,t\n" * 6000), 2)
 
     def test_semicolon(self):
         total = LIBRARY.report(sheet.write(TEXT)).total
@@ -348,8 +335,8 @@ class FiledTest(DeskTestCase):
         header = "\ufeff" + HEADER.replace(",", ";")
         self.assertEqual(self.marks("a.evp;total;;%s;t\n" % word.replace(".", ","), header), ["agrees"])
         self.assertTrue((self.folder / "m.csv").read_text().startswith("sheet;row;mechanism;mass;unit;verdict;"))
-        found = self.mark("a.evp;total;;2.834;t\n", header)
-        self.assertIn("'2.834' is no mass; with columns parted by ; the decimal sign is a comma", found.err)
+        self.assertEqual(self.marks("a.evp;total;;2.834;t\n", header), ["unreadable"])
+        self.assertIn("can mean two things: 2.834 or 2834", (self.folder / "m.csv").read_text())
 
     def test_verdicts(self):
         total = LIBRARY.report(sheet.write(TEXT)).total
@@ -361,9 +348,7 @@ class FiledTest(DeskTestCase):
         marks = (self.folder / "m.csv").read_text()
         for beyond in ("10^18 mg or more", "more than 18 digits", "a last place below 10^-6 mg"):
             self.assertEqual(marks.count(",,%s," % beyond), 1)
-        self.assertEqual(self.marks("b.evp,total,,1,t\n../a.evp,total,,1,t\na,total,,1,t\n"),
-                         ["absent"] * 3 + ["missing"])
-        self.assertIn("a.evp is there", (self.folder / "m.csv").read_text())
+        self.assertEqual(self.marks("b.evp,total,,1,t\n"), ["absent", "missing"])
 
     def test_right_figures(self):
         """All figures of a sample, as they are shown, agree."""
@@ -397,11 +382,6 @@ class FiledTest(DeskTestCase):
         look = run("mark", self.folder, "--filed", filed)
         self.assertEqual((look.status, look.out.splitlines()), (
             1, [*found.out.splitlines()[:-1], "-o FILE keeps the marks of all figures"]))
-
-    def test_large_digits(self):
-        table = marking.Table(",", [], [])
-        self.assertEqual(marking._filed("0" * 100 + "7", "t", table), Filed(7, 0, Unit.T))
-        self.assertEqual(marking._filed("18446744073709551616", "mg", table).digits, 2 ** 64 - 1)
 
 
 class SpeedTest(DeskTestCase):

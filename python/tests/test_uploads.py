@@ -8,8 +8,8 @@ import unittest
 from desk_support import HAS_MODULES, NO_MODULES
 from support import LISTS, TEXT, DeskTestCase, run, sample
 
-from evp import marking, sheet
-from evp.files import InputError
+from evp import sheet
+from evp.intake import filed_of, reading
 from evp.sheet import TextError
 from evp.wording import apart
 
@@ -30,17 +30,13 @@ def peak_of(call) -> int:
 
 class BadLinesTest(DeskTestCase):
     def test_memory(self):
-        text = HEADER + "x\n" * BAD
-        with self.assertRaises(InputError) as found:
-            marking.filed_of(text, "filed.csv")
-        kept = str(found.exception).split("\n")
-        self.assertEqual((len(kept), found.exception.more), (20, BAD - 20))
-        self.assertTrue(kept[0].startswith("filed.csv: line 2: "))
-
-        def read():
-            with self.assertRaises(InputError):
-                marking.filed_of(text, "filed.csv")
-        self.assertLess(peak_of(read), MOST_MEMORY * len(text))
+        """Of bad lines no more than some are kept one by one; the others are counted."""
+        text = HEADER + "a.evp,x,soak,2,t\n" * BAD
+        found = filed_of(text, "filed.csv", None, ["a.evp"])
+        self.assertEqual(len(found.filings), reading.MOST_UNREAD + 1)
+        self.assertIn("15,000 lines more cannot be read", found.filings[-1].problem)
+        self.assertEqual(found.unread, ["filed.csv: 20,000 lines cannot be read"])
+        self.assertLess(peak_of(lambda: filed_of(text, "filed.csv", None, ["a.evp"])), MOST_MEMORY * len(text))
 
     def test_text_of_a_sheet(self):
         text = LISTS + "x\n" * BAD
@@ -56,11 +52,10 @@ class BadLinesTest(DeskTestCase):
     def test_command(self):
         """The first are told, and how many there are besides."""
         folder = self.put_sheet("sheets/north.evp", TEXT).parent
-        filed = self.put("filed.csv", HEADER + "x\n" * 1_000)
+        filed = self.put("filed.csv", HEADER + "north.evp,x,soak,2,t\n" * 1_000)
         found = run("mark", folder, "--filed", filed)
-        self.assert_plain(found, 2)
-        lines = found.err.splitlines()
-        self.assertEqual((len(lines), lines[-1]), (20, "evp: 981 more such messages"))
+        self.assert_plain(found, 1)
+        self.assertTrue(found.out.startswith("1 sheet, 1,000 figures: 1,000 unreadable\n"), found.out)
         found = run("write", self.put("north.txt", LISTS + "x\n" * 1_000), "-o", "-")
         self.assertEqual(found.err.splitlines()[-1], "evp: 981 more such messages")
 
@@ -68,11 +63,11 @@ class BadLinesTest(DeskTestCase):
         """Row numbers of one table are gone when the next is read."""
         tables = [HEADER + "".join("a,%d,soak,1,g\n" % row for row in range(first, first + 2_000))
                   for first in range(1, 12_001, 2_000)]
-        marking.filed_of(tables[0], "filed.csv")
+        filed_of(tables[0], "filed.csv")
         tracemalloc.start()
         try:
             for text in tables:
-                marking.filed_of(text, "filed.csv")
+                filed_of(text, "filed.csv")
             self.assertLess(tracemalloc.get_traced_memory()[0], 500_000)
         finally:
             tracemalloc.stop()
@@ -96,11 +91,13 @@ class PageTest(DeskTestCase):
                                 follow_redirects=True)
 
     def test_bad_lines(self):
+        """They are told for their sheet, of many no more than a page lists."""
         for path in ("/class", "/open", "/sheet"):
-            found = self.post(path, "x\n" * 10_000)
+            found = self.post(path, "region.evp,x,soak,2,t\n" * 10_000 + "region.evp,1,soak,2,t\n")
             text = found.get_data(as_text=True)
-            self.assertEqual((found.status_code, text.count("filed.csv: line ")), (400, 6))
-            self.assertIn("and 9,994 more", text)
+            self.assertEqual(found.status_code, 200)
+            self.assertIn("is no row; write a number from 1", text)
+            self.assertLess(len(text), 4_000_000)
 
     def test_too_many_lines(self):
         from evp.pages.routes import MOST_FILED

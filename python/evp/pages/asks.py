@@ -21,8 +21,9 @@ class Ask(NamedTuple):
 
 SHEET = ("files", "The sheet .evp, or a workbook .xlsx or .ods", False)
 ASKS = {
-    "class": Ask("Mark a class", "Sheets and filed.csv together: each filed mass is held against the band of its "
-                 "sheet, and what is wrong stands first.", (("files", "The sheets .evp, and filed.csv", True),),
+    "class": Ask("Mark a class", "Sheets and tables of filed masses together, as people named them: each filed mass is "
+                 "compared with the band of its sheet, and what is wrong comes first.",
+                 (("files", "The sheets .evp, and the tables (csv, xlsx, ods), or a zip of all", True),),
                  "course", "thirty sheets, made up"),
     "sheet": Ask("Look at a sheet", "Where its mass comes from, or why it is refused, byte by byte. With filed.csv "
                  "beside it, the filed figures with the bands on them.",

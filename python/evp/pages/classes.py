@@ -8,12 +8,13 @@ from typing import NamedTuple
 from markupsafe import Markup
 
 from evp.figures import GROUP_NAMES, TOTAL, Figure
+from evp.intake import Taken
 from evp.library import GROUPS, MECHANISMS, Band, Filed, Unit
 from evp.marking import Filing, Mark, Marked
 from evp.pages.interval import deviation, edges_text, figure_text, picture
 from evp.pages.render import render
 from evp.pages.words import about, listed
-from evp.wording import counted, name_shown
+from evp.wording import counted, name_shown, shortened
 
 ACROSS = [Figure(group, mechanism) for group in GROUPS for mechanism in MECHANISMS] + [Figure(TOTAL, "")]
 ORDER = ("wrong", "refused", "unclear", "missing", "fits", "agrees")  # states of a sheet, what to look at first
@@ -21,6 +22,8 @@ LOOK = ORDER[:4]
 WRONG = ("low", "high")
 MOST_DETAILS = 60  # figures of rows that are told one by one
 MOST_NAMES = 2_000  # sheets, and names without a sheet, that a page lists
+MOST_REMARKS = 60  # on how tables were read
+MOST_READINGS = 300
 MEANINGS = {
     "agrees": "the band lies in the bar: the exact mass rounds to the figure",
     "fits": "the band reaches over the bar’s edge: it cannot settle the figure",
@@ -28,7 +31,7 @@ MEANINGS = {
     "high": "the bar starts behind the band: the figure is too large",
     "refused": "the sheet has no bands: the check stops at a fault",
     "absent": "a figure was filed, and its sheet or row is not there",
-    "unreadable": "the figure is too large or too fine to be compared",
+    "unreadable": "the figure cannot be read or compared; the reason is beside it",
     "missing": "the sheet is there, and nobody filed for it",
 }
 
@@ -36,8 +39,9 @@ MEANINGS = {
 class Judged(NamedTuple):
     """A filed figure with its verdict."""
     figure: Figure
-    filed: Filed
+    filed: Filed | None
     mark: Mark
+    tens: int = 0
 
     @property
     def verdict(self) -> str:
@@ -45,11 +49,16 @@ class Judged(NamedTuple):
 
     @property
     def name(self) -> str:
-        return self.figure.name
+        return self.figure.name if self.figure.row else "the table"
 
     @property
     def band(self) -> Band | None:
         return Band(self.mark.low_mg, self.mark.high_mg) if self.mark.low_mg != "" else None
+
+    @property
+    def drawn(self) -> bool:
+        """Whether the figure can be drawn with its band: it is read, and in one of the units of the library."""
+        return self.band is not None and self.filed is not None and not self.tens and self.verdict != "unreadable"
 
     @property
     def wrong(self) -> bool:
@@ -57,15 +66,17 @@ class Judged(NamedTuple):
 
     @property
     def text(self) -> str:
-        return "%s %s" % (figure_text(self.filed) if self.filed.digits < 1 << 63 else self.mark.mass, self.mark.unit)
+        if self.filed is None or self.tens or self.filed.digits >= 1 << 63:
+            return ("%s %s" % (shortened(self.mark.mass), self.mark.unit)).strip()
+        return "%s %s" % (figure_text(self.filed), self.filed.unit.name.lower())
 
     @property
     def edges(self) -> str:
-        return "%s %s" % (edges_text(self.filed), self.mark.unit)
+        return "%s %s" % (edges_text(self.filed), self.filed.unit.name.lower()) if self.drawn else ""
 
     @property
     def deviation(self) -> str:
-        return deviation(self.filed, self.band)
+        return deviation(self.filed, self.band, self.tens)
 
     @property
     def by(self) -> str:
@@ -78,10 +89,10 @@ class Judged(NamedTuple):
     @property
     def why(self) -> str:
         """Why the band does not settle it, or why it cannot be compared."""
-        if self.verdict == "fits":
+        if self.verdict == "fits" and self.drawn:
             step = 2 * 10 ** (3 * self.filed.unit) < 2 * (self.band.high - self.band.low) * 10 ** self.filed.places
             return "filed finer than the band is wide" if step else "the band reaches over a rounding edge"
-        note = self.mark.note if self.verdict in ("absent", "unreadable") else ""
+        note = self.mark.note if self.verdict in ("absent", "unreadable", "fits") else ""
         return note.replace("10^18", "10¹⁸").replace("10^-6", "10⁻⁶")
 
     @property
@@ -185,7 +196,7 @@ def _sheets(sheets: dict[str, Marked], filings: Iterable[Filing], marks: Iterabl
             across: tuple[Figure, ...]) -> list[Sheet]:
     judged: dict[str, list[Judged]] = {name: [] for name in sheets}
     for filing, mark in zip(filings, marks):
-        judged.setdefault(filing.sheet, []).append(Judged(filing.figure, filing.filed, mark))
+        judged.setdefault(filing.sheet, []).append(Judged(filing.figure, filing.filed, mark, filing.tens))
     found = [Sheet("s%d" % i, file, name_shown(file).removesuffix(".evp"), of_sheet,
                    sheets[file].refusal if file in sheets else "", file in sheets, across)
              for i, (file, of_sheet) in enumerate(judged.items(), 1)]
@@ -237,7 +248,7 @@ def _legend(counts: Counter) -> list[dict]:
 
 def page_class(sheets: dict[str, Marked], filings: list[Filing], marks: list[Mark], served: bool = False,
                pages: dict[str, str] | None = None, packed: dict[str, dict] | None = None, hints: bool = False,
-               marks_csv: str = "") -> str:
+               marks_csv: str = "", taken: Taken | None = None, remarks: Iterable[str] = ()) -> str:
     """The marks of a class. `pages` has the page of a sheet by its file, `packed` what a served page sends for it."""
     counts = Counter(mark.verdict for mark in marks)
     filed = {filing.figure for filing in filings}
@@ -251,5 +262,8 @@ def page_class(sheets: dict[str, Marked], filings: list[Filing], marks: list[Mar
         fine=[sheet for sheet in listed_sheets if sheet.state not in LOOK],
         counts=counts, legend=_legend(counts), across=across, heads=[head for head in heads if head[1]],
         with_total=Figure(TOTAL, "") in filed, with_rows=any(figure.row.isdigit() for figure in filed),
-        pages=pages or {}, packed=packed or {}, hints=hints,
+        pages=pages or {}, packed=packed or {}, hints=hints, remarks=taken.remarks[:MOST_REMARKS] if taken else [],
+        shows=[remark.strip() for remark in remarks][:MOST_REMARKS],
+        readings=taken.readings[:MOST_READINGS] if taken else [],
+        more_readings=max(len(taken.readings) - MOST_READINGS, 0) if taken else 0,
         marks=b64encode(marks_csv.encode("utf-8", "replace")).decode())

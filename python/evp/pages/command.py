@@ -11,7 +11,7 @@ from evp import commands, marking
 from evp.cells import read_travel
 from evp.explain import explain
 from evp.files import InputError, check_target, make_folder, read_sheet, write_file
-from evp.hints import with_hints
+from evp.intake import filed_for, read_class
 from evp.library import Library, Refusal
 from evp.pages.needs import require
 from evp.sheet.names import pooled_names, shared_names
@@ -48,12 +48,14 @@ def add_parser(add_command: Callable, add):
 
     of_class = add_page("class", page_class, "shows the marks of a class, what is wrong first",
                         "evp page class sheets --filed filed.csv -o class.html", "FOLDER")
-    of_class.add_argument("--filed", required=True, metavar="FILE", help="csv: sheet,row,mechanism,mass,unit")
+    of_class.add_argument("--filed", required=True, action="append", metavar="FILE",
+                          help="a table of filed masses, or a folder or zip of them; as often as you like")
     of_class.add_argument("--hints", action="store_true", help="guess at the reason of a wrong figure")
     of_class.add_argument("--each", metavar="FOLDER", help="make the page of each sheet too, and link to it")
     sheet = add_page("sheet", page_sheet, "shows where the mass of a sheet comes from, or why it is refused",
                      "evp page sheet north.evp -o north.html", "SHEET")
-    sheet.add_argument("--filed", metavar="FILE", help="csv: the figures of this sheet are shown with its bands")
+    sheet.add_argument("--filed", action="append", metavar="FILE",
+                       help="a table: the figures of this sheet are shown with its bands")
     day = add_page("day", page_day, "shows the temperatures of a day, and a parking on them",
                    "evp page day north.evp --row 1 4 -o day.html", "SHEET")
     day.add_argument("--row", type=int, nargs="+", metavar="N",
@@ -95,11 +97,14 @@ def _needing_jinja(run: Callable[[Namespace], Made]) -> Callable[[Namespace], in
 
 def _sources(given: Namespace) -> Iterator[str | Path]:
     """The files that a page is made from."""
-    for name in ("sheet", "a", "b", "first", "second", "filed", "travel"):
+    for name in ("sheet", "a", "b", "first", "second", "travel"):
         if getattr(given, name, None):
             yield getattr(given, name)
-    if getattr(given, "folder", None) and os.path.isdir(given.folder):
-        yield from marking.sheets_of(given.folder)
+    named = [*(getattr(given, "filed", None) or ()), *filter(None, [getattr(given, "folder", None)])]
+    for name in named:
+        yield name
+        if os.path.isdir(name):
+            yield from (path for path in Path(name).rglob("*") if path.is_file())
 
 
 def _chosen(number: int, many: int, what: str) -> int:
@@ -114,15 +119,14 @@ def _chosen(number: int, many: int, what: str) -> int:
 
 def page_class(given: Namespace) -> Made:
     from evp.pages import classes
-    library, filed = commands.get_library(), marking.read_filed(given.filed)
-    if not os.path.isdir(given.folder):
-        raise InputError("%s: a folder with sheets is wanted" % name_shown(given.folder))
-    sheets = marking.read_sheets(library, given.folder, commands.Progress())
-    marks = marking.marks_of(library, sheets, filed.filings)
-    if given.hints:
-        marks, _ = with_hints(library, sheets, filed.filings, marks, commands.Progress())
-    pages = _each(library, given, sheets, filed.filings) if given.each else {}
-    html = classes.page_class(sheets, filed.filings, marks, pages=pages, hints=given.hints)
+    library = commands.get_library()
+    found = read_class(library, given.folder, given.filed, commands.Progress())
+    sheets, filings = found.sheets, found.taken.filings
+    result = commands.marked_class(library, found, given.hints, commands.Progress)
+    marks = result.marks
+    pages = _each(library, given, sheets, filings) if given.each else {}
+    html = classes.page_class(sheets, filings, marks, pages=pages, hints=given.hints, taken=found.taken,
+                              remarks=result.remarks)
     return Made(html, _wrong(marks, len(sheets)))
 
 
@@ -152,9 +156,9 @@ def page_sheet(given: Namespace) -> Made:
     refusal = explain(library, data, names).line if library.check(data) else ""
     if not given.filed:
         return Made(page(library, name, data, names=names), refusal)
-    filings = [filing for filing in marking.read_filed(given.filed).filings if filing.sheet == name]
+    filings = [filing for filing in filed_for(given.filed, [name]).filings if filing.sheet == name]
     marks = marking.marks_of(library, {name: marking.marked(library, data)}, filings)
-    wrong = _wrong(marks, 1) if filings else "%s has no figure for it" % name_shown(given.filed)
+    wrong = _wrong(marks, 1) if filings else "%s has no figure for it" % name_shown(given.filed[0])
     return Made(page(library, name, data, filings, names=names), refusal or wrong)
 
 

@@ -53,9 +53,10 @@ def edges_text(filed: Filed) -> str:
     return "%s to %s" % tuple(map(figure_text, ends))
 
 
-def deviation(filed: Filed, band: Band) -> str:
-    """How far a figure is from the middle of the band, as one looks for it: a factor or a percentage."""
-    middle, value = Fraction(sum(band), 2), interval_of(filed).value
+def deviation(filed: Filed, band: Band, tens: int = 0) -> str:
+    """How far a figure, to be taken 10^tens times, is from the middle of the band, as one looks for it: a factor or a
+    percentage."""
+    middle, value = Fraction(sum(band), 2), interval_of(filed).value * 10 ** tens
     if not middle:
         return "not 0"
     if not value:

@@ -9,7 +9,9 @@ from importlib.util import find_spec
 from evp.files import InputError
 
 PACKAGES = {"flask": "python3-flask", "waitress": "python3-waitress", "jinja2": "python3-jinja2"}
+BOOKS = {"openpyxl": "python3-openpyxl", "odf": "python3-odf"}  # for workbooks
 INSTALL = "sudo apt install " + " ".join(PACKAGES.values())
+INSTALL_BOOKS = "sudo apt install " + " ".join(BOOKS.values())
 DEBIAN = "/usr/bin/python3"  # the Python that the packages are for
 HAS_CHANGED = "EVP_PYTHON_CHANGED"  # in the environment: this is Debian's Python already, so that it is tried once
 HAS_ALL = """
@@ -28,7 +30,8 @@ def require(*modules: str):
     if not missing:
         return
     prefer(*modules)
-    raise InputError("%s %s missing: %s" % (" and ".join(missing), "is" if len(missing) == 1 else "are", INSTALL))
+    raise InputError("%s %s missing: %s" % (" and ".join(missing), "is" if len(missing) == 1 else "are",
+                                            INSTALL_BOOKS if set(missing) <= set(BOOKS) else INSTALL))
 
 
 def prefer(*modules: str):

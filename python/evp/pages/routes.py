@@ -14,9 +14,9 @@ from flask import Blueprint, Response, abort, jsonify, redirect, request
 
 from evp import marking
 from evp.cells import travel_of
-from evp.commands import get_library, pool_refusal
+from evp.commands import get_library, marked_class, pool_refusal
 from evp.files import InputError, text_of
-from evp.hints import with_hints
+from evp.intake import ClassFiles, Taken, filed_of, read_class_of
 from evp.layout import row_count, season_count
 from evp.library import SHEET_BYTES, Refusal
 from evp.pages import forms
@@ -220,12 +220,14 @@ def home():
 
 @blueprint.post("/open")
 def open_files():
-    """What was dropped on the first page: a class where there are several sheets, else a sheet."""
+    """What was dropped on the first page: a class where there are several sheets, an archive or a workbook, else a
+    sheet."""
     try:
         given = _given()
         files = [file for found in given.values() for file in found]
         sheets = [name for name, _ in files if not name.lower().endswith(".csv")]
-        what, show, turns = ("class", show_class, CLASSES) if len(sheets) > 1 else ("sheet", show_sheet, PAGES)
+        many = len(sheets) > 1 or any(name.lower().endswith(".zip") for name in sheets)
+        what, show, turns = ("class", show_class, CLASSES) if many else ("sheet", show_sheet, PAGES)
         with turns:
             return lead_to(what, show(given))
     except InputError as error:
@@ -235,43 +237,42 @@ def open_files():
 @page("class", CLASSES)
 def show_class(given: Given) -> str:
     files = [file for found in given.values() for file in found]
-    filed = [file for file in files if file[0].lower().endswith(".csv")]
-    sheets = [file for file in files if not file[0].lower().endswith(".csv")]
-    _check_class(sheets, filed)
-    library, name = get_library(), filed[0][0]
-    table = marking.filed_of(text_of(filed[0][1], name), name, MOST_FILED)
-    marked = {name: marking.marked(library, data[:SHEET_BYTES + 1]) for name, data in sorted(sheets)}
-    marks, hints = marking.marks_of(library, marked, table.filings), "hints" in request.form
-    if hints:
-        marks, _ = with_hints(library, marked, table.filings, marks, lambda done, many: None)
-    filed_for = _filed_for(table)
-    packed = {name: _pack(name, sheet.data, filed_for.get(name, "")) for name, sheet in marked.items()}
-    return page_class(marked, table.filings, marks, True, packed=packed, hints=hints,
-                      marks_csv=marking.marks_csv(marks, table.semicolon))
+    library, found = get_library(), _class_of(files)
+    hints = "hints" in request.form
+    result = marked_class(library, found, hints, lambda what: lambda done, many: None)
+    marks = result.marks
+    filed_for = _filed_for(found.taken)
+    packed = {name: _pack(name, sheet.data, filed_for.get(name, "")) for name, sheet in found.sheets.items()}
+    return page_class(found.sheets, found.taken.filings, marks, True, packed=packed, hints=hints,
+                      marks_csv=marking.marks_csv(marks, found.taken.semicolon), taken=found.taken,
+                      remarks=result.remarks)
 
 
-def _check_class(sheets: list[tuple[str, bytes]], filed: list[tuple[str, bytes]]):
-    names = [name for name, _ in sheets]
+def _class_of(files: list[tuple[str, bytes]]) -> ClassFiles:
+    """The class that was sent; InputError where it has no sheet, no table, or more than fits a page."""
+    names = [name for name, _ in files]
     twice = [name for name in names if names.count(name) > 1]
-    if not sheets or not filed:
-        raise InputError("choose the sheets and the table of filed masses together: files whose names end with .evp, "
-                         "and one that ends with .csv")
-    if len(filed) > 1:
-        raise InputError("one table of filed masses is wanted, and there are %d: %s" % (
-            len(filed), ", ".join(name for name, _ in filed[:3])))
     if twice:
         raise InputError("%s is there twice" % twice[0])
-    if len(sheets) > MOST_SHEETS:
+    found = read_class_of(get_library(), files, MOST_FILED)
+    if not found.sheets or not found.taken.filings:
+        raise InputError("choose the sheets and the tables of filed masses together: files whose names end with .evp, "
+                         "and csv, xlsx or ods files, or a zip of them")
+    if len(found.sheets) > MOST_SHEETS:
         raise InputError("%s at once; %d is the most here, and evp mark takes any number" % (
-            counted(len(sheets), "sheet"), MOST_SHEETS))
+            counted(len(found.sheets), "sheet"), MOST_SHEETS))
+    if len(found.taken.filings) > MOST_FILED:
+        raise InputError("%s at once; evp mark takes any number" % counted(len(found.taken.filings), "figure"))
+    return found
 
 
-def _filed_for(table: marking.FiledTable) -> dict[str, str]:
-    """The lines of each sheet, as a table of their own."""
+def _filed_for(taken: Taken) -> dict[str, str]:
+    """The figures of each sheet, as a table of their own."""
     lines: dict[str, list] = {}
-    for filing in table.filings:
-        lines.setdefault(filing.sheet, []).append((filing.sheet, *filing.figure, filing.mass, filing.unit))
-    return {name: table_text(marking.COLUMNS, found, table.semicolon) for name, found in lines.items()}
+    for filing in taken.filings:
+        if filing.figure.row:
+            lines.setdefault(filing.sheet, []).append((filing.sheet, *filing.figure, filing.mass, filing.unit))
+    return {name: table_text(marking.COLUMNS, found, taken.semicolon) for name, found in lines.items()}
 
 
 @page("sheet")
@@ -282,10 +283,13 @@ def show_sheet(given: Given) -> str:
             counted(len(sheets), "sheet")))
     name, data, names = _named_sheet(given)
     tables = [file for file in given.get("files", ()) if file[0].lower().endswith(".csv")]
-    text = text_of(tables[0][1], tables[0][0]) if tables else request.form.get("filed", "")
-    label = tables[0][0] if tables else "the filed masses"
-    filings = [f for f in marking.filed_of(text, label, MOST_FILED).filings if f.sheet == name] if text else None
-    return page_sheet(get_library(), name, data, filings, True, _pack(name, data, text, names), names)
+    text: str | bytes = tables[0][1] if tables else request.form.get("filed", "")
+    if not text:
+        return page_sheet(get_library(), name, data, None, True, _pack(name, data, names=names), names)
+    taken = filed_of(text, tables[0][0] if tables else "the filed masses", MOST_FILED, [name])
+    filings = [filing for filing in taken.filings if filing.sheet == name]
+    packed = _pack(name, data, _filed_for(taken).get(name, ""), names)
+    return page_sheet(get_library(), name, data, filings, True, packed, names)
 
 
 @blueprint.post("/sheet/save")

@@ -73,7 +73,7 @@ def _judged(library: Library, data: bytes, report: Report, filings: list[Filing]
     """The figures that were filed for this sheet; where there are more than a page lists, those that do not agree come
     first."""
     marked = {filings[0].sheet: Marked(data, "", bands(report))} if filings else {}
-    judged = [Judged(filing.figure, filing.filed, mark)
+    judged = [Judged(filing.figure, filing.filed, mark, filing.tens)
               for filing, mark in zip(filings, marks_of(library, marked, filings))]
     return judged if len(judged) <= MOST_FIGURES else sorted(judged, key=lambda one: one.verdict == "agrees")
 

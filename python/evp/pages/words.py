@@ -1,6 +1,5 @@
 """Numbers and records in the words of a page."""
 
-from collections.abc import Iterable
 from fractions import Fraction
 
 from markupsafe import Markup
@@ -9,7 +8,7 @@ from evp import layout
 from evp.layout import CLASSES, FIELDS, canister_name, technology_name
 from evp.library import Band
 from evp.masses import POWERS, best_unit, rounded, shown
-from evp.wording import apart, counted
+from evp.wording import apart, counted, listed
 
 NARROW = "\u202f"
 CLASS_NAMES = {  # of many vehicles
@@ -126,9 +125,3 @@ def row_more(row: dict[str, int]) -> str:
     tank = "%s l" % tenths(row["tank"]) if row["tank"] else "%d l, by class" % CLASSES[row["class"]][1]
     return "%d %% with carburettor or return; %d %% of trips end hot; tank %s, %d %% full; %s trips a day of %d min" % (
         row["carburettor"], row["hot"], tank, row["fill"], FIELDS["trips"].shown(row["trips"]), row["minutes"])
-
-
-def listed(words: Iterable[str]) -> str:
-    """a, b and c."""
-    words = list(words)
-    return " and ".join([", ".join(words[:-1]), words[-1]]) if len(words) > 1 else "".join(words)

@@ -6,6 +6,7 @@ from pathlib import Path
 from driving import SAMPLES, BrowserTestCase, Keys
 
 from evp import layout, library, marking, sheet
+from evp.intake import filed_of
 from evp.pages.asks import ASKS
 from evp.pages.classes import page_class
 from evp.pages.days import page_day
@@ -33,7 +34,7 @@ def big_sheet() -> bytes:
 def class_of(sheets: dict[str, bytes], filed: str) -> str:
     lib = library.load()
     marked = {name: marking.marked(lib, data) for name, data in sheets.items()}
-    filings = marking.filed_of("sheet,row,mechanism,mass,unit\n" + filed, "filed.csv").filings
+    filings = filed_of("sheet,row,mechanism,mass,unit\n" + filed, "filed.csv").filings
     return page_class(marked, filings, marking.marks_of(lib, marked, filings))
 
 

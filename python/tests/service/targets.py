@@ -16,6 +16,7 @@ from evp.commands import SheetRefused
 from evp.desk.command import read_owners
 from evp.explain import explain
 from evp.files import InputError, text_of
+from evp.intake import filed_of
 from evp.layout import row_count
 from evp.library import Refusal
 from evp.pages import forms
@@ -44,7 +45,7 @@ def require_plain(text: str):
 
 def _filed(data: bytes):
     """A table of filed masses, read and marked."""
-    table = marking.filed_of(text_of(data, "filed.csv"), "filed.csv")
+    table = filed_of(data, "filed.csv", None, ["north.evp", "region.evp"])
     sheets = {"north.evp": marking.marked(LIBRARY, REGION), "region.evp": marking.marked(LIBRARY, b"EVP")}
     marks = marking.marks_of(LIBRARY, sheets, table.filings)
     for line in marking.summary(marks, len(sheets)):
