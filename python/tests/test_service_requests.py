@@ -183,7 +183,7 @@ class AnswerTest(RequestTestCase):
 
     def test_headers_of_every_answer(self):
         found = self.answers()
-        self.assertEqual(set(found), {200, 303, 400, 403, 404, 405, 409, 413, 421, 431, 501, 505})
+        self.assertEqual(set(found), {200, 303, 400, 403, 404, 405, 409, 411, 413, 421, 431, 501, 505})
         for answers in found.values():
             for answer in answers:
                 self.assertEqual(set(SAME) - set(headers_of(answer)), set(), answer[:300])
