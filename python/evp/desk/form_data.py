@@ -27,8 +27,8 @@ MOST_TYPE = 256  # characters of a Content-Type
 MOST_BOUNDARY = 70  # characters, as RFC 2046 has it
 SHORT = 8_192  # bytes, which are read without waiting for a turn
 QUOTED = re.compile(r'"(?:\\.|[^"\\])*"')
-# What a part is: words, quoted or not, and names in UTF-8 or ASCII. It takes one pass, and so does Werkzeug for what
-# matches; for a quotation mark that is never closed Werkzeug takes a tenth of a second, and a form has a thousand parts.
+# What a part is: words, quoted or not, and names in UTF-8 or ASCII. It is read in one pass, and so is what matches by
+# Werkzeug; for a quotation mark that is never closed that takes a tenth of a second, and a form has a thousand parts.
 DISPOSITION = re.compile(
     r'form-data(?:;[ \t]*(?:[A-Za-z]+=(?:"(?:\\.|[^"\\])*"|[^\s"*;]*)|'
     r"[A-Za-z]+\*=(?:utf-8|us-ascii)'[^\s\"*;]*))*;?[ \t]*", re.I)

@@ -7,7 +7,7 @@ import time
 import unittest
 
 from desk_support import HAS_MODULES, HOST, NO_MODULES, Desk
-from service_support import ServiceTestCase, connected, exchange, head_of, is_closed, leave, posted
+from service_support import ServiceTestCase, connected, exchange, head_of, is_closed, leave, posted, status_of
 
 HEAD = b"POST /class HTTP/1.1\r\nHost: 127.0.0.1:8765\r\n"
 SECONDS = 0.25  # of a processor that a head or a form may take; those below took 0.01 to 117 s before
@@ -96,7 +96,7 @@ class HostileTest(ServiceTestCase):
         with self.at_work(desk, within=5, people=2):
             for name, (head, status) in HEADS.items():
                 self.assertIn(b" %d " % status, exchange(desk.port, head)[:20], name)
-            for attack in (self.many_heads, self.blank_lines, self.upgrades, self.calls_and_reset, self.part_without_end):
+            for attack in (self.many_heads, self.blank_lines, self.upgrades, self.calls_and_reset, self.without_end):
                 attack(desk)
         self.wait_for(lambda: self.files(desk) <= before + 4, 15, "connections stay open")
         self.assertNotIn("failed", desk.said)
@@ -125,8 +125,12 @@ class HostileTest(ServiceTestCase):
     def upgrades(self, desk: Desk):
         """Nobody is led to another protocol."""
         for more in (("Connection: Upgrade", "Upgrade: websocket", "Sec-WebSocket-Key: dGhlIHNhbXBsZSBub25jZQ=="),
-                     ("Connection: Upgrade, HTTP2-Settings", "Upgrade: h2c", "HTTP2-Settings: AAMAAABkAARAAAAAAAIAAAAA")):
-            self.assertIn(b" 200 ", exchange(desk.port, head_of(desk.port, "/health", "GET", *more) + b"\x81\x85")[:20])
+                     ("Connection: Upgrade, HTTP2-Settings", "Upgrade: h2c", "HTTP2-Settings: AAMAAABk")):
+            with connected(desk.port) as connection:
+                connection.sendall(head_of(desk.port, "/health", "GET", *more))
+                self.assertEqual(status_of(connection), 200)
+                connection.sendall(b"\x81\x85\r\n\r\n")
+                self.assertEqual(status_of(connection), 400)
 
     def calls_and_reset(self, desk: Desk):
         """Calls sent ahead by who then resets: each is made once or not at all."""
@@ -138,7 +142,7 @@ class HostileTest(ServiceTestCase):
         kept = [line for line in desk.client(desk.links[0]).table("calls.csv") if line[0] == "8"]
         self.assertLessEqual(len(kept), 100)
 
-    def part_without_end(self, desk: Desk):
+    def without_end(self, desk: Desk):
         kind = "multipart/form-data; boundary=B"
         start = b'--B\r\nContent-Disposition: form-data; name="files"; filename="a.evp"\r\n'
         for body in (b"", b"--B", start, start + b"\r\n" + b"x" * 90_000, start + b"Content-Type: multipart/mixed; "
