@@ -44,8 +44,9 @@ class TimeTest(unittest.TestCase):
         from waitress.adjustments import Adjustments
 
         from evp.desk.channel import Parser
+        adjustments = Adjustments(max_request_header_size=32_768, clear_untrusted_proxy_headers=True)
         for name, (head, status) in HEADS.items():
-            parser, began = Parser(Adjustments(max_request_header_size=32_768)), time.process_time()
+            parser, began = Parser(adjustments), time.process_time()
             parser.received(head)
             taken = time.process_time() - began
             self.assertTrue(parser.completed, name)
@@ -91,12 +92,13 @@ class HostileTest(ServiceTestCase):
     """Over a connection, while participants work."""
 
     def test_while_participants_work(self):
-        desk = self.serve("--patience", 5)
+        desk = self.serve("--patience", 10)
         before = self.files(desk)
         with self.at_work(desk, within=5, people=2):
             for name, (head, status) in HEADS.items():
                 self.assertIn(b" %d " % status, exchange(desk.port, head)[:20], name)
-            for attack in (self.many_heads, self.blank_lines, self.upgrades, self.calls_and_reset, self.without_end):
+            for attack in (self.many_heads, self.blank_lines, self.upgrades, self.calls_and_reset, self.without_end,
+                           self.urgent_data):
                 attack(desk)
         self.wait_for(lambda: self.files(desk) <= before + 4, 15, "connections stay open")
         self.assertNotIn("failed", desk.said)
@@ -123,12 +125,12 @@ class HostileTest(ServiceTestCase):
                     pass
 
     def upgrades(self, desk: Desk):
-        """Nobody is led to another protocol."""
-        for more in (("Connection: Upgrade", "Upgrade: websocket", "Sec-WebSocket-Key: dGhlIHNhbXBsZSBub25jZQ=="),
-                     ("Connection: Upgrade, HTTP2-Settings", "Upgrade: h2c", "HTTP2-Settings: AAMAAABk")):
+        """Nobody is led to another protocol: a websocket is refused, and HTTP/2 is not begun."""
+        for status, *more in ((400, "Upgrade: websocket", "Sec-WebSocket-Key: dGhlIHNhbXBsZSBub25jZQ=="),
+                              (200, "Upgrade: h2c", "HTTP2-Settings: AAMAAABk")):
             with connected(desk.port) as connection:
-                connection.sendall(head_of(desk.port, "/health", "GET", *more))
-                self.assertEqual(status_of(connection), 200)
+                connection.sendall(head_of(desk.port, "/health", "GET", "Connection: Upgrade", *more))
+                self.assertEqual(status_of(connection), status)
                 connection.sendall(b"\x81\x85\r\n\r\n")
                 self.assertEqual(status_of(connection), 400)
 
@@ -150,13 +152,14 @@ class HostileTest(ServiceTestCase):
             answer = exchange(desk.port, posted(desk.port, "/class", body, kind, "Connection: close"))
             self.assertIn(b" 400 ", answer[:20], body[:100])
 
-    def test_urgent_data(self):
-        """A byte of urgent data ends its connection; else it would keep the server busy as long as it waits."""
-        desk = self.serve("--patience", 30)
+    def urgent_data(self, desk: Desk):
+        """A byte of it ends its connection, before the patience does: it would keep the server busy until then."""
         with connected(desk.port) as connection:
             connection.send(b"G")
+            began = time.monotonic()
             connection.send(b"!", socket.MSG_OOB)
-            self.assertTrue(is_closed(connection, 5))
+            self.assertTrue(is_closed(connection, 10))
+            self.assertLess(time.monotonic() - began, 8)
 
 
 if __name__ == "__main__":
