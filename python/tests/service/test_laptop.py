@@ -1,5 +1,5 @@
-"""A participant whose laptop is closed in the midst of a call, and a server that is killed and started again: the others
-work on, the call is made once, and the pages are what they were. docs/SERVER.md has the same walk with a browser."""
+"""A laptop is closed in the midst of a call, and the server killed and started again: the others work on, the call is
+made once, and the pages are what they were. docs/SERVER.md has the same walk with a browser."""
 
 import contextlib
 import unittest
