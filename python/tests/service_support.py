@@ -63,7 +63,7 @@ def exchange(port: int, request: bytes, timeout: float = 20) -> bytes:
 
 def asked(port: int, request: bytes) -> bytes:
     """The answer to one request, whose connection is then closed."""
-    return exchange(port, request.replace(b"\r\n\r\n", b"\r\nConnection: close\r\n\r\n", 1))
+    return exchange(port, request.replace(b"\r\n\r\n", b"\r\nConnection: close\r\n\r\n", 1), 60)
 
 
 def status_of(connection: socket.socket) -> int:
@@ -173,6 +173,11 @@ class ServiceTestCase(DeskTestCase):
         """Megabytes that the server has."""
         found = Path("/proc/%d/status" % desk.process.pid).read_text()
         return int(found.split("VmRSS:")[1].split()[0]) // 1_024
+
+    def processor(self, desk: Desk) -> float:
+        """Seconds of a processor that the server has used, whatever else runs on the machine."""
+        fields = Path("/proc/%d/stat" % desk.process.pid).read_text().rpartition(")")[2].split()
+        return (int(fields[11]) + int(fields[12])) / os.sysconf("SC_CLK_TCK")
 
     def files(self, desk: Desk) -> int:
         """Files and connections that the server has open."""

@@ -347,14 +347,14 @@ class TurnedAwayTest(LedgerTestCase):
         answer = raw(self.desk.port, head.replace(b"\r\n\r\n", b"\r\nExpect: 100-continue\r\n\r\n"))
         self.assertEqual(answer.split()[1], b"413")  # nobody is asked to go on
         chunked = head.replace(b"Content-Length: 10000000", b"Transfer-Encoding: chunked") + b"989680\r\n"
-        for start in (head, chunked):
+        for start, status in ((head, b"413"), (chunked, b"411")):
             with socket.create_connection((HOST, self.desk.port), 5) as sending:
                 with contextlib.suppress(OSError):  # the desk may be gone in the midst
                     sending.sendall(start + b"x" * 1_000_000)
                 self.assert_served("a body of 10 MB")
                 with contextlib.suppress(OSError):
                     sending.sendall(b"x" * 9_000_000)
-                self.assertEqual(sending.recv(100).split()[1], b"413")
+                self.assertEqual(sending.recv(100).split()[1], status)
         self.assertEqual(self.people[0].post(call="arrive", row=1, vehicles="1" + " " * 5_000).status, 413)
         self.assert_served()
 

@@ -126,12 +126,12 @@ class FormTest(RequestTestCase):
             "a header and no more": (b"--b\r\nContent-Disposition: form-data; " + b"x=;" * 1_300 + b"\r\n\r\n", 400),
         }
         for what, (body, wanted) in tries.items():
-            began = time.monotonic()
+            began = self.processor(self.desk)
             self.assertEqual(status(self.form("/class", body)), wanted, what)
-            self.assertLess(time.monotonic() - began, 3, what)
-        began = time.monotonic()
+            self.assertLess(self.processor(self.desk) - began, 2, what)
+        began = self.processor(self.desk)
         self.assertEqual(status(self.form("/class", b"a&" * (long // 2), "application/x-www-form-urlencoded")), 413)
-        self.assertLess(time.monotonic() - began, 3)
+        self.assertLess(self.processor(self.desk) - began, 2)
         self.assertLess(self.memory(self.desk), 200)
         self.assert_quiet()
 
@@ -183,7 +183,7 @@ class AnswerTest(RequestTestCase):
 
     def test_headers_of_every_answer(self):
         found = self.answers()
-        self.assertEqual(set(found), {200, 303, 400, 403, 404, 405, 409, 413, 421, 431, 501, 505})
+        self.assertEqual(set(found), {200, 303, 400, 403, 404, 405, 409, 411, 413, 421, 431, 501, 505})
         for answers in found.values():
             for answer in answers:
                 self.assertEqual(set(SAME) - set(headers_of(answer)), set(), answer[:300])

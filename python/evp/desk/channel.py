@@ -6,18 +6,23 @@ wait until its answer was taken. All limits count in seconds of a clock that nob
 """
 
 import contextlib
+import re
 import socket
 import struct
 import time
 
 from waitress.channel import HTTPChannel
-from waitress.parser import HTTPRequestParser
+from waitress.parser import HTTPRequestParser, ParsingError
 from waitress.task import ErrorTask
-from waitress.utilities import BadRequest, Error
+from waitress.utilities import BadRequest, Error, RequestHeaderFieldsTooLarge
 
 from evp.desk.security import HEADERS, WORDS
 
 VERSIONS = ("1.0", "1.1")
+MOST_LINES = 100  # headers of a request
+FIRST_LINE = re.compile(rb"[!-~]+ [!-~]+ HTTP/[0-9.]+[ \t]*")
+CONTROLS = re.compile(rb"[\x00-\x08\x0b\x0c\x0e-\x1f\x7f]|\r\n[ \t]")  # and a header that goes on in a second line
+BLANKS = b" " * 32  # in a row, more than anyone sends
 SLOWEST = 2_000  # bytes a second, at which an answer must be taken at least
 LATE = 0.2  # seconds, after which a request that waited for a thread is looked at: is its client still there?
 GRACE = 1.0  # seconds, in which a new connection or a slow reader is not yet one of the first to be closed
@@ -29,6 +34,15 @@ class VersionNotSupported(Error):
     reason = "HTTP Version Not Supported"
 
 
+class LengthRequired(Error):
+    code = 411
+    reason = "Length Required"
+
+
+class Rejected(Exception):
+    """A head that is not read, with the error that is answered."""
+
+
 class Parser(HTTPRequestParser):
     """A request. One of another version than VERSIONS is answered as an error, since its rules are not known."""
 
@@ -37,10 +51,27 @@ class Parser(HTTPRequestParser):
             consumed = super().received(data)
         except ValueError:  # an address that is none, as http://[
             consumed, self.error, self.completed = len(data), BadRequest(""), True
-        if self.headers_finished and not self.empty and self.error is None and self.version not in VERSIONS:
+        except Rejected as rejected:
+            consumed, self.error, self.completed = len(data), rejected.args[0], True
+        if self.empty:  # nothing but blank lines, which could be sent for ever
+            self.empty, self.error = False, BadRequest("")
+        if self.headers_finished and self.error is None and self.version not in VERSIONS:
             self.error = VersionNotSupported("") if self.version else BadRequest("")
             self.completed = True
         return consumed
+
+    def parse_header(self, header_plus: bytes) -> None:
+        """Reads the head. What waitress's patterns would reject is rejected before, since they take up to minutes for
+        it, in which nobody is served. A body must have a length: chunks of a byte each take seconds."""
+        first, _, others = header_plus.partition(b"\r\n")
+        if others.count(b"\r\n") > MOST_LINES:
+            raise Rejected(RequestHeaderFieldsTooLarge(""))
+        if FIRST_LINE.fullmatch(first) is None or CONTROLS.search(header_plus) or (
+                BLANKS in header_plus.replace(b"\t", b" ")):
+            raise ParsingError("")
+        super().parse_header(header_plus)
+        if self.chunked or "TRANSFER_ENCODING" in self.headers:
+            raise Rejected(LengthRequired(""))
 
 
 class Refused(ErrorTask):
@@ -171,6 +202,10 @@ class Channel(HTTPChannel):
             self.since = self.moved = time.monotonic()
             self.sent += before - self.total_outbufs_len
         return moved
+
+    def handle_expt(self) -> None:
+        """Urgent data, which HTTP has none of: it would be reported in every round, without a pause."""
+        self.handle_close()
 
     def handle_close(self) -> None:
         """Closes the connection, and the file of a request that is not whole."""

@@ -27,7 +27,11 @@ MOST_TYPE = 256  # characters of a Content-Type
 MOST_BOUNDARY = 70  # characters, as RFC 2046 has it
 SHORT = 8_192  # bytes, which are read without waiting for a turn
 QUOTED = re.compile(r'"(?:\\.|[^"\\])*"')
-CODEC = re.compile(r"[\w-]+\*=(?:utf-8|us-ascii)'", re.I)
+# What a part is: words, quoted or not, and names in UTF-8 or ASCII. It is read in one pass, and so is what matches by
+# Werkzeug; for a quotation mark that is never closed that takes a tenth of a second, and a form has a thousand parts.
+DISPOSITION = re.compile(
+    r'form-data(?:;[ \t]*(?:[A-Za-z]+=(?:"(?:\\.|[^"\\])*"|[^\s"*;]*)|'
+    r"[A-Za-z]+\*=(?:utf-8|us-ascii)'[^\s\"*;]*))*;?[ \t]*", re.I)
 Parsed = tuple[IO[bytes], MultiDict, MultiDict]
 
 
@@ -48,7 +52,7 @@ class Decoder(MultipartDecoder):
             raise BadRequest()
         headers = super()._parse_headers(data)
         check_type(headers.get("content-type", ""))
-        if "*" in CODEC.sub("", QUOTED.sub("", headers.get("content-disposition", ""))):
+        if DISPOSITION.fullmatch(headers.get("content-disposition", "")) is None:
             raise BadRequest()
         return headers
 

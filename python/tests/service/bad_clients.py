@@ -146,7 +146,7 @@ REQUESTS = {
     "garbage": Kind(_garbage, REFUSED | {505}),
     "TLS": Kind(_tls, REFUSED),
     "huge head": Kind(_huge_head, frozenset((400, 414, 431))),
-    "chunked body": Kind(_chunked, REFUSED | {200, 501}),
+    "chunked body": Kind(_chunked, frozenset((411,))),
     "bad multipart": Kind(_bad_part, REFUSED, 0.5),
     "bad lines": Kind(_bad_lines, REFUSED, 3),
     "many fields": Kind(_many_fields, REFUSED, 2),
