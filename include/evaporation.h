@@ -463,6 +463,57 @@ struct evp_verdict {
  * exact mass. They are not checked: a low above its high is a band without a mass. */
 struct evp_verdict evp_mark(struct evp_filed filed, uint64_t low, uint64_t high);
 
+/* Pointer forms: for hosts that pass no struct by value, each call that takes or answers one once more. A struct that
+ * the call takes is read where a pointer points. Of an answer of two numbers the first is returned, and the second is
+ * written where the last pointer points; a larger answer is written whole where `answer` points, and its first number
+ * is returned too. Where the last pointer is null, that is not written. All else is as the call has it, and what is
+ * written overlaps nothing else that is handed over. A host without structs hands over an array: every member has 8
+ * bytes. evp_number_text_to writes the sentence of evp_number_text and a zero byte, cut to text_bytes, and returns the
+ * length of the whole sentence, at most 127.
+ *
+ * They are thin C over the calls, c/pointer_forms.c, which is compiled into both libraries. They are tested against the
+ * calls, not proved. `python3 -m tools.make pointers` writes them. */
+uint64_t evp_check_sheet_to(const uint8_t *sheet, size_t sheet_bytes, uint64_t *place);
+uint64_t evp_report_to(const uint8_t *sheet, size_t sheet_bytes, uint64_t *words, size_t words_count, uint64_t *place);
+uint64_t evp_text_to(const uint8_t *sheet, size_t sheet_bytes, uint64_t *words, size_t words_count, uint8_t *text,
+                     size_t text_bytes, struct evp_text_check *answer);
+uint64_t evp_factor_to(const uint8_t *sheet, size_t sheet_bytes, uint64_t season, uint64_t row, uint64_t factor,
+                       struct evp_factor_band *answer);
+uint64_t evp_row_factors_to(const uint8_t *sheet, size_t sheet_bytes, uint64_t season, uint64_t row,
+                            struct evp_factor_bands *answer);
+uint64_t evp_factors_to(const uint8_t *sheet, size_t sheet_bytes, uint64_t *words, size_t words_count, uint64_t *place);
+uint64_t evp_report_seasons_to(const uint8_t *sheet, size_t sheet_bytes, uint64_t *words, size_t words_count,
+                               uint64_t *place);
+uint64_t evp_species_to(uint64_t total, uint64_t *milligrams, size_t count, uint64_t *place);
+uint64_t evp_species_of_to(const uint8_t *sheet, size_t sheet_bytes, uint64_t *words, size_t words_count,
+                           struct evp_composition *answer);
+uint64_t evp_cells_of_row_to(const struct evp_row_words *words, const struct evp_travel *travel,
+                             struct evp_row_cells *answer);
+uint64_t evp_add_cells_to(const struct evp_cell *a, const struct evp_cell *b, struct evp_cell_sum *answer);
+uint64_t evp_arrive_to(uint8_t *sheet, size_t sheet_bytes, uint64_t *words, size_t words_count, uint64_t row,
+                       uint64_t vehicles, uint64_t *place);
+uint64_t evp_depart_to(uint8_t *sheet, size_t sheet_bytes, uint64_t *words, size_t words_count, uint64_t row,
+                       uint64_t vehicles, uint64_t *place);
+uint64_t evp_pool_to(const uint8_t *first, size_t first_bytes, const uint8_t *second, size_t second_bytes,
+                     uint8_t *pool, size_t pool_bytes, struct evp_pool_check *answer);
+uint64_t evp_shared_open_to(const uint8_t *sheet, size_t sheet_bytes, const uint8_t *owners, size_t owners_count,
+                            uint64_t *words, size_t words_count, uint64_t *place);
+uint64_t evp_shared_arrive_to(uint8_t *sheet, size_t sheet_bytes, const uint8_t *owners, size_t owners_count,
+                              uint64_t *words, size_t words_count, uint64_t who, uint64_t row, uint64_t vehicles,
+                              uint64_t *place);
+uint64_t evp_shared_depart_to(uint8_t *sheet, size_t sheet_bytes, const uint8_t *owners, size_t owners_count,
+                              uint64_t *words, size_t words_count, uint64_t who, uint64_t row, uint64_t vehicles,
+                              uint64_t *place);
+uint64_t evp_shared_row_to(const uint8_t *sheet, size_t sheet_bytes, const uint8_t *owners, size_t owners_count,
+                           const uint64_t *words, size_t words_count, uint64_t who, uint64_t row,
+                           struct evp_row *answer);
+uint64_t evp_shared_totals_to(const uint8_t *sheet, size_t sheet_bytes, const uint8_t *owners, size_t owners_count,
+                              const uint64_t *words, size_t words_count, uint64_t who, struct evp_totals *answer);
+uint64_t evp_explain_to(const uint8_t *sheet, size_t sheet_bytes, struct evp_finding *answer);
+uint64_t evp_mark_to(const struct evp_filed *filed, uint64_t low, uint64_t high, uint64_t *off);
+size_t evp_number_text_to(uint64_t number, char *text, size_t text_bytes);
+/* End of the pointer forms. */
+
 /* Texts for what the calls take and answer, without a point at the end. */
 
 /* What a number says, in one sentence. */

@@ -40,7 +40,7 @@ class HeaderTest(unittest.TestCase):
 
     def test_calls(self):
         """Those that the header has itself are no calls."""
-        text = re.sub(r"/\*.*?\*/|^static inline .*?^\}$", "", HEADER, flags=re.S | re.M)
+        text = re.sub(r"/\*.*?\*/|^static inline .*?^\}$", "", header.FORMS.sub("", HEADER), flags=re.S | re.M)
         self.assertEqual(set(re.findall(r"\b(evp_\w+)\(", text)), set(library.CALLS))
 
     def test_types(self):

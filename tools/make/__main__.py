@@ -7,11 +7,11 @@ from collections.abc import Callable, Iterable
 from pathlib import Path
 
 from tools.command import MadeFile, add_command, described, report, run, write_or_check
-from tools.make import crate_table, pictures, samples, tables, times, values
+from tools.make import crate_table, pictures, pointers, samples, tables, times, values
 from tools.make.error import MakeError
 
 MODULES = {"values": values, "tables": tables, "samples": samples, "pictures": pictures,
-           "crates": crate_table}
+           "crates": crate_table, "pointers": pointers}
 
 
 def make(name: str, check: bool, files_of: Callable[[], Iterable[MadeFile]]) -> int:
