@@ -114,7 +114,8 @@ class InstallTest(unittest.TestCase):
         self.put("c/pointer_forms.c", FORMS.replace("evp_two_to", "evp_other_to"))
         self.assert_made(1)
         self.assertIn("T evp_other_to@@EVP_1.0", self.exports(self.prefix / "lib" / LIBRARY))
-        listed = subprocess.run(["nm", self.prefix / "lib/libevaporation.a"], capture_output=True, text=True, check=True)
+        library = self.prefix / "lib/libevaporation.a"
+        listed = subprocess.run(["nm", library], capture_output=True, text=True, check=True)
         self.assertEqual(set(re.findall(r" T (evp_\w+)", listed.stdout)), {"evp_one", "evp_two", "evp_other_to"})
 
     def test_library(self):
