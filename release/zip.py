@@ -9,7 +9,7 @@ import zipfile
 from pathlib import Path
 
 
-def pack(folder: Path, file: Path, seconds: int):
+def pack(folder: Path, file: Path, seconds: int) -> None:
     """Writes the file."""
     moment = time.gmtime(seconds)[:6]
     with zipfile.ZipFile(file, "w", zipfile.ZIP_DEFLATED, compresslevel=9) as packed:

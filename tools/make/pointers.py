@@ -8,11 +8,10 @@ written whole where `answer` points, and its first member is returned as well.
 evp_number_text, which the header itself has, gets a form that the libraries have.
 """
 
-import re
 import textwrap
 from collections.abc import Iterator
 
-from tools.check.header import FORMS, FORMS_START, HEADER, Function, Member, Source, header_source
+from tools.check.header import FORMS, FORMS_END, FORMS_START, HEADER, Function, Member, Source, header_source
 from tools.command import TOP, MadeFile
 from tools.make.error import MakeError
 
@@ -110,8 +109,7 @@ def header_made(text: str, source: Source) -> str:
     if len(FORMS.findall(text)) != 1:
         raise MakeError("%s has no section, or several, that starts with %r" % (HEADER, FORMS_START))
     lines = "".join(declaration(source, call, ");") + "\n" for call in forms(source)) + TEXT + ";\n"
-    ended = re.search(r"^/\* End of the pointer forms.*", text, re.M)[0]
-    return FORMS.sub(lambda _: ABOUT + lines + ended + "\n", text)
+    return FORMS.sub(lambda _: ABOUT + lines + FORMS_END, text)
 
 
 def file_made(source: Source) -> str:
