@@ -51,7 +51,8 @@ class ThunksTest(unittest.TestCase):
         self.assertEqual((set(listed), len(listed)), (calls | forms, len(calls | forms)))
 
     def test_image(self):
-        made = self.thunks.image(["evp_a", "evp_b"], "image.bin", "0000000000000020 T evp_b\n0000000000000010 t evp_a\n")
+        listed = "0000000000000020 T evp_b\n0000000000000010 t evp_a\n"
+        made = self.thunks.image(["evp_a", "evp_b"], "image.bin", listed)
         self.assertIn('    .incbin "image.bin"\n', made)
         self.assertIn("    .set sysv_evp_a, evaporation_image + 16\n", made)
         self.assertIn("    .set sysv_evp_b, evaporation_image + 32\n", made)
