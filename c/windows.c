@@ -1,10 +1,8 @@
 /* What is asked of evaporation.dll on Windows besides the tests of all calls: every call on the largest sheets of each
-   version, each in a fresh thread, which has only a page or two of its stack committed, and with a stack of
-   EVP_STACK_BYTES; and whether the registers that a function must keep on Windows (rbx, rbp, rdi, rsi, r12 to r15, xmm6
-   to xmm15) are kept. Prints the most stack that a call had committed; exit status 1 where something is not so.
-
-   usage: windows [over]   with `over` a page of a fresh stack is touched far below the others, as a function with a
-   large frame would that does not touch each page in turn: the program must then be ended by the system. */
+   version, each in a fresh thread with the usual stack and in one with EVP_STACK_BYTES, and whether the registers that a
+   function must keep on Windows (rbx, rbp, rdi, rsi, r12 to r15, xmm6 to xmm15) are kept. Prints how much of a fresh
+   stack is committed, by Windows a page or two, by Wine all of it (hence c/pages.c, on Linux); exit status 1 where a
+   call fails or a register is lost. */
 #include <windows.h>
 
 #include <inttypes.h>
@@ -50,10 +48,10 @@ struct task {
     int kept;             /* whether the registers were */
 };
 
-/* The lowest committed byte of the stack of this thread. */
-static char *lowest(void) { return ((const NT_TIB *)NtCurrentTeb())->StackLimit; }
-
-static size_t committed(void) { return (size_t)((char *)((const NT_TIB *)NtCurrentTeb())->StackBase - lowest()); }
+static size_t committed(void) {
+    const NT_TIB *block = (const NT_TIB *)NtCurrentTeb();
+    return (size_t)((const char *)block->StackBase - (const char *)block->StackLimit);
+}
 
 static DWORD WINAPI run(void *given) {
     struct task *task = given;
@@ -74,11 +72,6 @@ static void in_thread(LPTHREAD_START_ROUTINE start, void *task, size_t stack) {
     CloseHandle(thread);
 }
 
-static DWORD WINAPI over(void *given) {
-    *(volatile char *)(lowest() - 90000) = 1;
-    return given == NULL;
-}
-
 /* All calls, each in a fresh thread with such a stack; how many fail. */
 static int all_calls(size_t stack, size_t *least, size_t *most) {
     int failures = 0;
@@ -95,14 +88,20 @@ static int all_calls(size_t stack, size_t *least, size_t *most) {
     return failures;
 }
 
-int main(int count, char **arguments) {
+/* Loses a register: the test must see it. */
+static uint64_t loses_one(void) {
+    __asm__ volatile("movups %%xmm0, %%xmm9\n" : :);
+    return 0;
+}
+
+int main(void) {
+    struct task lost = {loses_one, 0, 0, 0, 0};
     size_t least = SIZE_MAX, most = 0;
     int failures = 0;
-    (void)arguments;
-    if (count > 1) {
-        in_thread(over, NULL, 0);
-        puts("a page far below the stack was touched, and nothing happened");
-        return 0;
+    in_thread(run, &lost, 0);
+    if (lost.kept) {
+        puts("a register that is lost goes unnoticed");
+        failures++;
     }
     for (unsigned version = 1; version <= 4; version++) {
         make_sheets(version, 12, version == 4 ? 1000 : 32);
