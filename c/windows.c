@@ -90,7 +90,7 @@ static int all_calls(size_t stack, size_t *least, size_t *most) {
 
 /* Loses a register: the test must see it. */
 static uint64_t loses_one(void) {
-    __asm__ volatile("movups %%xmm0, %%xmm9\n" : :);
+    __asm__ volatile("xorps %xmm9, %xmm9");
     return 0;
 }
 
