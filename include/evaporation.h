@@ -6,8 +6,9 @@
  * header.
  *
  * Link with -levaporation, or with what `pkg-config --cflags --libs evaporation` says. The static and the shared
- * library are made of one proved crate, for x86-64 Linux, and need only the C library. docs/LIBRARY.md has first
- * programs, every call with what it promises and costs, and what is proved; LICENSE says whose it is.
+ * library are made of one proved crate and of the pointer forms below, for x86-64 Linux, and need only the C library.
+ * docs/LIBRARY.md has first programs, every call with what it promises and costs, what is proved, and the library on
+ * Windows; LICENSE says whose it is.
  *
  * Sheets of four versions are read, and the sheet itself says which it is: in version 1 the parking is two lists of 24
  * counts, durations and end hours; in version 2 it is a grid of 576 counts, end hour 1 first, its 24 durations in a
