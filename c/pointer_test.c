@@ -119,9 +119,9 @@ static void structs(const uint64_t *word, uint64_t town) {
 static void rest(void) {
     char text[128];
     copies();
-    seen("null", evp_report_to(begin.sheet, bytes, one.words, EVP_WORDS, NULL) == EVP_ACCEPTED, 1);
+    seen("null", evp_report_to(begin.sheet, bytes, one.words, EVP_WORDS, NULL) == EVP_ACCEPTED
+         && evp_report(begin.sheet, bytes, other.words, EVP_WORDS).number == EVP_ACCEPTED, 1);
     seen("null", evp_explain_to(begin.sheet, bytes - 1, NULL) == EVP_REFUSED_LENGTH, 0);
-    copies();
     for (uint64_t number = 0; number < 40; number++) {
         const char *whole = evp_number_text(number);
         const size_t length = evp_number_text_to(number, text, sizeof text);
@@ -156,7 +156,7 @@ static void sheet_compared(void) {
 /* A byte changed at a time: many are refused, each by a number of its own. */
 static void changes_compared(void) {
     for (size_t i = 0; i < CHANGES; i++) {
-        const size_t at = i < 8 ? i : bytes - 1 - (i * 37) % 150;
+        const size_t at = i < 8 ? i : bytes - 1 - (i * 37) % (bytes < 150 ? bytes : 150);
         const uint8_t was = begin.sheet[at];
         begin.sheet[at] = (uint8_t)(was ^ (1u << i % 8) ^ (i % 3 == 0 ? 0xff : 0));
         copies();
