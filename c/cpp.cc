@@ -33,7 +33,7 @@ static Words report_of(const Bytes &sheet) {
 }
 
 static std::string text_of(const Bytes &sheet) {
-    Words words(EVP_REPORT_WORDS);
+    Words words(EVP_WORDS);
     std::vector<std::uint8_t> text(EVP_TEXT_BYTES);
     const evp_text_check answer =
         evp_text(sheet.data(), sheet.size(), words.data(), words.size(), text.data(), text.size());
@@ -63,14 +63,14 @@ static void expect_threads(const Bytes &sheet, const Words &words) {
 // An empty vector has a null pointer; a sheet without its last byte has another length than its head says.
 static void expect_refusals(Bytes sheet) {
     const Bytes nothing;
-    expect("nothing", evp_check_sheet(nothing.data(), nothing.size()).number == EVP_HEAD_SHORT);
+    expect("nothing", evp_check_sheet(nothing.data(), nothing.size()).number == EVP_REFUSED_HEAD_SHORT);
     sheet.pop_back();
     const evp_check check = evp_check_sheet(sheet.data(), sheet.size());
     const evp_finding finding = evp_explain(sheet.data(), sheet.size());
-    expect("a cut sheet", check.number == EVP_LENGTH && finding.number == EVP_LENGTH);
+    expect("a cut sheet", check.number == EVP_REFUSED_LENGTH && finding.number == EVP_REFUSED_LENGTH);
     expect("its length", finding.value + 1 == finding.least);
     expect("its words", std::string(evp_number_text(check.number)).find("length") != std::string::npos);
-    expect("its factor", evp_factor(sheet.data(), sheet.size(), 0, 0, 1).number == EVP_LENGTH);
+    expect("its factor", evp_factor(sheet.data(), sheet.size(), 0, 0, 1).number == EVP_REFUSED_LENGTH);
 }
 
 int main(int count, char **arguments) {
@@ -83,7 +83,7 @@ int main(int count, char **arguments) {
     const Words words = report_of(sheet);
     if (words.empty())
         return 1;
-    expect("the version", evp_library_version() == EVP_LIBRARY_VERSION);
+    expect("the version", evp_library_version() == EVP_HEADER_VERSION);
     expect("its words", words.size() == EVP_WORDS_OF((words.size() - EVP_WORDS_OF(0)) / 6));
     expect("a pool", EVP_POOL_BYTES(sheet.size(), sheet.size(), sheet[5]) > sheet.size());
     const std::string last = "\ntotal " + std::to_string(words[words.size() - 2]);

@@ -35,8 +35,9 @@ static void expect(const char *mode, const char *what, uint64_t found, uint64_t 
 
 /* Zeros of both signs, the largest sum, and a row with a low of 0. */
 static void expect_sums(const char *mode) {
-    const struct evp_cell plus = {EVP_BAND, 0.0, 7.0}, minus = {EVP_BAND, -0.0, 7.0}, one = {EVP_EXACT, 1.0, 1.0};
-    const struct evp_cell most = {EVP_EXACT, 9007199254740991.0, 9007199254740991.0};
+    const struct evp_cell plus = {EVP_CELL_BAND, 0.0, 7.0}, minus = {EVP_CELL_BAND, -0.0, 7.0};
+    const struct evp_cell one = {EVP_CELL_EXACT, 1.0, 1.0};
+    const struct evp_cell most = {EVP_CELL_EXACT, 9007199254740991.0, 9007199254740991.0};
     struct evp_cell_sum sum = evp_add_cells(plus, minus);
     expect(mode, "the number of 0 and -0", sum.number, EVP_ACCEPTED);
     expect(mode, "the low of 0 and -0", bits_of(sum.cell.low), bits_of(0.0));
@@ -54,12 +55,12 @@ static void expect_sums(const char *mode) {
 static void expect_fractions(const char *mode) {
     static const uint64_t fractions[] = {1, 0x000fffffffffffff, 0x8000000000000001, 0x0010000000000000,
                                          0x3fe0000000000000};
-    const struct evp_cell one = {EVP_EXACT, 1.0, 1.0};
+    const struct evp_cell one = {EVP_CELL_EXACT, 1.0, 1.0};
     for (size_t i = 0; i < sizeof fractions / sizeof fractions[0]; i++) {
         const double x = double_of(fractions[i]);
-        const struct evp_cell low = {EVP_BAND, x, 7.0}, mass = {EVP_EXACT, x, x};
-        expect(mode, "the number of a fraction as low", evp_add_cells(low, one).number, EVP_CELL);
-        expect(mode, "the number of a fraction as mass", evp_add_cells(mass, one).number, EVP_CELL);
+        const struct evp_cell low = {EVP_CELL_BAND, x, 7.0}, mass = {EVP_CELL_EXACT, x, x};
+        expect(mode, "the number of a fraction as low", evp_add_cells(low, one).number, EVP_REFUSED_CELL);
+        expect(mode, "the number of a fraction as mass", evp_add_cells(mass, one).number, EVP_REFUSED_CELL);
     }
 }
 

@@ -5,7 +5,7 @@
 #include "evaporation.h"
 
 static uint8_t sheet[EVP_SHEET_BYTES + 1]; /* one byte more than the longest: a longer file is refused by its length */
-static uint64_t words[EVP_REPORT_WORDS];
+static uint64_t words[EVP_WORDS];
 
 /* A low and a high in kg, cut down and up to whole grams, so that the exact mass stays between them. */
 static void print_band(const uint64_t *band) {
@@ -45,7 +45,7 @@ int main(int count, char **arguments) {
     }
     const size_t bytes = fread(sheet, 1, sizeof sheet, file);
     fclose(file);
-    const struct evp_check check = evp_report(sheet, bytes, words, EVP_REPORT_WORDS);
+    const struct evp_check check = evp_report(sheet, bytes, words, EVP_WORDS);
     if (check.number != EVP_ACCEPTED) {
         print_refusal(arguments[1], bytes, check);
         return 1;

@@ -18,13 +18,13 @@ enum { HANDLERS = 30, CHILDREN = 20, THREADS = 4, SECONDS = 20 };
 
 static uint8_t sheet[EVP_SHEET_BYTES];
 static size_t bytes, count;
-static uint64_t expected[EVP_REPORT_WORDS], inside[EVP_REPORT_WORDS];
+static uint64_t expected[EVP_WORDS], inside[EVP_WORDS];
 static volatile sig_atomic_t in_call, handled, interrupting, wrong;
 static atomic_int stop;
 
 /* Whether a report into these words is the expected one. */
 static int same(uint64_t *words) {
-    struct evp_check answer = evp_report(sheet, bytes, words, EVP_REPORT_WORDS);
+    struct evp_check answer = evp_report(sheet, bytes, words, EVP_WORDS);
     return answer.number == EVP_ACCEPTED && memcmp(words, expected, count * sizeof *words) == 0;
 }
 
@@ -37,7 +37,7 @@ static void on_alarm(int number) {
 
 /* Reports in handlers, most of which interrupt a report. */
 static void handlers(void) {
-    static uint64_t words[EVP_REPORT_WORDS];
+    static uint64_t words[EVP_WORDS];
     stack_t stack = {.ss_sp = malloc(EVP_STACK_BYTES), .ss_size = EVP_STACK_BYTES};
     struct sigaction action = {.sa_handler = on_alarm, .sa_flags = SA_ONSTACK | SA_RESTART};
     struct itimerval often = {{0, 3000}, {0, 3000}}, never = {{0, 0}, {0, 0}};
@@ -55,7 +55,7 @@ static void handlers(void) {
 }
 
 static void *reports(void *failed) {
-    uint64_t *words = calloc(EVP_REPORT_WORDS, sizeof *words);
+    uint64_t *words = calloc(EVP_WORDS, sizeof *words);
     while (words != NULL && !atomic_load(&stop))
         if (!same(words))
             *(int *)failed = 1;
@@ -65,7 +65,7 @@ static void *reports(void *failed) {
 
 /* Children that report while threads of their parent were in calls; the number of those that did as expected. */
 static int children(void) {
-    static uint64_t words[EVP_REPORT_WORDS];
+    static uint64_t words[EVP_WORDS];
     pthread_t threads[THREADS];
     int failed[THREADS] = {0}, held = 0, status;
     for (int i = 0; i < THREADS; i++)
@@ -92,7 +92,7 @@ int main(int argc, char **argv) {
     bytes = fread(sheet, 1, sizeof sheet, file);
     fclose(file);
     count = evp_report_words(sheet, bytes);
-    if (count == 0 || evp_report(sheet, bytes, expected, EVP_REPORT_WORDS).number != EVP_ACCEPTED)
+    if (count == 0 || evp_report(sheet, bytes, expected, EVP_WORDS).number != EVP_ACCEPTED)
         return fputs("host: the sheet is refused\n", stderr), 2;
     handlers();
     int held = children();

@@ -23,7 +23,7 @@
 static uint8_t sheet[EVP_SHEET_BYTES + 1];
 static size_t sheet_bytes;
 
-static uint64_t words[EVP_REPORT_WORDS], many[EVP_FACTOR_WORDS + 1];
+static uint64_t words[EVP_WORDS], many[EVP_FACTOR_WORDS + 1];
 
 /* What the words hold before a call. */
 #define UNTOUCHED UINT64_C(0x5555555555555555)
@@ -62,19 +62,19 @@ static uint64_t count_at(size_t at) {
 }
 
 static void clear_words(void) {
-    for (size_t i = 0; i < EVP_REPORT_WORDS; i++)
+    for (size_t i = 0; i < EVP_WORDS; i++)
         words[i] = UNTOUCHED;
 }
 
 /* The words from a place on keep what they had. */
 static void expect_untouched(size_t from) {
-    for (size_t i = from; i < EVP_REPORT_WORDS; i++)
+    for (size_t i = from; i < EVP_WORDS; i++)
         expect("a word beyond the report", words[i], UNTOUCHED);
 }
 
 static void expect_report(const uint64_t *expected, size_t count) {
     clear_words();
-    struct evp_check answer = evp_report(sheet, sheet_bytes, words, EVP_REPORT_WORDS);
+    struct evp_check answer = evp_report(sheet, sheet_bytes, words, EVP_WORDS);
     expect("number of the report", answer.number, EVP_ACCEPTED);
     expect("place of the report", answer.place, 0);
     expect("number of the check", evp_check_sheet(sheet, sheet_bytes).number, EVP_ACCEPTED);
@@ -115,7 +115,7 @@ static void expect_all_factors(size_t seasons, size_t rows) {
     struct evp_check answer;
     many[0] = many[count] = UNTOUCHED;
     answer = evp_factors(sheet, sheet_bytes, many, count - 1);
-    expect("all factors without room", answer.number, EVP_ROOM);
+    expect("all factors without room", answer.number, EVP_REFUSED_ROOM);
     expect("place without room", answer.place, 0);
     expect("a word without room", many[0], UNTOUCHED);
     answer = evp_factors(sheet, sheet_bytes, many, count + 1);
@@ -125,8 +125,8 @@ static void expect_all_factors(size_t seasons, size_t rows) {
     for (size_t season = 0; season < seasons; season++)
         for (size_t row = 0; row < rows; row++)
             expect_row_factors(season, row, many + 14 * (rows * season + row));
-    expect("factors of no season", evp_row_factors(sheet, sheet_bytes, seasons, 0).number, EVP_ABSENT);
-    expect("factors of no row", evp_row_factors(sheet, sheet_bytes, 0, rows).number, EVP_ABSENT);
+    expect("factors of no season", evp_row_factors(sheet, sheet_bytes, seasons, 0).number, EVP_REFUSED_ABSENT);
+    expect("factors of no row", evp_row_factors(sheet, sheet_bytes, 0, rows).number, EVP_REFUSED_ABSENT);
     expect("no band of no row", evp_row_factors(sheet, sheet_bytes, 0, rows).bands[13], 0);
 }
 
@@ -137,14 +137,14 @@ static void expect_seasons(size_t seasons, size_t rows) {
     struct evp_check answer;
     many[0] = many[count] = UNTOUCHED;
     answer = evp_report_seasons(sheet, sheet_bytes, many, count - 1);
-    expect("the seasons without room", answer.number, EVP_ROOM);
+    expect("the seasons without room", answer.number, EVP_REFUSED_ROOM);
     expect("place without room", answer.place, 0);
     expect("a word without room", many[0], UNTOUCHED);
     answer = evp_report_seasons(sheet, sheet_bytes, many, count + 1);
     expect("number of the seasons", answer.number, EVP_ACCEPTED);
     expect("place of the seasons", answer.place, 0);
     expect("a word beyond the seasons", many[count], UNTOUCHED);
-    expect("the year", evp_report(sheet, sheet_bytes, words, EVP_REPORT_WORDS).number, EVP_ACCEPTED);
+    expect("the year", evp_report(sheet, sheet_bytes, words, EVP_WORDS).number, EVP_ACCEPTED);
     for (size_t i = 0; i < one; i++) {
         uint64_t sum = 0;
         for (size_t season = 0; season < seasons; season++)
@@ -161,10 +161,11 @@ static void expect_many(size_t seasons, size_t rows) {
     expect_all_factors(seasons, rows);
     expect_seasons(seasons, rows);
     many[0] = UNTOUCHED;
-    expect("factors of a cut sheet", evp_factors(sheet, sheet_bytes - 1, many, EVP_FACTOR_WORDS).number, EVP_LENGTH);
+    expect("factors of a cut sheet", evp_factors(sheet, sheet_bytes - 1, many, EVP_FACTOR_WORDS).number,
+           EVP_REFUSED_LENGTH);
     expect("seasons of a cut sheet", evp_report_seasons(sheet, sheet_bytes - 1, many, EVP_FACTOR_WORDS).number,
-           EVP_LENGTH);
-    expect("row of a cut sheet", evp_row_factors(sheet, sheet_bytes - 1, 0, 0).number, EVP_LENGTH);
+           EVP_REFUSED_LENGTH);
+    expect("row of a cut sheet", evp_row_factors(sheet, sheet_bytes - 1, 0, 0).number, EVP_REFUSED_LENGTH);
     expect("a word of a cut sheet", many[0], UNTOUCHED);
 }
 
@@ -208,7 +209,7 @@ static void expect_text(const char *expected, size_t words_count, size_t text_by
     memset(text, 'U', sizeof text);
     struct evp_text_check answer = evp_text(sheet, sheet_bytes, words, words_count, text, text_bytes);
     expect("length of the text", answer.bytes, length);
-    expect("number of the text", answer.number, expected == short_text ? EVP_ROOM : EVP_ACCEPTED);
+    expect("number of the text", answer.number, expected == short_text ? EVP_REFUSED_ROOM : EVP_ACCEPTED);
     expect("place of the text", answer.place, 0);
     expect("the bytes of the text", (uint64_t)memcmp(text, expected, written), 0);
     for (size_t i = written; i < sizeof text; i++)
@@ -253,24 +254,26 @@ static void make_grid(void) {
 /* One word too few, a row that is not there, and a sheet that lacks its last byte. */
 static void expect_refusals(uint64_t rows) {
     clear_words();
-    expect("a report without room", evp_report(sheet, sheet_bytes, words, EVP_WORDS_OF(rows) - 1).number, EVP_ROOM);
-    expect("a factor of no row", evp_factor(sheet, sheet_bytes, 0, rows, 1).number, EVP_ABSENT);
-    expect("a factor of no number", evp_factor(sheet, sheet_bytes, 0, 0, 8).number, EVP_ABSENT);
-    expect("a report of a cut sheet", evp_report(sheet, sheet_bytes - 1, words, EVP_REPORT_WORDS).number, EVP_LENGTH);
-    expect("a factor of a cut sheet", evp_factor(sheet, sheet_bytes - 1, 0, 0, 1).number, EVP_LENGTH);
-    expect("a report of no byte", evp_report(sheet, 0, words, EVP_REPORT_WORDS).number, EVP_HEAD_SHORT);
+    expect("a report without room", evp_report(sheet, sheet_bytes, words, EVP_WORDS_OF(rows) - 1).number,
+           EVP_REFUSED_ROOM);
+    expect("a factor of no row", evp_factor(sheet, sheet_bytes, 0, rows, 1).number, EVP_REFUSED_ABSENT);
+    expect("a factor of no number", evp_factor(sheet, sheet_bytes, 0, 0, 8).number, EVP_REFUSED_ABSENT);
+    expect("a report of a cut sheet", evp_report(sheet, sheet_bytes - 1, words, EVP_WORDS).number,
+           EVP_REFUSED_LENGTH);
+    expect("a factor of a cut sheet", evp_factor(sheet, sheet_bytes - 1, 0, 0, 1).number, EVP_REFUSED_LENGTH);
+    expect("a report of no byte", evp_report(sheet, 0, words, EVP_WORDS).number, EVP_REFUSED_HEAD_SHORT);
     expect_untouched(0);
 }
 
 /* The calls on a sheet refuse it with this number and place. */
 static void expect_refused(const char *what, uint64_t number, uint64_t place) {
     clear_words();
-    struct evp_check answer = evp_report(sheet, sheet_bytes, words, EVP_REPORT_WORDS);
+    struct evp_check answer = evp_report(sheet, sheet_bytes, words, EVP_WORDS);
     struct evp_factor_band factor = evp_factor(sheet, sheet_bytes, 0, 0, 1);
     struct evp_factor_bands factors = evp_row_factors(sheet, sheet_bytes, 0, 0);
     struct evp_check check = evp_check_sheet(sheet, sheet_bytes);
-    struct evp_composition species = evp_species_of(sheet, sheet_bytes, words, EVP_REPORT_WORDS);
-    struct evp_text_check text = evp_text(sheet, sheet_bytes, words, EVP_REPORT_WORDS, NULL, 0);
+    struct evp_composition species = evp_species_of(sheet, sheet_bytes, words, EVP_WORDS);
+    struct evp_text_check text = evp_text(sheet, sheet_bytes, words, EVP_WORDS, NULL, 0);
     expect(what, answer.number, number);
     expect(what, answer.place, place);
     expect(what, check.number, number);
@@ -278,7 +281,7 @@ static void expect_refused(const char *what, uint64_t number, uint64_t place) {
     expect(what, species.number, number);
     expect(what, species.place, place);
     expect(what, species.total, 0);
-    for (size_t i = 0; i < EVP_SPECIES; i++)
+    for (size_t i = 0; i < EVP_SPECIES_COUNT; i++)
         expect(what, species.milligrams[i], 0);
     expect(what, text.number, number);
     expect(what, text.place, place);
@@ -289,10 +292,10 @@ static void expect_refused(const char *what, uint64_t number, uint64_t place) {
     expect(what, factors.place, place);
     for (size_t i = 0; i < 14; i++)
         expect(what, factors.bands[i], 0);
-    expect(what, evp_factors(sheet, sheet_bytes, words, EVP_REPORT_WORDS).number, number);
-    expect(what, evp_factors(sheet, sheet_bytes, words, EVP_REPORT_WORDS).place, place);
-    expect(what, evp_report_seasons(sheet, sheet_bytes, words, EVP_REPORT_WORDS).number, number);
-    expect(what, evp_report_seasons(sheet, sheet_bytes, words, EVP_REPORT_WORDS).place, place);
+    expect(what, evp_factors(sheet, sheet_bytes, words, EVP_WORDS).number, number);
+    expect(what, evp_factors(sheet, sheet_bytes, words, EVP_WORDS).place, place);
+    expect(what, evp_report_seasons(sheet, sheet_bytes, words, EVP_WORDS).number, number);
+    expect(what, evp_report_seasons(sheet, sheet_bytes, words, EVP_WORDS).place, place);
     expect_untouched(0);
 }
 
@@ -301,7 +304,7 @@ static void expect_place(size_t seasons_start) {
     const size_t second_row = seasons_start + 8 + 24, tank = second_row + 6;
     uint8_t kept = sheet[tank + 1];
     sheet[tank + 1] = 255;
-    expect_refused("a tank too large", EVP_TANK, second_row);
+    expect_refused("a tank too large", EVP_REFUSED_TANK, second_row);
     sheet[tank + 1] = kept;
 }
 
@@ -316,11 +319,11 @@ static void expect_row_count(uint64_t version, uint64_t number, uint64_t place) 
 /* With a grid: one of zeros, and other versions in the head; what follows reads another sheet. */
 static void expect_grid_refusals(void) {
     memset(sheet + 8, 0, EVP_GRID_END - 8);
-    expect_refused("a grid of zeros", EVP_GRID, 8);
+    expect_refused("a grid of zeros", EVP_REFUSED_GRID, 8);
     put_count(3, 1);
-    expect_refused("version 1 with a grid", EVP_LENGTH, 0);
+    expect_refused("version 1 with a grid", EVP_REFUSED_LENGTH, 0);
     put_count(3, 5);
-    expect_refused("version 5", EVP_VERSION, 3);
+    expect_refused("version 5", EVP_REFUSED_VERSION, 3);
 }
 
 /* The first row of the odometer's sample, 236,000 km, in its first season. */
@@ -334,17 +337,17 @@ static void expect_odometer(void) {
     expect_factors(0, odometer_factors);
     expect_many(2, count_at(6) % 256);
     put_count(mileage + 2, 0xffff);
-    expect_refused("too many kilometres", EVP_MILEAGE, first_row);
+    expect_refused("too many kilometres", EVP_REFUSED_MILEAGE, first_row);
     put_count(mileage + 2, 0);
     put_count(load, 1);
-    expect_refused("a mileage beside a load", EVP_MILEAGE, first_row);
+    expect_refused("a mileage beside a load", EVP_REFUSED_MILEAGE, first_row);
     put_count(load, 0);
     put_count(3, 2);
-    expect_refused("a mileage in version 2", EVP_ROW_ZEROS, first_row);
+    expect_refused("a mileage in version 2", EVP_REFUSED_ROW_ZEROS, first_row);
 }
 
 /* The species of the high total of the sample of Table 3-5, 44140793 mg, as tools/ has them. */
-static const uint64_t table_species[EVP_SPECIES] = {
+static const uint64_t table_species[EVP_SPECIES_COUNT] = {
     132409, 2273023, 1933174, 2586391, 4718179, 3407329,
     6187920, 11095886, 891555, 728250,
     22068, 123582, 317782, 525223, 52964, 463432,
@@ -354,7 +357,7 @@ static const uint64_t table_species[EVP_SPECIES] = {
 };
 
 /* What 10,001 mg are: each species has its share, in hundredths of a percent. */
-static const uint64_t shares[EVP_SPECIES] = {
+static const uint64_t shares[EVP_SPECIES_COUNT] = {
     30, 515, 438, 586, 1069, 772,
     1402, 2514, 202, 165,
     5, 28, 72, 119, 12, 105,
@@ -365,12 +368,12 @@ static const uint64_t shares[EVP_SPECIES] = {
 
 /* With a word to spare, which keeps what it had: the species, which add up to the total. */
 static void expect_species(uint64_t total, const uint64_t *expected) {
-    uint64_t milligrams[EVP_SPECIES + 1], sum = 0;
-    milligrams[EVP_SPECIES] = UNTOUCHED;
-    struct evp_check answer = evp_species(total, milligrams, EVP_SPECIES + 1);
+    uint64_t milligrams[EVP_SPECIES_COUNT + 1], sum = 0;
+    milligrams[EVP_SPECIES_COUNT] = UNTOUCHED;
+    struct evp_check answer = evp_species(total, milligrams, EVP_SPECIES_COUNT + 1);
     expect("number of the species", answer.number, EVP_ACCEPTED);
     expect("place of the species", answer.place, 0);
-    for (size_t i = 0; i < EVP_SPECIES; i++) {
+    for (size_t i = 0; i < EVP_SPECIES_COUNT; i++) {
         sum += milligrams[i];
         if (shares[i] == 0)
             expect(evp_species_names[i], milligrams[i], 0);
@@ -378,15 +381,15 @@ static void expect_species(uint64_t total, const uint64_t *expected) {
             expect(evp_species_names[i], milligrams[i], expected[i]);
     }
     expect("the sum of the species", sum, total);
-    expect("a word beyond the species", milligrams[EVP_SPECIES], UNTOUCHED);
+    expect("a word beyond the species", milligrams[EVP_SPECIES_COUNT], UNTOUCHED);
 }
 
 /* With a word too few, and with none. */
 static void expect_no_species(void) {
     clear_words();
-    for (size_t count = 0; count < EVP_SPECIES; count += EVP_SPECIES - 1) {
+    for (size_t count = 0; count < EVP_SPECIES_COUNT; count += EVP_SPECIES_COUNT - 1) {
         struct evp_check answer = evp_species(UINT64_MAX, words, count);
-        expect("species without room", answer.number, EVP_ROOM);
+        expect("species without room", answer.number, EVP_REFUSED_ROOM);
         expect("place of species without room", answer.place, 0);
     }
     expect_untouched(0);
@@ -399,13 +402,13 @@ static void expect_sheet_species(void) {
     expect("number of a sheet's species", found.number, EVP_ACCEPTED);
     expect("place of a sheet's species", found.place, 0);
     expect("total of a sheet's species", found.total, 44140793);
-    for (size_t i = 0; i < EVP_SPECIES; i++)
+    for (size_t i = 0; i < EVP_SPECIES_COUNT; i++)
         expect(evp_species_names[i], found.milligrams[i], table_species[i]);
     for (size_t i = 0; i < EVP_WORDS_OF(3); i++)
         expect("a word of the species' report", words[i], table_words[i]);
     expect_untouched(EVP_WORDS_OF(3));
     found = evp_species_of(sheet, sheet_bytes, words, EVP_WORDS_OF(3) - 1);
-    expect("a sheet's species without room", found.number, EVP_ROOM);
+    expect("a sheet's species without room", found.number, EVP_REFUSED_ROOM);
     expect("their total", found.total, 0);
 }
 
@@ -452,9 +455,9 @@ static void expect_no_cells(struct evp_row_words row, struct evp_travel travel, 
     struct evp_row_cells found = evp_cells_of_row(row, travel);
     expect("number of a refused row", found.number, number);
     expect("place of a refused row", found.place, 0);
-    expect_cell("urban cell of a refused row", found.urban, EVP_NONE, 0, 0);
-    expect_cell("rural cell of a refused row", found.rural, EVP_NONE, 0, 0);
-    expect_cell("highway cell of a refused row", found.highway, EVP_NONE, 0, 0);
+    expect_cell("urban cell of a refused row", found.urban, EVP_CELL_NONE, 0, 0);
+    expect_cell("rural cell of a refused row", found.rural, EVP_CELL_NONE, 0, 0);
+    expect_cell("highway cell of a refused row", found.highway, EVP_CELL_NONE, 0, 0);
 }
 
 /* What is neither 0 nor 1; as a bool 2 and 256 would count as no, or as yes, by their lowest bit or byte. */
@@ -464,40 +467,40 @@ static const uint64_t no_towns[] = {2, 3, 256, 257, UINT64_MAX};
 static void expect_row_cells(void) {
     struct evp_travel travel = {1, 6000, 4500, 3000, 60, 100};
     clear_words();
-    evp_report(sheet, sheet_bytes, words, EVP_REPORT_WORDS);
+    evp_report(sheet, sheet_bytes, words, EVP_WORDS);
     struct evp_row_words row = row_words(1);
     struct evp_row_cells town = evp_cells_of_row(row, travel);
     expect("number of a row", town.number, EVP_ACCEPTED);
     expect("place of a row", town.place, 0);
-    expect_cell("urban cell in town", town.urban, EVP_BAND, 12834493, 12834499);
-    expect_cell("rural cell in town", town.rural, EVP_BAND, 844988, 844990);
-    expect_cell("highway cell in town", town.highway, EVP_BAND, 501817, 501819);
+    expect_cell("urban cell in town", town.urban, EVP_CELL_BAND, 12834493, 12834499);
+    expect_cell("rural cell in town", town.rural, EVP_CELL_BAND, 844988, 844990);
+    expect_cell("highway cell in town", town.highway, EVP_CELL_BAND, 501817, 501819);
     travel.town = 0;
     struct evp_row_cells other = evp_cells_of_row(row, travel);
-    expect_cell("urban cell", other.urban, EVP_BAND, 819111, 819112);
-    expect_cell("rural cell", other.rural, EVP_BAND, 11845488, 11845493);
-    expect_cell("highway cell", other.highway, EVP_BAND, 1516699, 1516702);
+    expect_cell("urban cell", other.urban, EVP_CELL_BAND, 819111, 819112);
+    expect_cell("rural cell", other.rural, EVP_CELL_BAND, 11845488, 11845493);
+    expect_cell("highway cell", other.highway, EVP_CELL_BAND, 1516699, 1516702);
     struct evp_cell_sum sum = evp_add_cells(town.urban, other.urban);
     expect("number of a sum", sum.number, EVP_ACCEPTED);
-    expect_cell("sum of two cells", sum.cell, EVP_BAND, 13653604, 13653611);
+    expect_cell("sum of two cells", sum.cell, EVP_CELL_BAND, 13653604, 13653611);
     row.soak_low = row.soak_high + 1;
-    expect_no_cells(row, travel, EVP_CELL);
+    expect_no_cells(row, travel, EVP_REFUSED_CELL);
     travel.town = 2;
-    expect_no_cells(row, travel, EVP_TRAVEL);
+    expect_no_cells(row, travel, EVP_REFUSED_TRAVEL);
     row = row_words(1);
     for (size_t i = 0; i < sizeof no_towns / sizeof no_towns[0]; i++) {
         travel.town = no_towns[i];
-        expect_no_cells(row, travel, EVP_TRAVEL);
+        expect_no_cells(row, travel, EVP_REFUSED_TRAVEL);
     }
     travel.town = 1;
     travel.highway_speed = 0;
-    expect_no_cells(row, travel, EVP_TRAVEL);
+    expect_no_cells(row, travel, EVP_REFUSED_TRAVEL);
 }
 
 /* Beside an empty cell: refused, or given with this kind and these doubles. */
 static void expect_sum(const char *what, struct evp_cell cell, uint64_t number, uint64_t kind, double low,
                        double high) {
-    struct evp_cell_sum sum = evp_add_cells(cell, (struct evp_cell){EVP_EMPTY, NAN, NAN});
+    struct evp_cell_sum sum = evp_add_cells(cell, (struct evp_cell){EVP_CELL_EMPTY, NAN, NAN});
     expect(what, sum.number, number);
     expect(what, sum.place, 0);
     expect_cell(what, sum.cell, kind, low, high);
@@ -505,17 +508,18 @@ static void expect_sum(const char *what, struct evp_cell cell, uint64_t number, 
 
 static void expect_cells(void) {
     const double most = (double)EVP_MASS_LIMIT;
-    expect_sum("the largest mass", (struct evp_cell){EVP_EXACT, most, most}, EVP_ACCEPTED, EVP_EXACT, most, most);
-    expect_sum("a minus zero", (struct evp_cell){EVP_BAND, -0.0, 7}, EVP_ACCEPTED, EVP_BAND, 0.0, 7);
-    expect_sum("an exact 0", (struct evp_cell){EVP_EXACT, 0, 0}, EVP_CELL, EVP_NONE, 0, 0);
-    expect_sum("an exact NaN", (struct evp_cell){EVP_EXACT, NAN, NAN}, EVP_CELL, EVP_NONE, 0, 0);
-    expect_sum("two masses as one", (struct evp_cell){EVP_EXACT, 5, 6}, EVP_CELL, EVP_NONE, 0, 0);
-    expect_sum("an equal band", (struct evp_cell){EVP_BAND, 7, 7}, EVP_CELL, EVP_NONE, 0, 0);
-    expect_sum("an infinity", (struct evp_cell){EVP_BAND, 7, INFINITY}, EVP_CELL, EVP_NONE, 0, 0);
-    expect_sum("a fraction", (struct evp_cell){EVP_BAND, 0.5, 7}, EVP_CELL, EVP_NONE, 0, 0);
-    expect_sum("a kind that is none", (struct evp_cell){3, 5, 7}, EVP_CELL, EVP_NONE, 0, 0);
-    const struct evp_cell largest = {EVP_EXACT, most, most}, one = {EVP_EXACT, 1, 1};
-    expect("a sum of 2^53 + 1", evp_add_cells(largest, one).number, EVP_CELL);
+    expect_sum("the largest mass", (struct evp_cell){EVP_CELL_EXACT, most, most}, EVP_ACCEPTED, EVP_CELL_EXACT, most,
+               most);
+    expect_sum("a minus zero", (struct evp_cell){EVP_CELL_BAND, -0.0, 7}, EVP_ACCEPTED, EVP_CELL_BAND, 0.0, 7);
+    expect_sum("an exact 0", (struct evp_cell){EVP_CELL_EXACT, 0, 0}, EVP_REFUSED_CELL, EVP_CELL_NONE, 0, 0);
+    expect_sum("an exact NaN", (struct evp_cell){EVP_CELL_EXACT, NAN, NAN}, EVP_REFUSED_CELL, EVP_CELL_NONE, 0, 0);
+    expect_sum("two masses as one", (struct evp_cell){EVP_CELL_EXACT, 5, 6}, EVP_REFUSED_CELL, EVP_CELL_NONE, 0, 0);
+    expect_sum("an equal band", (struct evp_cell){EVP_CELL_BAND, 7, 7}, EVP_REFUSED_CELL, EVP_CELL_NONE, 0, 0);
+    expect_sum("an infinity", (struct evp_cell){EVP_CELL_BAND, 7, INFINITY}, EVP_REFUSED_CELL, EVP_CELL_NONE, 0, 0);
+    expect_sum("a fraction", (struct evp_cell){EVP_CELL_BAND, 0.5, 7}, EVP_REFUSED_CELL, EVP_CELL_NONE, 0, 0);
+    expect_sum("a kind that is none", (struct evp_cell){3, 5, 7}, EVP_REFUSED_CELL, EVP_CELL_NONE, 0, 0);
+    const struct evp_cell largest = {EVP_CELL_EXACT, most, most}, one = {EVP_CELL_EXACT, 1, 1};
+    expect("a sum of 2^53 + 1", evp_add_cells(largest, one).number, EVP_REFUSED_CELL);
 }
 
 /* The vehicles of a row behind one season. */
@@ -527,39 +531,40 @@ static uint64_t vehicles_of(size_t seasons_start, size_t row) {
 /* What a call on the ledger answers, with the vehicles that the row then has; its words are those of a fresh report. */
 static void expect_change(size_t seasons_start, struct evp_check answer, uint64_t number, size_t row,
                           uint64_t vehicles) {
-    static uint64_t fresh[EVP_REPORT_WORDS];
+    static uint64_t fresh[EVP_WORDS];
     expect("number of a change", answer.number, number);
     expect("place of a change", answer.place, 0);
     expect("vehicles of the row", vehicles_of(seasons_start, row), vehicles);
-    for (size_t i = 0; i < EVP_REPORT_WORDS; i++)
+    for (size_t i = 0; i < EVP_WORDS; i++)
         fresh[i] = UNTOUCHED;
-    expect("number of the fresh report", evp_report(sheet, sheet_bytes, fresh, EVP_REPORT_WORDS).number, EVP_ACCEPTED);
-    for (size_t i = 0; i < EVP_REPORT_WORDS; i++)
+    expect("number of the fresh report", evp_report(sheet, sheet_bytes, fresh, EVP_WORDS).number, EVP_ACCEPTED);
+    for (size_t i = 0; i < EVP_WORDS; i++)
         expect("a word of the ledger", words[i], fresh[i]);
 }
 
 static struct evp_check arrive(uint64_t row, uint64_t vehicles) {
-    return evp_arrive(sheet, sheet_bytes, words, EVP_REPORT_WORDS, row, vehicles);
+    return evp_arrive(sheet, sheet_bytes, words, EVP_WORDS, row, vehicles);
 }
 
 static struct evp_check depart(uint64_t row, uint64_t vehicles) {
-    return evp_depart(sheet, sheet_bytes, words, EVP_REPORT_WORDS, row, vehicles);
+    return evp_depart(sheet, sheet_bytes, words, EVP_WORDS, row, vehicles);
 }
 
 /* Three rows of 1,000 vehicles: some arrive and depart, some are refused, and at last all are as they were. */
 static void expect_ledger(size_t seasons_start) {
     clear_words();
-    expect("opening the ledger", evp_report(sheet, sheet_bytes, words, EVP_REPORT_WORDS).number, EVP_ACCEPTED);
+    expect("opening the ledger", evp_report(sheet, sheet_bytes, words, EVP_WORDS).number, EVP_ACCEPTED);
     expect_change(seasons_start, arrive(0, 250), EVP_ACCEPTED, 0, 1250);
     expect_change(seasons_start, depart(2, 1000), EVP_ACCEPTED, 2, 0);
-    expect_change(seasons_start, depart(2, 1), EVP_COUNT, 2, 0);
-    expect_change(seasons_start, arrive(3, 1), EVP_COUNT, 2, 0);
-    expect_change(seasons_start, arrive(1, 9999001), EVP_COUNT, 1, 1000);
-    expect_change(seasons_start, arrive(1, UINT64_MAX), EVP_COUNT, 1, 1000);
+    expect_change(seasons_start, depart(2, 1), EVP_REFUSED_COUNT, 2, 0);
+    expect_change(seasons_start, arrive(3, 1), EVP_REFUSED_COUNT, 2, 0);
+    expect_change(seasons_start, arrive(1, 9999001), EVP_REFUSED_COUNT, 1, 1000);
+    expect_change(seasons_start, arrive(1, UINT64_MAX), EVP_REFUSED_COUNT, 1, 1000);
     expect_change(seasons_start, arrive(1, 9999000), EVP_ACCEPTED, 1, 10000000);
-    expect("a ledger without room", evp_arrive(sheet, sheet_bytes, words, EVP_WORDS_OF(3) - 1, 1, 1).number, EVP_ROOM);
-    expect("a ledger of a cut sheet", evp_depart(sheet, sheet_bytes - 1, words, EVP_REPORT_WORDS, 1, 1).number,
-           EVP_LENGTH);
+    expect("a ledger without room", evp_arrive(sheet, sheet_bytes, words, EVP_WORDS_OF(3) - 1, 1, 1).number,
+           EVP_REFUSED_ROOM);
+    expect("a ledger of a cut sheet", evp_depart(sheet, sheet_bytes - 1, words, EVP_WORDS, 1, 1).number,
+           EVP_REFUSED_LENGTH);
     expect_change(seasons_start, depart(1, 9999000), EVP_ACCEPTED, 1, 1000);
     expect_change(seasons_start, depart(0, 250), EVP_ACCEPTED, 0, 1000);
     expect_change(seasons_start, arrive(2, 1000), EVP_ACCEPTED, 2, 1000);
@@ -593,18 +598,18 @@ static void expect_pools(void) {
     expect("length of the pool", EVP_POOL_BYTES(first_bytes, second_bytes, first[5]), pooled_bytes);
     expect_pool(sizeof pool, EVP_ACCEPTED, 0, 0, pooled_bytes);
     expect_pool(pooled_bytes, EVP_ACCEPTED, 0, 0, pooled_bytes);
-    expect_pool(pooled_bytes - 1, EVP_ROOM, 0, EVP_POOLED, 0);
+    expect_pool(pooled_bytes - 1, EVP_REFUSED_ROOM, 0, EVP_SHEET_POOLED, 0);
     second[3] = 3;
-    expect_pool(sizeof pool, EVP_VERSION, 3, EVP_SECOND, 0);
+    expect_pool(sizeof pool, EVP_REFUSED_VERSION, 3, EVP_SHEET_SECOND, 0);
     first[0] = 'e';
-    expect_pool(sizeof pool, EVP_MARK, 0, EVP_FIRST, 0);
+    expect_pool(sizeof pool, EVP_REFUSED_MARK, 0, EVP_SHEET_FIRST, 0);
     first[0] = 'E';
     second[3] = 4;
     second[season] ^= 1;
-    expect_pool(0, EVP_DIFFER, 0, EVP_POOLED, 0);
+    expect_pool(0, EVP_REFUSED_DIFFER, 0, EVP_SHEET_POOLED, 0);
     second[season] ^= 1;
     second[7] = 4;
-    expect_pool(sizeof pool, EVP_ROWS, 6, EVP_SECOND, 0);
+    expect_pool(sizeof pool, EVP_REFUSED_ROWS, 6, EVP_SHEET_SECOND, 0);
     second[7] = 0;
 }
 
@@ -617,20 +622,20 @@ static void expect_answer(const char *what, struct evp_check answer, uint64_t nu
 }
 
 static struct evp_check shared_open(const uint8_t *who, size_t n) {
-    return evp_shared_open(sheet, sheet_bytes, who, n, words, EVP_REPORT_WORDS);
+    return evp_shared_open(sheet, sheet_bytes, who, n, words, EVP_WORDS);
 }
 
 static struct evp_check shared_arrive(uint64_t who, uint64_t row, uint64_t vehicles) {
-    return evp_shared_arrive(sheet, sheet_bytes, owners, 3, words, EVP_REPORT_WORDS, who, row, vehicles);
+    return evp_shared_arrive(sheet, sheet_bytes, owners, 3, words, EVP_WORDS, who, row, vehicles);
 }
 
 static struct evp_check shared_depart(uint64_t who, uint64_t row, uint64_t vehicles) {
-    return evp_shared_depart(sheet, sheet_bytes, owners, 3, words, EVP_REPORT_WORDS, who, row, vehicles);
+    return evp_shared_depart(sheet, sheet_bytes, owners, 3, words, EVP_WORDS, who, row, vehicles);
 }
 
 /* A read of a row: its count and its words in the buffer, or a number and zeros. */
 static void expect_row(uint64_t who, uint64_t row, uint64_t number, uint64_t count) {
-    struct evp_row answer = evp_shared_row(sheet, sheet_bytes, owners, 3, words, EVP_REPORT_WORDS, who, row);
+    struct evp_row answer = evp_shared_row(sheet, sheet_bytes, owners, 3, words, EVP_WORDS, who, row);
     expect("number of a row", answer.number, number);
     expect("place of a row", answer.place, 0);
     expect("count of a row", answer.count, count);
@@ -639,7 +644,7 @@ static void expect_row(uint64_t who, uint64_t row, uint64_t number, uint64_t cou
 }
 
 static void expect_totals(uint64_t who, uint64_t number) {
-    struct evp_totals answer = evp_shared_totals(sheet, sheet_bytes, owners, 3, words, EVP_REPORT_WORDS, who);
+    struct evp_totals answer = evp_shared_totals(sheet, sheet_bytes, owners, 3, words, EVP_WORDS, who);
     expect("number of the totals", answer.number, number);
     expect("place of the totals", answer.place, 0);
     for (size_t m = 0; m < 26; m++)
@@ -651,25 +656,25 @@ static void expect_shared(size_t seasons_start) {
     const size_t first_row = seasons_start + 8;
     const uint8_t unowned[3] = {1, 2, 9};
     clear_words();
-    expect_answer("an opening with an owner too few", shared_open(owners, 2), EVP_SHARE, first_row + 48);
-    expect_answer("an opening with owner 9", shared_open(unowned, 3), EVP_SHARE, first_row + 48);
+    expect_answer("an opening with an owner too few", shared_open(owners, 2), EVP_REFUSED_SHARE, first_row + 48);
+    expect_answer("an opening with owner 9", shared_open(unowned, 3), EVP_REFUSED_SHARE, first_row + 48);
     expect_untouched(0);
     expect_answer("an opening", shared_open(owners, 3), EVP_ACCEPTED, 0);
     expect_row(1, 0, EVP_ACCEPTED, 1000);
-    expect_row(1, 1, EVP_RIGHT, 0);
-    expect_row(1, 3, EVP_RIGHT, 0);
-    expect_row(9, 0, EVP_RIGHT, 0);
+    expect_row(1, 1, EVP_REFUSED_RIGHT, 0);
+    expect_row(1, 3, EVP_REFUSED_RIGHT, 0);
+    expect_row(9, 0, EVP_REFUSED_RIGHT, 0);
     expect_row(0, 1, EVP_ACCEPTED, 1000);
-    expect_row(0, 3, EVP_COUNT, 0);
+    expect_row(0, 3, EVP_REFUSED_COUNT, 0);
     expect_totals(0, EVP_ACCEPTED);
-    expect_totals(1, EVP_RIGHT);
+    expect_totals(1, EVP_REFUSED_RIGHT);
     expect_answer("an arrival at one's own row", shared_arrive(1, 0, 9998000), EVP_ACCEPTED, 0);
-    expect_answer("an arrival past the participant's", shared_arrive(1, 2, 1), EVP_SHARE, 0);
-    expect_answer("an arrival past the row's", shared_arrive(1, 2, 10000000), EVP_COUNT, 0);
-    expect_answer("an arrival at another's row", shared_arrive(2, 0, 1), EVP_RIGHT, 0);
-    expect_answer("an arrival of the marker", shared_arrive(0, 0, 1), EVP_RIGHT, 0);
-    expect_answer("a departure from an absent row", shared_depart(2, 3, 1), EVP_RIGHT, 0);
-    expect_answer("a departure larger than the count", shared_depart(2, 1, 1001), EVP_COUNT, 0);
+    expect_answer("an arrival past the participant's", shared_arrive(1, 2, 1), EVP_REFUSED_SHARE, 0);
+    expect_answer("an arrival past the row's", shared_arrive(1, 2, 10000000), EVP_REFUSED_COUNT, 0);
+    expect_answer("an arrival at another's row", shared_arrive(2, 0, 1), EVP_REFUSED_RIGHT, 0);
+    expect_answer("an arrival of the marker", shared_arrive(0, 0, 1), EVP_REFUSED_RIGHT, 0);
+    expect_answer("a departure from an absent row", shared_depart(2, 3, 1), EVP_REFUSED_RIGHT, 0);
+    expect_answer("a departure larger than the count", shared_depart(2, 1, 1001), EVP_REFUSED_COUNT, 0);
     expect_row(1, 0, EVP_ACCEPTED, 9999000);
     expect_row(1, 2, EVP_ACCEPTED, 1000);
     expect_answer("a departure", shared_depart(1, 0, 9998000), EVP_ACCEPTED, 0);
@@ -693,13 +698,14 @@ static void expect_findings(void) {
     const size_t row = EVP_LISTS_END + 8 * 1 + 24 * 2;
     expect_finding("a sheet that passes", (struct evp_finding){0});
     sheet[row + 5] = 101;
-    expect_finding("a fill level", (struct evp_finding){EVP_PERCENT, row, 3, 2, 0, row + 5, 1, 101, 0, 100});
+    expect_finding("a fill level", (struct evp_finding){EVP_REFUSED_PERCENT, row, 3, 2, 0, row + 5, 1, 101, 0, 100});
     put_count(EVP_LISTS_END + 2, 65536 - 301);
     expect_finding("a lowest temperature",
-                   (struct evp_finding){EVP_TEMPERATURES, EVP_LISTS_END, 1, 0, 0, EVP_LISTS_END + 2, 2, 32768 - 301,
-                                        32768 - 300, 32768 + 500});
+                   (struct evp_finding){EVP_REFUSED_TEMPERATURES, EVP_LISTS_END, 1, 0, 0, EVP_LISTS_END + 2, 2,
+                                        32768 - 301, 32768 - 300, 32768 + 500});
     sheet_bytes = 7;
-    expect_finding("seven bytes", (struct evp_finding){EVP_HEAD_SHORT, 0, 1, 0, 0, 0, 0, 7, 8, EVP_SHEET_BYTES});
+    expect_finding("seven bytes",
+                   (struct evp_finding){EVP_REFUSED_HEAD_SHORT, 0, 1, 0, 0, 0, 0, 7, 8, EVP_SHEET_BYTES});
 }
 
 static void expect_mark(uint64_t digits, uint64_t places, uint64_t unit, uint64_t kind, uint64_t off) {
@@ -710,14 +716,14 @@ static void expect_mark(uint64_t digits, uint64_t places, uint64_t unit, uint64_
 
 /* Filed for the grand total of the second sample, 44,140,776 to 44,140,793 mg. */
 static void expect_marks(void) {
-    expect_mark(4414, 2, EVP_KILOGRAM, EVP_AGREES, 0);
-    expect_mark(44140785, 3, EVP_GRAM, EVP_FITS, 0);
-    expect_mark(441, 1, EVP_KILOGRAM, EVP_AGREES, 0);
-    expect_mark(44, 3, EVP_TONNE, EVP_AGREES, 0);
-    expect_mark(44130, 0, EVP_GRAM, EVP_LOW, 10276);
-    expect_mark(4415, 2, EVP_KILOGRAM, EVP_HIGH, 4207);
-    expect_mark(4414, 2, 4, EVP_UNREADABLE, 0);
-    expect_mark(1, 13, EVP_KILOGRAM, EVP_UNREADABLE, 0);
+    expect_mark(4414, 2, EVP_UNIT_KILOGRAM, EVP_VERDICT_AGREES, 0);
+    expect_mark(44140785, 3, EVP_UNIT_GRAM, EVP_VERDICT_FITS, 0);
+    expect_mark(441, 1, EVP_UNIT_KILOGRAM, EVP_VERDICT_AGREES, 0);
+    expect_mark(44, 3, EVP_UNIT_TONNE, EVP_VERDICT_AGREES, 0);
+    expect_mark(44130, 0, EVP_UNIT_GRAM, EVP_VERDICT_LOW, 10276);
+    expect_mark(4415, 2, EVP_UNIT_KILOGRAM, EVP_VERDICT_HIGH, 4207);
+    expect_mark(4414, 2, 4, EVP_VERDICT_UNREADABLE, 0);
+    expect_mark(1, 13, EVP_UNIT_KILOGRAM, EVP_VERDICT_UNREADABLE, 0);
 }
 
 /* Nothing at all, and one buffer after the other that has no byte or word: a null pointer is served as any other. */
@@ -725,60 +731,63 @@ static void expect_nulls(void) {
     const struct evp_pool_check none = evp_pool(NULL, 0, NULL, 0, NULL, 0);
     const struct evp_pool_check second_none = evp_pool(first, first_bytes, NULL, 0, pool, sizeof pool);
     clear_words();
-    expect_answer("a check of nothing", evp_check_sheet(NULL, 0), EVP_HEAD_SHORT, 0);
+    expect_answer("a check of nothing", evp_check_sheet(NULL, 0), EVP_REFUSED_HEAD_SHORT, 0);
     expect("the words of nothing", evp_report_words(NULL, 0), 0);
-    expect_answer("a report of nothing", evp_report(NULL, 0, NULL, 0), EVP_HEAD_SHORT, 0);
-    expect_answer("a report in nothing", evp_report(sheet, sheet_bytes, NULL, 0), EVP_ROOM, 0);
-    expect("a text of nothing", evp_text(NULL, 0, NULL, 0, NULL, 0).number, EVP_HEAD_SHORT);
+    expect_answer("a report of nothing", evp_report(NULL, 0, NULL, 0), EVP_REFUSED_HEAD_SHORT, 0);
+    expect_answer("a report in nothing", evp_report(sheet, sheet_bytes, NULL, 0), EVP_REFUSED_ROOM, 0);
+    expect("a text of nothing", evp_text(NULL, 0, NULL, 0, NULL, 0).number, EVP_REFUSED_HEAD_SHORT);
     expect("its length", evp_text(NULL, 0, NULL, 0, NULL, 0).bytes, strlen("refused 1 at 0\n"));
-    expect("a text without words", evp_text(sheet, sheet_bytes, NULL, 0, NULL, 0).number, EVP_ROOM);
-    expect("a text in nothing", evp_text(sheet, sheet_bytes, words, EVP_REPORT_WORDS, NULL, 0).number, EVP_ACCEPTED);
-    expect("a factor of nothing", evp_factor(NULL, 0, 0, 0, 1).number, EVP_HEAD_SHORT);
-    expect("a row's factors of nothing", evp_row_factors(NULL, 0, 0, 0).number, EVP_HEAD_SHORT);
-    expect_answer("all factors of nothing", evp_factors(NULL, 0, NULL, 0), EVP_HEAD_SHORT, 0);
-    expect_answer("all factors in nothing", evp_factors(sheet, sheet_bytes, NULL, 0), EVP_ROOM, 0);
-    expect_answer("the seasons of nothing", evp_report_seasons(NULL, 0, NULL, 0), EVP_HEAD_SHORT, 0);
-    expect_answer("the seasons in nothing", evp_report_seasons(sheet, sheet_bytes, NULL, 0), EVP_ROOM, 0);
-    expect_answer("species in nothing", evp_species(1, NULL, 0), EVP_ROOM, 0);
-    expect("the species of nothing", evp_species_of(NULL, 0, NULL, 0).number, EVP_HEAD_SHORT);
-    expect("the species without words", evp_species_of(sheet, sheet_bytes, NULL, 0).number, EVP_ROOM);
-    expect_answer("an arrival at nothing", evp_arrive(NULL, 0, NULL, 0, 0, 1), EVP_HEAD_SHORT, 0);
-    expect_answer("an arrival without words", evp_arrive(sheet, sheet_bytes, NULL, 0, 0, 1), EVP_ROOM, 0);
-    expect_answer("a departure from nothing", evp_depart(NULL, 0, NULL, 0, 0, 1), EVP_HEAD_SHORT, 0);
-    expect("a pool of nothing", none.number, EVP_HEAD_SHORT);
-    expect("which sheet of it", none.sheet, EVP_FIRST);
-    expect("a pool with nothing", second_none.number, EVP_HEAD_SHORT);
-    expect("which sheet of that", second_none.sheet, EVP_SECOND);
-    expect("a pool in nothing", evp_pool(first, first_bytes, second, second_bytes, NULL, 0).number, EVP_ROOM);
-    expect("why nothing is refused", evp_explain(NULL, 0).number, EVP_HEAD_SHORT);
+    expect("a text without words", evp_text(sheet, sheet_bytes, NULL, 0, NULL, 0).number, EVP_REFUSED_ROOM);
+    expect("a text in nothing", evp_text(sheet, sheet_bytes, words, EVP_WORDS, NULL, 0).number, EVP_ACCEPTED);
+    expect("a factor of nothing", evp_factor(NULL, 0, 0, 0, 1).number, EVP_REFUSED_HEAD_SHORT);
+    expect("a row's factors of nothing", evp_row_factors(NULL, 0, 0, 0).number, EVP_REFUSED_HEAD_SHORT);
+    expect_answer("all factors of nothing", evp_factors(NULL, 0, NULL, 0), EVP_REFUSED_HEAD_SHORT, 0);
+    expect_answer("all factors in nothing", evp_factors(sheet, sheet_bytes, NULL, 0), EVP_REFUSED_ROOM, 0);
+    expect_answer("the seasons of nothing", evp_report_seasons(NULL, 0, NULL, 0), EVP_REFUSED_HEAD_SHORT, 0);
+    expect_answer("the seasons in nothing", evp_report_seasons(sheet, sheet_bytes, NULL, 0), EVP_REFUSED_ROOM, 0);
+    expect_answer("species in nothing", evp_species(1, NULL, 0), EVP_REFUSED_ROOM, 0);
+    expect("the species of nothing", evp_species_of(NULL, 0, NULL, 0).number, EVP_REFUSED_HEAD_SHORT);
+    expect("the species without words", evp_species_of(sheet, sheet_bytes, NULL, 0).number, EVP_REFUSED_ROOM);
+    expect_answer("an arrival at nothing", evp_arrive(NULL, 0, NULL, 0, 0, 1), EVP_REFUSED_HEAD_SHORT, 0);
+    expect_answer("an arrival without words", evp_arrive(sheet, sheet_bytes, NULL, 0, 0, 1), EVP_REFUSED_ROOM, 0);
+    expect_answer("a departure from nothing", evp_depart(NULL, 0, NULL, 0, 0, 1), EVP_REFUSED_HEAD_SHORT, 0);
+    expect("a pool of nothing", none.number, EVP_REFUSED_HEAD_SHORT);
+    expect("which sheet of it", none.sheet, EVP_SHEET_FIRST);
+    expect("a pool with nothing", second_none.number, EVP_REFUSED_HEAD_SHORT);
+    expect("which sheet of that", second_none.sheet, EVP_SHEET_SECOND);
+    expect("a pool in nothing", evp_pool(first, first_bytes, second, second_bytes, NULL, 0).number, EVP_REFUSED_ROOM);
+    expect("why nothing is refused", evp_explain(NULL, 0).number, EVP_REFUSED_HEAD_SHORT);
 }
 
 /* A shared ledger of nothing, without words, and without owners. */
 static void expect_shared_nulls(size_t first_row) {
-    expect_answer("nothing shared", evp_shared_open(NULL, 0, NULL, 0, NULL, 0), EVP_HEAD_SHORT, 0);
-    expect_answer("shared without words", evp_shared_open(sheet, sheet_bytes, owners, 3, NULL, 0), EVP_ROOM, 0);
-    expect_answer("shared without owners", shared_open(NULL, 0), EVP_SHARE, first_row);
-    expect_answer("an arrival at it", evp_shared_arrive(NULL, 0, NULL, 0, NULL, 0, 1, 0, 1), EVP_HEAD_SHORT, 0);
-    expect_answer("a departure from it", evp_shared_depart(NULL, 0, NULL, 0, NULL, 0, 1, 0, 1), EVP_HEAD_SHORT, 0);
-    expect("a row of nothing shared", evp_shared_row(NULL, 0, NULL, 0, NULL, 0, 1, 0).number, EVP_HEAD_SHORT);
-    expect("a row without words", evp_shared_row(sheet, sheet_bytes, owners, 3, NULL, 0, 1, 0).number, EVP_ROOM);
-    expect("the totals of nothing shared", evp_shared_totals(NULL, 0, NULL, 0, NULL, 0, 0).number, EVP_HEAD_SHORT);
+    expect_answer("nothing shared", evp_shared_open(NULL, 0, NULL, 0, NULL, 0), EVP_REFUSED_HEAD_SHORT, 0);
+    expect_answer("shared without words", evp_shared_open(sheet, sheet_bytes, owners, 3, NULL, 0), EVP_REFUSED_ROOM, 0);
+    expect_answer("shared without owners", shared_open(NULL, 0), EVP_REFUSED_SHARE, first_row);
+    expect_answer("an arrival at it", evp_shared_arrive(NULL, 0, NULL, 0, NULL, 0, 1, 0, 1), EVP_REFUSED_HEAD_SHORT, 0);
+    expect_answer("a departure from it", evp_shared_depart(NULL, 0, NULL, 0, NULL, 0, 1, 0, 1), EVP_REFUSED_HEAD_SHORT,
+                  0);
+    expect("a row of nothing shared", evp_shared_row(NULL, 0, NULL, 0, NULL, 0, 1, 0).number, EVP_REFUSED_HEAD_SHORT);
+    expect("a row without words", evp_shared_row(sheet, sheet_bytes, owners, 3, NULL, 0, 1, 0).number,
+           EVP_REFUSED_ROOM);
+    expect("the totals of nothing shared", evp_shared_totals(NULL, 0, NULL, 0, NULL, 0, 0).number,
+           EVP_REFUSED_HEAD_SHORT);
 }
 
 /* Every number has a text of its own, and a place of a kind; other numbers have none. */
 static void expect_number_texts(void) {
     const char *const no_number = evp_number_text(UINT64_MAX);
-    for (uint64_t number = 0; number <= EVP_DIFFER; number++) {
+    for (uint64_t number = 0; number <= EVP_REFUSED_DIFFER; number++) {
         expect("the text of a number", strlen(evp_number_text(number)) > 5 && evp_number_text(number) != no_number, 1);
         for (uint64_t other = 0; other < number; other++)
             expect("the text of another", strcmp(evp_number_text(number), evp_number_text(other)) != 0, 1);
     }
-    expect("the text of no number", (uint64_t)strcmp(evp_number_text(EVP_DIFFER + 1), no_number), 0);
+    expect("the text of no number", (uint64_t)strcmp(evp_number_text(EVP_REFUSED_DIFFER + 1), no_number), 0);
     expect("the text of 0", (uint64_t)strcmp(evp_number_text(0), "accepted"), 0);
     expect("the place of 0", strlen(evp_place_text(0, 0)), 0);
-    expect("the place of a room", (uint64_t)strcmp(evp_place_text(EVP_ROOM, 0), "call"), 0);
-    expect("the place of a share", (uint64_t)strcmp(evp_place_text(EVP_SHARE, 0), "call"), 0);
-    expect("the place of a row's share", (uint64_t)strcmp(evp_place_text(EVP_SHARE, 112), "row"), 0);
+    expect("the place of a room", (uint64_t)strcmp(evp_place_text(EVP_REFUSED_ROOM, 0), "call"), 0);
+    expect("the place of a share", (uint64_t)strcmp(evp_place_text(EVP_REFUSED_SHARE, 0), "call"), 0);
+    expect("the place of a row's share", (uint64_t)strcmp(evp_place_text(EVP_REFUSED_SHARE, 112), "row"), 0);
 }
 
 static void expect_names(void) {
@@ -815,9 +824,9 @@ static void expect_records(unsigned version) {
         }
         sheet[at] = kept;
     }
-    expect("a record of nothing", evp_place_record(NULL, 0, EVP_TANK, 200), 0);
-    expect("no record of a share", evp_place_record(sheet, sheet_bytes, EVP_SHARE, 0), 0);
-    expect("the record of a share", evp_place_record(sheet, sheet_bytes, EVP_SHARE, sheet_bytes - 48), 2);
+    expect("a record of nothing", evp_place_record(NULL, 0, EVP_REFUSED_TANK, 200), 0);
+    expect("no record of a share", evp_place_record(sheet, sheet_bytes, EVP_REFUSED_SHARE, 0), 0);
+    expect("the record of a share", evp_place_record(sheet, sheet_bytes, EVP_REFUSED_SHARE, sheet_bytes - 48), 2);
 }
 
 static void expect_texts(void) {
@@ -825,8 +834,8 @@ static void expect_texts(void) {
     expect_names();
     expect_records(1);
     expect_records(4);
-    expect("the version", evp_library_version(), EVP_LIBRARY_VERSION);
-    expect("version 1.1.0", EVP_LIBRARY_VERSION, 1001000);
+    expect("the version", evp_library_version(), EVP_HEADER_VERSION);
+    expect("version 1.1.0", EVP_HEADER_VERSION, 1001000);
 }
 
 /* All of it; 0 where a file cannot be read. */
@@ -849,10 +858,10 @@ static int expect_all(char **paths) {
     expect_table(EVP_GRID_END);
     put_count(3, 3);
     expect_table(EVP_GRID_END);
-    expect_row_count(3, EVP_HEAD_ZERO, 7);
+    expect_row_count(3, EVP_REFUSED_HEAD_ZERO, 7);
     put_count(3, 4);
     expect_table(EVP_GRID_END);
-    expect_row_count(4, EVP_LENGTH, 0);
+    expect_row_count(4, EVP_REFUSED_LENGTH, 0);
     expect_grid_refusals();
     if (!read_sheet(paths[3]))
         return 0;

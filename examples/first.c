@@ -4,11 +4,11 @@
 #include <stdio.h>
 
 static uint8_t sheet[EVP_SHEET_BYTES + 1]; /* a longer input is refused by its length */
-static uint64_t words[EVP_REPORT_WORDS];
+static uint64_t words[EVP_WORDS];
 
 int main(void) {
     size_t bytes = fread(sheet, 1, sizeof sheet, stdin), count = evp_report_words(sheet, bytes);
-    struct evp_check answer = evp_report(sheet, bytes, words, EVP_REPORT_WORDS);
+    struct evp_check answer = evp_report(sheet, bytes, words, EVP_WORDS);
     if (answer.number == EVP_ACCEPTED)
         printf("total %" PRIu64 " to %" PRIu64 " mg\n", words[count - 2], words[count - 1]);
     else

@@ -10,7 +10,9 @@ is. Sheets are bytes; the masses of a report are bands in milligrams, with the e
 
 import copy
 import ctypes
+import ctypes.util
 import os
+import sys
 from collections.abc import Iterator, Sequence
 from ctypes import POINTER, c_char_p, c_double, c_size_t, c_uint8, c_uint64
 from enum import IntEnum
@@ -518,8 +520,9 @@ class SharedLedger(_Buffers):
 
 HERE = Path(__file__).resolve().parent
 TOP = HERE.parents[1]
-NAME = "libevaporation.so.1"
-FOLDERS = (HERE, TOP / "lib", TOP / "target" / "lib")  # of a wheel, of a release, of the repository
+WINDOWS = sys.platform == "win32"
+NAME = "evaporation.dll" if WINDOWS else "libevaporation.so.1"
+FOLDERS = (HERE, TOP / ("bin" if WINDOWS else "lib"), TOP / "target" / "lib")  # of a wheel, a release, the repository
 _DI_LINKMAP = 2  # RTLD_DI_LINKMAP of <dlfcn.h>
 
 
@@ -529,7 +532,11 @@ class _LinkMap(ctypes.Structure):
 
 
 def installed() -> Path | None:
-    """The library that the system's loader finds, by LD_LIBRARY_PATH, ldconfig or in its own folders; else None."""
+    """The library that the system's loader finds, by LD_LIBRARY_PATH, ldconfig or in its own folders, on Windows by
+    PATH; else None."""
+    if WINDOWS:
+        named = ctypes.util.find_library(NAME)
+        return Path(named) if named else None
     try:
         handle = ctypes.CDLL(NAME)._handle
     except OSError:
@@ -554,6 +561,7 @@ def load() -> Library:
     """The library, loaded once; FileNotFoundError where there is none."""
     path = find()
     if path is None:
-        raise FileNotFoundError("no %s in %s, and none is installed: bash c/shared makes it, or EVP_LIBRARY names one"
-                                % (NAME, " or ".join(map(str, FOLDERS))))
+        made = "" if WINDOWS else "bash c/shared makes it, or "
+        raise FileNotFoundError("no %s in %s, and none is installed: %sEVP_LIBRARY names one"
+                                % (NAME, " or ".join(map(str, FOLDERS)), made))
     return Library(path)

@@ -21,6 +21,11 @@ except FileNotFoundError as error:
 print(library.path)
 print("%d %d" % library.report(open(sys.argv[1], "rb").read()).total)
 """
+ON_WINDOWS = """
+import ctypes.util, os, sys
+sys.platform = "win32"
+ctypes.util.find_library = lambda name: os.environ.get("ON_PATH") if name == "evaporation.dll" else None
+""" + PROGRAM
 
 
 class FoundTest(unittest.TestCase):
@@ -33,21 +38,21 @@ class FoundTest(unittest.TestCase):
         self.package = self.folder / "top" / "python" / "evp"
         shutil.copytree(TOP / "python" / "evp", self.package, ignore=shutil.ignore_patterns("__pycache__"))
 
-    def put(self, name: str) -> Path:
+    def put(self, name: str, file: str = NAME) -> Path:
         """The library under the test, in a folder."""
-        path = self.folder / name / NAME
+        path = self.folder / name / file
         path.parent.mkdir(parents=True, exist_ok=True)
         shutil.copy(LIBRARY.path, path)
         return path
 
-    def load(self, **words: str) -> subprocess.CompletedProcess:
+    def load(self, program: str = PROGRAM, **words: str) -> subprocess.CompletedProcess:
         """What a program prints that loads the library, with these words in its environment and no others."""
         return subprocess.run(
-            [sys.executable, "-B", "-c", PROGRAM, TOP / "samples/table-3-5-day.evp"], capture_output=True, text=True,
+            [sys.executable, "-B", "-c", program, TOP / "samples/table-3-5-day.evp"], capture_output=True, text=True,
             env={"PATH": os.environ["PATH"], "PYTHONPATH": str(self.package.parent), **words})
 
-    def assert_found(self, path: Path, **words: str):
-        run = self.load(**words)
+    def assert_found(self, path: Path, program: str = PROGRAM, **words: str):
+        run = self.load(program, **words)
         self.assertEqual((run.stdout, run.stderr), ("%s\n44140776 44140793\n" % path, ""))
 
     def test_each_before_the_next(self):
@@ -65,6 +70,16 @@ class FoundTest(unittest.TestCase):
             self.skipTest("a library is installed on this machine")
         self.assertEqual(run.returncode, 1)
         self.assertIn("and none is installed: bash c/shared makes it, or EVP_LIBRARY names one", run.stderr)
+
+    def test_windows(self):
+        """There the library is evaporation.dll: on PATH, in the folder bin of a release, beside the package."""
+        run = self.load(ON_WINDOWS)
+        self.assertIn("no evaporation.dll in ", run.stderr)
+        self.assertIn("and none is installed: EVP_LIBRARY names one", run.stderr)
+        words = {"ON_PATH": str(self.put("path", "evaporation.dll"))}
+        self.assert_found(Path(words["ON_PATH"]), ON_WINDOWS, **words)
+        for name in ("top/bin", "top/python/evp"):
+            self.assert_found(self.put(name, "evaporation.dll"), ON_WINDOWS, **words)
 
     def test_no_library_of_that_name(self):
         """A file that is no library is as none."""

@@ -35,12 +35,12 @@ class HeaderTest(unittest.TestCase):
 
     def test_numbers(self):
         body = re.search(r"enum evp_number \{(.*?)\};", HEADER, re.S)[1]
-        found = {name: int(number) for name, number in re.findall(r"EVP_(\w+) = (\d+)", body)}
+        found = {name: int(number) for name, number in re.findall(r"EVP_(?:REFUSED_)?(\w+) = (\d+)", body)}
         self.assertEqual(found, {number.name: number.value for number in Number})
 
     def test_calls(self):
         """Those that the header has itself are no calls."""
-        text = re.sub(r"/\*.*?\*/|^static inline .*?^\}$", "", HEADER, flags=re.S | re.M)
+        text = re.sub(r"/\*.*?\*/|^static inline .*?^\}$", "", header.FORMS.sub("", HEADER), flags=re.S | re.M)
         self.assertEqual(set(re.findall(r"\b(evp_\w+)\(", text)), set(library.CALLS))
 
     def test_types(self):
@@ -60,14 +60,14 @@ class HeaderTest(unittest.TestCase):
     def test_texts(self):
         """The header, the binding and the desk say the same, the desk of what a call refuses besides a sheet."""
         body = re.search(r"evp_number_text\(.*?^\}", HEADER, re.S | re.M)[0]
-        found = dict(re.findall(r'case EVP_(\w+):\s+return "(.*?)";', body))
+        found = dict(re.findall(r'case EVP_(?:REFUSED_)?(\w+):\s+return "(.*?)";', body))
         self.assertEqual(found, {number.name: number.text for number in Number})
         for number, text in explain.CALLS.items():
             if number not in (5, 26):  # which the desk says of a pool
                 self.assertEqual(found[Number(number).name], text)
 
     def test_sizes(self):
-        for name, value in (("SHEET_BYTES", library.SHEET_BYTES), ("REPORT_WORDS", library.REPORT_WORDS),
+        for name, value in (("SHEET_BYTES", library.SHEET_BYTES), ("WORDS", library.REPORT_WORDS),
                             ("TEXT_BYTES", library.TEXT_BYTES), ("LISTS_END", layout.LISTS_END),
                             ("GRID_END", layout.GRID_END)):
             self.assertIn("#define EVP_%s %d\n" % (name, value), HEADER)

@@ -64,6 +64,11 @@ class InstallTest(DeskTestCase):
             self.assertTrue(self.bash(".ci/install", "pages", "--install")[2])
             self.assertTrue(self.bash(".ci/install", "pages", EVP_INSTALL="1")[2])
 
+    def test_hosts(self):
+        status, said, installed = self.bash(".ci/install", "hosts")
+        self.assertEqual((status, installed), (1, False))
+        self.assertRegex(said, "^missing: sudo apt install gfortran .*libjna-java .*r-base-core$")
+
 
 if __name__ == "__main__":
     unittest.main()

@@ -3,13 +3,14 @@
 import argparse
 import sys
 from collections.abc import Iterable
+from itertools import chain
 from pathlib import Path
 
 from tools.check import (
     believe, bindings, bounds, calls, edits, figures, header, lines, names, pressures, promises, runs, samples,
     snippets,
 )
-from tools.command import add_command, described, report, run
+from tools.command import TOP, add_command, described, report, run
 
 
 def finish(name: str, faults: Iterable[str], said: str) -> int:
@@ -54,8 +55,10 @@ def run_figures(_: argparse.Namespace) -> int:
 
 def run_header(_: argparse.Namespace) -> int:
     ours, theirs = header.both_sources()
-    return finish("header", header.faults(ours, theirs), "%s declares the %d functions and %d structs of the crate" % (
-        header.HEADER, len(theirs.functions), len(theirs.structs)))
+    named = header.name_faults(Path(TOP / header.HEADER).read_text(encoding="ascii"))
+    said = "%s declares the %d functions and %d structs of the crate" % (
+        header.HEADER, len(theirs.functions), len(theirs.structs))
+    return finish("header", chain(header.faults(ours, theirs), named), said)
 
 
 def run_bindings(_: argparse.Namespace) -> int:

@@ -178,8 +178,8 @@ def printed_facts(program: str) -> Iterator[tuple[str, str]]:
 
 def header_facts() -> Iterator[tuple[str, str]]:
     header = (TOP / "include" / "evaporation.h").read_text(encoding="ascii")
-    for name in ("sheet_bytes", "report_words", "text_bytes"):
-        yield name, re.search(r"#define EVP_%s (\d+)$" % name.upper(), header, re.M)[1]
+    for name, macro in (("sheet_bytes", "SHEET_BYTES"), ("report_words", "WORDS"), ("text_bytes", "TEXT_BYTES")):
+        yield name, re.search(r"#define EVP_%s (\d+)$" % macro, header, re.M)[1]
 
 
 def desk_facts() -> Iterator[tuple[str, str]]:

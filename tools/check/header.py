@@ -9,6 +9,11 @@ struct and the words of its name: the member `rural` of a member `mileage` may
 be called rural_mileage in C. Members at the same places with the same types in
 another order are told apart by these words. The numbers of a sheet stand in the
 header's enum in the order in which crates/sheet/specs/Demands.antt asks them.
+Every refusal is named EVP_REFUSED_.., nothing else is, the names of every other
+enum share one word behind EVP_, and no two names differ by their case alone.
+
+The pointer forms, which tools.make pointers writes, are no functions of the
+crate: they are left out.
 """
 
 import re
@@ -26,6 +31,10 @@ SCALARS = {"u8": "uint8_t", "u32": "uint32_t", "u64": "uint64_t", "usize": "size
 SIZES = {"uint8_t": 1, "bool": 1, "uint32_t": 4, "uint64_t": 8, "size_t": 8, "double": 8}
 LENGTHS = ("bytes", "count")
 INLINE = re.compile(r"^static inline .*?^\}$", re.M | re.S)  # a function that the header itself has
+FORMS_START = "/* Pointer forms: "  # the section of the header that has them
+FORMS_END = "/* End of the pointer forms. */\n"
+FORMS = re.compile("^%s.*?^%s" % (re.escape(FORMS_START), re.escape(FORMS_END)), re.M | re.S)
+ACCEPTED, REFUSED = "EVP_ACCEPTED", "EVP_REFUSED_"
 
 
 class Member(NamedTuple):
@@ -119,6 +128,8 @@ def header_parameters(written: str) -> list[Member]:
 
 
 def header_source(text: str) -> Source:
+    """What a header declares, but for its pointer forms."""
+    text = FORMS.sub("", text)
     text = re.sub(r"/\*.*?\*/", "", text, flags=re.S)
     for name, value in re.findall(r"^#define (\w+) (\d+)$", text, re.M):
         text = text.replace("[%s]" % name, "[%s]" % value)  # the length of an array
@@ -134,6 +145,34 @@ def header_source(text: str) -> Source:
     }
     numbers = re.search(r"enum evp_number \{\s*EVP_ACCEPTED = 0,(.*?)\};", text, re.S)
     return Source(functions, structs, tuple(map(int, re.findall(r"= (\d+)", numbers[1]))) if numbers else ())
+
+
+def header_enums(text: str) -> dict[str, list[str]]:
+    """The names of each enum."""
+    text = re.sub(r"/\*.*?\*/", "", text, flags=re.S)
+    return {name: re.findall(r"\b(EVP_\w+) =", body) for name, body in re.findall(r"enum (\w+) \{(.*?)\};", text, re.S)}
+
+
+def header_names(text: str) -> set[str]:
+    """Every name that a header gives: macros, enums and their names, structs, functions."""
+    text = re.sub(r"/\*.*?\*/", "", text, flags=re.S)
+    return set(re.findall(r"\b(?:EVP|evp)_\w+", text))
+
+
+def name_faults(text: str) -> Iterator[str]:
+    """Names by which a refusal, a call and another number could be taken for one another."""
+    for enum, names in header_enums(text).items():
+        refusals = enum == "evp_number"
+        shared = {name.split("_")[1] for name in names if name != ACCEPTED}
+        if refusals and shared != {"REFUSED"}:
+            yield "enum %s: not every refusal is named %s.." % (enum, REFUSED)
+        elif not refusals and (len(shared) != 1 or "REFUSED" in shared):
+            yield "enum %s: its names do not share one word behind EVP_, one other than REFUSED" % enum
+    spelled: dict[str, str] = {}
+    for name in sorted(header_names(text)):
+        other = spelled.setdefault(name.lower(), name)
+        if other != name:
+            yield "%s and %s differ by their case alone" % (other, name)
 
 
 # ------------------------------------------------------------------ both sides

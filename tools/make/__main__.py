@@ -7,11 +7,11 @@ from collections.abc import Callable, Iterable
 from pathlib import Path
 
 from tools.command import MadeFile, add_command, described, report, run, write_or_check
-from tools.make import crate_table, pictures, samples, tables, times, values
+from tools.make import crate_table, pictures, pointers, samples, tables, times, values
 from tools.make.error import MakeError
 
 MODULES = {"values": values, "tables": tables, "samples": samples, "pictures": pictures,
-           "crates": crate_table}
+           "crates": crate_table, "pointers": pointers}
 
 
 def make(name: str, check: bool, files_of: Callable[[], Iterable[MadeFile]]) -> int:
@@ -33,7 +33,7 @@ def make_all(check: bool) -> int:
 
 
 def make_times(given: argparse.Namespace) -> int:
-    return make("times", given.check, lambda: times.files(Path(given.log)))
+    return make("times", given.check, lambda: times.files(Path(given.log), given.to))
 
 
 def parser() -> argparse.ArgumentParser:
@@ -47,6 +47,7 @@ def parser() -> argparse.ArgumentParser:
     about, _, more = times.__doc__.partition("\n\n")
     own = add_command(commands, "times", about, "python3 -m tools.make times target/gate/rt-ci.log", "\n\n" + more)
     own.add_argument("log", metavar="LOG")
+    own.add_argument("--to", metavar="FILE", default=times.PAGE, help="where the page goes; %(default)s without it")
     own.set_defaults(run=make_times)
     every = add_command(commands, "all", "All but times, which are measured.", "python3 -m tools.make all --check")
     every.set_defaults(run=lambda given: make_all(given.check))

@@ -1,8 +1,9 @@
-"""docs/TIMES.md: the gate's time by crate and by step, from the log of rt ci, target/gate/rt-ci.log.
+"""docs/TIMES.md: the gate's time by crate and by step, from the log of rt ci, target/gate/rt-ci.log; or another file.
 
 Of each crate of crates.txt, lowest first: the seconds of its check, and how
 many edits were tried and the seconds of all of them. The steps are those of
-steps.log beside that log, as `.ci/run` keeps them.
+steps.log beside that log, as `.ci/run` keeps them. `.ci/run` writes the page of
+its own run to target/gate/TIMES.md with `--to`; to commit it, leave --to out.
 """
 
 import re
@@ -22,10 +23,10 @@ HEAD = "|" + " Crate | Check | Edits |" * COLUMNS
 TEXT = """\
 # The gate's time by crate
 
-`python3 -m tools.make times target/gate/rt-ci.log` makes this page from the log of one run, which had {tests} tests:
-{crates} crates proved from nothing, the programs run with theirs, and {edits} must-fail edits refused. The check of
-each crate is in seconds; of its edits stand how many there were and the seconds of all. The times are those of one
-machine, where two run at a time.
+Each run of the gate writes this page of itself to target/gate/TIMES.md; docs/TIMES.md is the last that was committed,
+of an earlier run. The run had {tests} tests: {crates} crates proved from nothing, the programs run with theirs, and
+{edits} must-fail edits refused. The check of each crate is in seconds; of its edits stand how many there were and the
+seconds of all. The times are those of one machine, where two run at a time.
 
 {table}
 Added up the proofs took {checked} s and the edits {edited} s. The longest check is that of `{longest}`, {most} s, and
@@ -96,6 +97,6 @@ def page(times: dict[str, Times], steps: dict[str, int], names: list[str]) -> st
         minutes=round(steps[WHOLE] / 60), steps=step_table(steps))
 
 
-def files(log: Path) -> Iterator[MadeFile]:
+def files(log: Path, to: str = PAGE) -> Iterator[MadeFile]:
     times, steps = (path.read_text(encoding="utf-8") for path in (log, log.with_name(STEPS)))
-    yield MadeFile(PAGE, page(read(times), read_steps(steps), crates.names()).encode())
+    yield MadeFile(to, page(read(times), read_steps(steps), crates.names()).encode())

@@ -137,3 +137,18 @@ class HeaderTest(unittest.TestCase):
     def test_struct_that_is_not_used(self):
         self.assertEqual(self.faults(HEADER + "struct evp_more { uint64_t x; };"),
                          ["struct evp_more is used by no function"])
+
+    def test_names(self):
+        """A refusal, another number and a call cannot be taken for one another."""
+        refusals = "enum evp_number { EVP_ACCEPTED = 0, EVP_REFUSED_ROOM = 22, EVP_REFUSED_A = 23 };\n"
+        kinds = "enum evp_kind { EVP_CELL_NONE = 3, EVP_CELL_BAND = 2 };\n"
+        self.assertEqual(list(header.name_faults(refusals + kinds)), [])
+        for old, new, fault in (
+            ("EVP_REFUSED_A =", "EVP_MARK =", "enum evp_number: not every refusal is named EVP_REFUSED_.."),
+            ("EVP_CELL_BAND", "EVP_BAND", "enum evp_kind: its names do not share one word behind EVP_"),
+            ("EVP_CELL", "EVP_REFUSED", "enum evp_kind: its names do not share one word behind EVP_"),
+            ("};\nenum", "};\nuint64_t evp_cell_none(void);\nenum",
+             "EVP_CELL_NONE and evp_cell_none differ by their case alone"),
+        ):
+            with self.subTest(new=new):
+                self.assertIn(fault, ", ".join(header.name_faults((refusals + kinds).replace(old, new))))

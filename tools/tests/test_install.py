@@ -2,6 +2,7 @@
 library looks like. The kit is a script that compiles two calls and counts how often it was run."""
 
 import os
+import re
 import shutil
 import stat
 import subprocess
@@ -23,6 +24,7 @@ staticlib)
 esac
 """
 CALLS = "int helper(void) { return 1; }\nint evp_one(void) { return helper(); }\nint evp_two(void) { return 2; }\n"
+FORMS = "int evp_two(void);\nint evp_two_to(void) { return evp_two(); }\n"
 NEWER = "EVP_1.0 {\n    global: evp_one;\n    local: *;\n};\nEVP_1.1 {\n    global: evp_two;\n} EVP_1.0;\n"
 CRATES = "# The crates\n\n# Some: of them\nnumbers:\nsheet: numbers\nreport: io sheet\nevaporation: sheet\n"
 OLDER = "EVP_1.0 {\n    global: evp_*;\n    local: *;\n};\n"
@@ -43,6 +45,7 @@ class InstallTest(unittest.TestCase):
         shutil.copytree(TOP / "c", self.top / "c")
         shutil.copytree(TOP / "include", self.top / "include")
         self.put("c/exports.map", OLDER)
+        self.put("c/pointer_forms.c", FORMS)
         self.put("crates.txt", CRATES)
         for name in ("numbers", "sheet", "report"):
             self.put("crates/%s/src/lib.rt" % name, name)
@@ -104,11 +107,23 @@ class InstallTest(unittest.TestCase):
                          {"A EVP_1.0", "A EVP_1.1", "T evp_one@@EVP_1.0", "T evp_two@@EVP_1.1"})
         self.assertNotIn("linked again", self.install().stderr)
 
+    def test_pointer_forms_alone(self):
+        """Changed pointer forms are put into both libraries, and nothing is proved."""
+        self.assert_made(1)
+        self.put("c/exports.map", OLDER)
+        self.put("c/pointer_forms.c", FORMS.replace("evp_two_to", "evp_other_to"))
+        self.assert_made(1)
+        self.assertIn("T evp_other_to@@EVP_1.0", self.exports(self.prefix / "lib" / LIBRARY))
+        library = self.prefix / "lib/libevaporation.a"
+        listed = subprocess.run(["nm", library], capture_output=True, text=True, check=True)
+        self.assertEqual(set(re.findall(r" T (evp_\w+)", listed.stdout)), {"evp_one", "evp_two", "evp_other_to"})
+
     def test_library(self):
         """Version nodes, links, mode, and no table of symbols."""
         self.assert_made(1)
         lib = self.prefix / "lib"
-        self.assertEqual(self.exports(lib / LIBRARY), {"A EVP_1.0", "T evp_one@@EVP_1.0", "T evp_two@@EVP_1.0"})
+        self.assertEqual(self.exports(lib / LIBRARY), {
+            "A EVP_1.0", "T evp_one@@EVP_1.0", "T evp_two@@EVP_1.0", "T evp_two_to@@EVP_1.0"})
         self.assertEqual(os.readlink(lib / "libevaporation.so"), "libevaporation.so.1")
         self.assertEqual(os.readlink(lib / "libevaporation.so.1"), LIBRARY)
         self.assertEqual(stat.S_IMODE((lib / LIBRARY).stat().st_mode), 0o644)

@@ -8,7 +8,7 @@ from tools.command import TOP
 FIRST = (TOP / "examples/first.py").read_text(encoding="utf-8")
 PAGE = "Before.\n\n<!-- examples/first.py -->\n```python\n%s```\n\nBehind `evp_report` and `evp_text()`.\n" % FIRST
 HEADER = """
-enum evp_number { EVP_ACCEPTED = 0, EVP_LENGTH = 7 };
+enum evp_number { EVP_ACCEPTED = 0, EVP_REFUSED_LENGTH = 7 };
 struct evp_check evp_report(const uint8_t *sheet, size_t sheet_bytes); /* as evp_other() */
 static inline const char *evp_text(uint64_t number) {
     switch (number) {
@@ -17,7 +17,7 @@ static inline const char *evp_text(uint64_t number) {
 }
 static inline const char *evp_number_text(uint64_t number) {
     switch (number) {
-    case EVP_LENGTH: return "the length "
+    case EVP_REFUSED_LENGTH: return "the length "
         "is wrong";
     }
 }

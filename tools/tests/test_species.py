@@ -47,7 +47,7 @@ class FilesTest(unittest.TestCase):
         return re.findall(pattern, (TOP / path).read_text(encoding="utf-8"), re.DOTALL)
 
     def test_header(self):
-        array, = self.found("include/evaporation.h", r"evp_species_names\[EVP_SPECIES\] = \{(.*?)\};")
+        array, = self.found("include/evaporation.h", r"evp_species_names\[EVP_SPECIES_COUNT\] = \{(.*?)\};")
         self.assertEqual(re.findall(r'"([^"]*)"', array), species.NAMES)
 
     def test_crate_table(self):

@@ -1,11 +1,15 @@
 """The table of the gate's times."""
 
+import contextlib
+import io
 import tempfile
 import unittest
 from pathlib import Path
 
 from tools import crates
+from tools.command import run
 from tools.make import times
+from tools.make.__main__ import parser
 from tools.make.error import MakeError
 
 LOG = """\
@@ -40,11 +44,16 @@ class TimesTest(unittest.TestCase):
             times.read("rt: must-fail cells/band: refused, as it must be (4 s)\n")
 
     def page(self, log: str, steps: str) -> str:
+        """The page, which the gate writes beside the log."""
         with tempfile.TemporaryDirectory() as folder:
             path = Path(folder, "rt-ci.log")
             path.write_text(log, encoding="utf-8")
             path.with_name("steps.log").write_text(steps, encoding="utf-8")
             made, = times.files(path)
+            words = ["times", str(path), "--to", str(path.with_name("TIMES.md"))]
+            with contextlib.redirect_stdout(io.StringIO()):
+                self.assertEqual(run(parser(), words), 0)
+            self.assertEqual(path.with_name("TIMES.md").read_bytes(), made.data)
         self.assertEqual(made.path, "docs/TIMES.md")
         return made.data.decode()
 

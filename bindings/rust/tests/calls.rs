@@ -17,9 +17,9 @@ fn header() -> String {
     plain + rest
 }
 
-/// EVP_VAPOUR_PRESSURE for VapourPressure.
+/// EVP_REFUSED_VAPOUR_PRESSURE for VapourPressure.
 fn header_name(number: Number) -> String {
-    let mut name = String::from("EVP");
+    let mut name = String::from("EVP_REFUSED");
     for letter in format!("{number:?}").chars() {
         if letter.is_uppercase() {
             name.push('_');
@@ -100,12 +100,12 @@ fn limits_and_names_are_those_of_the_header() {
     let header = header();
     for (name, value) in [
         ("EVP_SHEET_BYTES", SHEET_BYTES as u64),
-        ("EVP_REPORT_WORDS", REPORT_WORDS as u64),
+        ("EVP_WORDS", REPORT_WORDS as u64),
         ("EVP_TEXT_BYTES", TEXT_BYTES as u64),
         ("EVP_STACK_BYTES", STACK_BYTES as u64),
         ("EVP_FACTOR_WORDS", factor_words_of(12, 1000) as u64),
         ("EVP_SEASON_WORDS", season_words_of(12, 1000) as u64),
-        ("EVP_SPECIES", SPECIES.len() as u64),
+        ("EVP_SPECIES_COUNT", SPECIES.len() as u64),
     ] {
         assert!(header.contains(&format!("#define {name} {value}\n")), "{name}");
     }

@@ -14,7 +14,7 @@ from evp.files import InputError, check_target, make_folder, read_sheet, write_f
 from evp.intake import filed_for, read_class
 from evp.library import Library, Refusal
 from evp.pages.needs import require
-from evp.sheet.names import pooled_names, shared_names
+from evp.sheet.names import shared_names
 from evp.wording import name_shown
 
 KINDS = ("class", "sheet", "day", "parking", "fuels", "species", "cells", "pool")
