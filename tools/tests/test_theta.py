@@ -18,11 +18,11 @@ class Theta(unittest.TestCase):
             self.assertAlmostEqual(theta, math.exp(k / STEP * theta), delta=2 / UNIT)
 
     def test_the_cells_meet(self) -> None:
-        """The quadratic at the end of a cell is below Θ there, which is 2 units above the next cell's start, and near it."""
+        """At the end of a cell the quadratic is at most Θ, 2 units above the next cell's start, and near it."""
         for row, following in zip(ROWS, ROWS[1:]):
             below = following[0] + 2 - sum(row)
             self.assertGreaterEqual(below, 0)
-            self.assertLess(below, 16)
+            self.assertLessEqual(below, 16)
 
     def test_levels(self) -> None:
         """A level is E at the exponent of its cell's start, rounded down."""
