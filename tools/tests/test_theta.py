@@ -22,7 +22,8 @@ class Theta(unittest.TestCase):
         for row, following in zip(ROWS, ROWS[1:]):
             below = following[0] + 2 - sum(row)
             self.assertGreaterEqual(below, 0)
-            self.assertLessEqual(below, 16)
+            # E(t P) is at most 16 units above P, and so Θ at most 16 / (1 - t Θ), where t Θ is below 0.36
+            self.assertLessEqual(below, 25)
 
     def test_levels(self) -> None:
         """A level is E at the exponent of its cell's start, rounded down."""
