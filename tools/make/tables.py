@@ -1,4 +1,4 @@
-"""The tables of E in crates/bounds, one computation for all places where they stand.
+"""The tables of E and of Θ in crates/bounds, one computation for all places where they stand.
 
 The two tables of the exponential: an entry is 2^40 E(c) cut to a whole number,
 for the exact c = k/step. It is cut from a number that is below E(c) for every
@@ -6,7 +6,7 @@ truncation of the series from its N on, so that it is a lower bound for all of
 them; and it is at most one unit too low.
 
 The two tables of E at whole c, up to 14: 2^30 E(c) from below and from above,
-for every truncation from 40 on.
+for every truncation from 40 on. The table of Θ is in theta.py.
 """
 
 import re
@@ -15,6 +15,7 @@ from fractions import Fraction
 
 from tools.command import TOP, MadeFile
 from tools.make.error import MakeError
+from tools.make.theta import LEVELS, THETAS
 
 UNIT = 2 ** 40
 FAR_UNIT = 2 ** 30
@@ -59,9 +60,9 @@ def source(entries: list[int]) -> str:
     return "".join("    %d,\n" % e for e in entries)
 
 
-def listed(entries: list[int]) -> str:
-    """As a list of antt up to its end, eight to a line."""
-    rows = [entries[i:i + 8] for i in range(0, len(entries), 8)]
+def listed(entries: list[int], width: int = 8) -> str:
+    """As a list of antt up to its end, so many to a line."""
+    rows = [entries[i:i + width] for i in range(0, len(entries), width)]
     return "\n".join("    " + " ∷ ".join(map(str, row)) + " ∷" for row in rows) + " "
 
 
@@ -73,6 +74,9 @@ PLACES = [
     ("crates/bounds/src/whole.rt", r"const FAR: \[u64; 15\] = \[\n", source(FAR), r"\];"),
     ("crates/bounds/specs/WholeExponents.antt", r"\nfar =\n", listed(FAR), r"\[\]\n"),
     ("crates/bounds/specs/WholeExponents.antt", r"\nfarAbove =\n", listed(FAR_ABOVE), r"\[\]\n"),
+    ("crates/bounds/src/theta.rt", r"const THETAS: \[u64; THETA_WORDS\] = \[\n", source(THETAS), r"\];"),
+    ("crates/bounds/specs/Theta.antt", r"\nthetas =\n", listed(THETAS, 9), r"\[\]\n"),
+    ("crates/bounds/proofs/ThetaTable.antt", r"\nlevels =\n", listed(LEVELS, 6), r"\[\]\n"),
 ]
 
 
