@@ -163,7 +163,7 @@ class TestForm(BrowserTestCase):
         self.drop(list((SAMPLES / "afternoon").glob("*.csv")))
         self.wait(lambda: self.text("#durations-sum") == "982" and self.state() == "refused", "the tables")
         self.assertEqual(self.one("#row-0-trips").get_attribute("value"), "4,80")  # which can mean one thing here
-        self.assertIn("Row 2: load 70.0 g is above m_sat 60.0 g; write at most 60.0", self.text("#told"))
+        self.assertIn("Row 2 (newer cars): load 70.0 g is above m_sat 60.0 g; write at most 60.0", self.text("#told"))
 
     def test_the_guidebooks_tables_by_one_click(self):
         self.open("/form")
