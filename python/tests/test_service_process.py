@@ -168,7 +168,7 @@ class SupervisorTest(ServiceTestCase):
     def test_unit(self):
         """The unit starts the command that there is, and starts it again where it fails."""
         lines = self.UNIT.read_text().splitlines()
-        for line in ("Restart=on-failure", "Type=notify", "NoNewPrivileges=yes",
+        for line in ("Restart=on-failure", "Type=notify", "NoNewPrivileges=yes", "StartLimitIntervalSec=300",
                      "ExecStart=%%h/evaporation/evp %s --ledger course.db" % COMMAND):
             self.assertIn(line, lines)
         checker = shutil.which("systemd-analyze")
