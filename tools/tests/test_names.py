@@ -80,7 +80,7 @@ class ReadmeTest(unittest.TestCase):
     """README.md stays short."""
 
     def test_size(self):
-        self.assertLessEqual(len((TOP / "README.md").read_bytes()), 6 * 1024)
+        self.assertLessEqual(len((TOP / "README.md").read_bytes()), 4 * 1024)
 
 
 if __name__ == "__main__":
