@@ -92,7 +92,7 @@ class HostileTest(ServiceTestCase):
     """Over a connection, while participants work."""
 
     def test_while_participants_work(self):
-        desk = self.serve("--patience", 10)
+        desk = self.serve("--patience", 5)
         before = self.files(desk)
         with self.at_work(desk, within=5, people=2):
             for name, (head, status) in HEADS.items():
@@ -159,7 +159,7 @@ class HostileTest(ServiceTestCase):
             began = time.monotonic()
             connection.send(b"!", socket.MSG_OOB)
             self.assertTrue(is_closed(connection, 10))
-            self.assertLess(time.monotonic() - began, 8)
+            self.assertLess(time.monotonic() - began, 4)
 
 
 if __name__ == "__main__":

@@ -30,7 +30,7 @@ class LaptopTest(ServiceTestCase):
         return [line for line in desk.client(links[0]).table("calls.csv") if line[0] == str(WHO)]
 
     def test_lid_closed_and_server_killed(self):
-        desk = self.serve("--patience", 2)
+        desk = self.serve("--patience", 1)
         before = self.files(desk)
         with self.at_work(desk, within=5, people=2), contextlib.ExitStack() as stack:
             self.leave(desk, 1, True)  # a reset may be there before its call, which is then not made
@@ -54,7 +54,7 @@ class LaptopTest(ServiceTestCase):
         """kill -9, the same command again: the links hold, and every page is what it was."""
         pages = [desk.client(link).get().body for link in desk.links]
         desk.kill()
-        again = Desk(desk.ledger, "--patience", 2, port=desk.port)
+        again = Desk(desk.ledger, "--patience", 1, port=desk.port)
         self.addCleanup(again.close)
         self.assertIn("played again, and all is as it was", again.said)
         self.assertEqual([again.client(link).get().body for link in desk.links], pages)
