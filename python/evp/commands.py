@@ -219,9 +219,10 @@ def write_with_names(target: str, data: bytes, names: Names, force: bool, source
     """Writes a sheet, and its names beside it. Names of an earlier sheet do not stay there."""
     beside, sources = names_file(target), list(sources)
     is_stream = target == "-" or os.path.exists(target) and not os.path.isfile(target)  # as /dev/stdout
-    has_file = not is_stream and (names.any() or beside.is_file())
-    for path in (target, *((beside,) if has_file else ())):  # both before the first is written
-        check_target(path, force, sources)
+    check_target(target, force, sources)
+    has_file = not is_stream and (names.any() or os.path.isfile(beside))
+    if has_file:  # both before the first is written
+        check_target(beside, force, sources)
     write_file(target, data, force, sources)
     if has_file:
         write_file(beside, names_text(names).encode("utf-8-sig"), force, sources)

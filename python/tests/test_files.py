@@ -113,7 +113,7 @@ class BadFilesTest(DeskTestCase):
         for name, *words in (
             (path, "check", path), (path, "show", path), (path, "read", path), (path, "write", path),
             (path, "compare", path, path), (locked / "grid.csv", "write", locked),
-            (path, "mark", locked, "--filed", path, "-o", "-"),
+            (locked, "mark", locked, "--filed", path, "-o", "-"),
             (locked / "a.evp", "write", text, "-o", locked / "a.evp"),
             (locked / "seasons.csv", "template", locked), (locked / "below", "template", locked / "below"),
         ):

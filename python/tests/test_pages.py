@@ -171,7 +171,7 @@ class TestMarkup(DeskTestCase):
     def test_files_that_cannot_be_read(self):
         client = make_client()
         answer = client.post("/class", data={"files": [(io.BytesIO(b"<i>,b\n"), "<b>.csv"),
-                                                       (io.BytesIO(course()), "north.evp")]})
+                                                       (io.BytesIO(course()), "north.evp")]}, follow_redirects=True)
         self.assertEqual(answer.status_code, 200)
         self.assert_text(answer.get_data(as_text=True), "<b>.csv: no table of filed masses is found in it")
 

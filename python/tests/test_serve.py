@@ -65,7 +65,8 @@ class NameTest(DeskTestCase):
         self.assertIn("\n    serve ", run("--help").out)
         self.assertNotIn("\n    desk ", run("--help").out)
         self.assertEqual(run("desk", "--help").out, run("serve", "--help").out)
-        self.assertIn("cells, pool, page, serve\n", run().err)
+        self.assertRegex(run().err, r"\bserve\b")
+        self.assertNotRegex(run().err, r"\bdesk\b")
         for name in ("serve", "desk"):
             self.assertIn("--new wants a ledger: evp serve --ledger FILE", run(name, "--new", "x").err)
 

@@ -11,6 +11,7 @@ of it `low` and `high` are two values of the input. `points` are percentage poin
 """
 
 import math
+import re
 from collections.abc import Sequence
 from dataclasses import dataclass
 from fractions import Fraction
@@ -19,7 +20,6 @@ from statistics import NormalDist
 from evp.analysis.values import FIELD_NAMES
 from evp.files import InputError, read_text
 from evp.layout import FIELDS, Field
-from evp.sheet.folders import numbers
 from evp.tables import read_table
 from evp.wording import name_shown, quoted
 
@@ -197,15 +197,21 @@ def _uncertainty(number: int, cells: dict[str, str]) -> Uncertainty:
     return Uncertainty(number, name, where, kind, amount, 0, 0, distribution, words)
 
 
+def _with_point(cell: str) -> str:
+    """A cell with a decimal comma, with a point."""
+    return re.sub(r"(?<=[0-9]),(?=[0-9])", ".", cell)
+
+
 def uncertainties_of(text: str, label: str) -> list[Uncertainty]:
     """The lines of a table; InputError with the line where one is not understood."""
     table = read_table(text, label, COLUMNS, ("input",))
     found = []
-    for number, cells in numbers(table):
+    for line in table.lines:
+        cells = line.cells if table.point == "." else {name: _with_point(cell) for name, cell in line.cells.items()}
         try:
-            found.append(_uncertainty(number, cells))
+            found.append(_uncertainty(line.number, cells))
         except InputError as error:
-            raise InputError(f"{label}: line {number}: {error}") from None
+            raise InputError(f"{label}: line {line.number}: {error}") from None
     if not found:
         raise InputError(f"{label}: the table has no line; a line has {', '.join(COLUMNS)}")
     return found

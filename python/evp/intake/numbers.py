@@ -9,6 +9,8 @@ import unicodedata
 from functools import lru_cache
 from typing import NamedTuple
 
+from evp.wording import printable
+
 TWO_THINGS = "can mean two things"
 GROUPS = " \u00a0\u202f\u2009\u2007\u2008'\u2019\u02bc_"  # between thousands; never a decimal character
 MINUS = "-\u2212\u2013\u2010\u2011\ufe63\uff0d"
@@ -38,7 +40,9 @@ _DATE = re.compile(
 
 
 class NotRead(Exception):
-    """A cell that is not read, and why."""
+    """A cell that is not read, and why, in words that no terminal obeys."""
+    def __init__(self, words: str):
+        super().__init__(printable(words))
 
 
 class Number(NamedTuple):

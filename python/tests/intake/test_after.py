@@ -165,7 +165,7 @@ class ClassPageTest(unittest.TestCase):
             answer = app.test_client().post(path, data={"files": [
                 (io.BytesIO(archive.getvalue()), "class.zip"), (io.BytesIO(harbour), "Harbour.EVP"),
                 (io.BytesIO(b"sheet,row,mechanism,mass,unit\nharbour,cars,soak,12.437,t\n"), "my results.csv"),
-                (io.BytesIO(b"%PDF"), "notes.csv")]}, content_type="multipart/form-data")
+                (io.BytesIO(b"%PDF"), "notes.csv")]}, content_type="multipart/form-data", follow_redirects=True)
             text = answer.get_data(as_text=True)
             self.assertEqual(answer.status_code, 200, text[:500])
             for words in ("cars soak: 13303 kg", "NE, not estimated", "two digits are exchanged", "this is a PDF"):

@@ -148,7 +148,7 @@ REQUESTS = {
     "huge head": Kind(_huge_head, frozenset((400, 414, 431))),
     "chunked body": Kind(_chunked, frozenset((411,))),
     "bad multipart": Kind(_bad_part, REFUSED, 0.5),
-    "bad lines": Kind(_bad_lines, REFUSED, 3),
+    "bad lines": Kind(_bad_lines, REFUSED | {303}, 3),  # what can be read of them is marked
     "many fields": Kind(_many_fields, REFUSED, 2),
 }
 LEFT = (_form, _form, _check, _upload, _cross_site, _wrong_host, _unknown, _too_long)  # by clients that leave early

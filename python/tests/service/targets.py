@@ -4,6 +4,7 @@ message that no terminal obeys."""
 import csv
 import io
 import json
+import re
 import tempfile
 from collections.abc import Callable, Iterable
 from pathlib import Path
@@ -25,7 +26,7 @@ from evp.sheet import TextError, doubts, folder_of, folders, take_text
 PLAIN = (InputError, TextError, SheetRefused, Refusal)
 REGION = sample("region")
 SECTION = b"=== "  # starts a line with the name of a table, in an input of several tables
-FORMULAS = ("=", "+", "-", "@", "\t", "\r")
+FORMULA = re.compile(r"(?![+-]?[0-9]+(?:[.,][0-9]+)?\Z)[=+@\t\r-]")  # a number with a sign is none
 
 
 class Fault(Exception):
@@ -53,7 +54,7 @@ def _filed(data: bytes):
     written = marking.marks_csv(marks, table.semicolon)
     cells = csv.reader(io.StringIO(written, newline=""), delimiter=";" if table.semicolon else ",", strict=True)
     for row in cells:
-        require(not any(cell.startswith(FORMULAS) for cell in row), "marks.csv has a formula: %r" % row[:5])
+        require(not any(map(FORMULA.match, row)), "marks.csv has a formula: %r" % row[:5])
 
 
 def _travel(data: bytes):
