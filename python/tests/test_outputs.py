@@ -110,7 +110,8 @@ class SourcesTest(DeskTestCase):
     @unittest.skipUnless(HAS_JINJA, "jinja2 is missing")
     def test_two_outputs(self):
         found = run("mark", self.sheets, "--filed", self.filed, "-o", self.folder / "x", "--page", self.folder / "x")
-        self.assertEqual((found.status, found.err), (2, "evp: two of -o, --page, --readings and --class-table name one file\n"))
+        self.assertEqual((found.status, found.err),
+                         (2, "evp: two of -o, --page, --readings and --class-table name one file\n"))
 
 
 class WholeTest(DeskTestCase):
