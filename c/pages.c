@@ -1,8 +1,8 @@
 /* Whether every call touches its stack page by page, as Windows asks: there a page is committed where the page above it
  * has been touched, and whoever touches one further below is ended. Every call is made on the largest sheets of each
- * version in a thread of which only the uppermost pages can be touched. The page below them is lent when it is touched
- * first, and then the next; a page out of turn ends the program with status 1. A function that does touch one out of
- * turn is tried as well, in a child, which must end so. */
+ * version in a thread of which only the uppermost pages can be touched. The page below them is opened when it is
+ * touched first, and then the next; a page out of turn ends the program with status 1. A function that does touch one
+ * out of turn is tried as well, in a child, which must end so. */
 #include <inttypes.h>
 #include <pthread.h>
 #include <signal.h>
@@ -17,7 +17,7 @@
 enum { PAGE = 4096, START = 6 * PAGE }; /* the thread's own data are in the uppermost pages */
 
 static uint8_t *next;                   /* the page that may be touched next */
-static volatile sig_atomic_t lent;      /* how many were */
+static volatile sig_atomic_t opened;    /* how many were */
 static uint8_t signal_stack[65536];
 
 static void on_fault(int number, siginfo_t *about, void *context) {
@@ -30,7 +30,7 @@ static void on_fault(int number, siginfo_t *about, void *context) {
         _exit(1);
     }
     next -= PAGE;
-    lent++;
+    opened++;
 }
 
 static void *run(void *call) {
@@ -50,7 +50,7 @@ static uint64_t page_by_page(uint64_t (*call)(void)) {
     if (stack == MAP_FAILED || mprotect(stack + EVP_STACK_BYTES - START, START, PROT_READ | PROT_WRITE) != 0)
         exit(2);
     next = stack + EVP_STACK_BYTES - START - PAGE;
-    lent = 0;
+    opened = 0;
     if (pthread_attr_init(&attributes) != 0 || pthread_attr_setstack(&attributes, stack, EVP_STACK_BYTES) != 0
         || pthread_create(&thread, &attributes, run, &call) != 0 || pthread_join(thread, &answer) != 0)
         exit(2);
@@ -85,14 +85,14 @@ int main(void) {
         make_sheets(version, 12, version == 4 ? 1000 : 32);
         for (size_t i = 0; i < CALLS; i++) {
             failures += page_by_page(calls[i].call) != 0;
-            most = lent > most ? lent : most;
+            most = opened > most ? opened : most;
         }
     }
     if (!is_noticed()) {
         puts("a page that is touched out of turn goes unnoticed");
         failures++;
     }
-    printf("every call touches its stack page by page: at most %d pages were lent one after the other; %d failures\n",
+    printf("every call touches its stack page by page: at most %d pages were opened one after the other; %d failures\n",
            most, failures);
     return failures != 0 || most < 10;
 }

@@ -551,7 +551,7 @@ static inline const char *evp_number_text(uint64_t number) {
     case EVP_REFUSED_TRAVEL: return "a mileage or a speed is not 1 to 1,000,000, or town is neither 0 nor 1";
     case EVP_REFUSED_CELL: return "a low is above its high, a mass is above 2^53 mg, or a cell is none";
     case EVP_REFUSED_DIFFER: return "the seasons or the parking of the two sheets differ";
-    case EVP_REFUSED_ROOM: return "the room that was lent is too small";
+    case EVP_REFUSED_ROOM: return "the output buffer is too small";
     case EVP_REFUSED_RIGHT: return "the one who calls has no right to this";
     case EVP_REFUSED_COUNT: return "there is no such row, it has fewer vehicles, or it would have too many";
     case EVP_REFUSED_SHARE:

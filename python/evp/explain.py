@@ -21,7 +21,7 @@ BYTES = re.compile(r" \(bytes? [0-9]+(?: to [0-9]+)?\)")  # as byte_range has th
 CALLS = {
     5: "the two sheets together have more than 1,000 rows",
     26: "the two sheets together have more than 100,000,000 vehicles",
-    22: "the room that was lent is too small",
+    22: "the output buffer is too small",
     23: "there is no such season, row or factor",
     27: "a low is above its high, a mass is above 2^53 mg, or a cell is none",
     28: "a mileage or a speed is not 1 to 1,000,000, or town is neither 0 nor 1",

@@ -71,7 +71,7 @@ class Number(IntEnum):
     LOAD = 19, "the load is above m_sat, or one of them is given without a canister"
     EXPONENT = 20, "m_sat is too large for the canister"
     ROW_ZEROS = 21, "the last four bytes of the row are not 0"
-    ROOM = 22, "the room that was lent is too small"
+    ROOM = 22, "the output buffer is too small"
     ABSENT = 23, "there is no such season, row or factor"
     GRID = 24, "the 576 counts of the grid do not sum to 1 to 1,000,000"
     MILEAGE = 25, ("the mileage is above 1,000,000 km, or stands without a canister, beside a load or beside a "

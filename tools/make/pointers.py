@@ -105,7 +105,7 @@ def definition(source: Source, call: Function) -> str:
 
 
 def header_made(text: str, source: Source) -> str:
-    """The header with the section of the forms made anew."""
+    """The header with the section of the forms written again."""
     if len(FORMS.findall(text)) != 1:
         raise MakeError("%s has no section, or several, that starts with %r" % (HEADER, FORMS_START))
     lines = "".join(declaration(source, call, ");") + "\n" for call in forms(source)) + TEXT + ";\n"

@@ -47,7 +47,7 @@ class PointersTest(unittest.TestCase):
         self.assertEqual(made, pointers.BEGIN + REPORT + ADD + pointers.TEXT_BODY)
 
     def test_section(self):
-        """The header gets what it declares made anew, and nothing else changes."""
+        """The section of the forms is written again, and nothing else changes."""
         made = pointers.header_made(HEADER, header.header_source(HEADER))
         self.assertEqual(header.FORMS.sub("", made), header.FORMS.sub("", HEADER))
         self.assertNotIn("evp_old_to", made)

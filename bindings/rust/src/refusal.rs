@@ -115,7 +115,7 @@ numbers! {
     Travel = 28, Call, "a mileage or a speed is not 1 to 1,000,000, or town is neither 0 nor 1";
     Cell = 27, Call, "a low is above its high, a mass is above 2^53 mg, or a cell is none";
     Differ = 32, Call, "the seasons or the parking of the two sheets differ";
-    Room = 22, Call, "the room that was lent is too small";
+    Room = 22, Call, "the output buffer is too small";
     Right = 30, Call, "the one who calls has no right to this";
     Count = 29, Call, "there is no such row, it has fewer vehicles, or it would have too many";
     Share = 31, Call, "a row has no owner, or a participant would have more than 100 rows or 10,000,000 vehicles";

@@ -8,7 +8,7 @@ use Rattle.inventory.specs.ReportAnswers.{reportCheck}
 use Rattle.program.specs.Reads.{Taken, Unread}
 use Rattle.program.specs.Writes.{standardOutput, Written, Unwritten}
 
--- the exit status of an answer: 0 a report, 1 a refusal. A program lends the words of 1,000 rows, 6,026, so that it never refuses for want of room
+-- the exit status of an answer: 0 a report, 1 a refusal. A program has a buffer for 1,000 rows, 6,026 words, so that it is never too small
 unfoldable pub checkStatus : Check → ℕ
 checkStatus Pass = 0
 checkStatus (Refused number place) = 1

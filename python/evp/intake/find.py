@@ -114,7 +114,7 @@ def _is_plain(path: Path) -> bool:
     try:
         return stat.S_ISREG(path.stat().st_mode)
     except OSError:
-        return True  # it is told when it is read
+        return True  # it is reported when it is read
 
 
 def given(files: Iterable[tuple[str, bytes]]) -> list[File]:

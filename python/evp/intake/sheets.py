@@ -129,7 +129,7 @@ def _tab_names(data: bytes) -> set[str]:
     try:
         with zipfile.ZipFile(io.BytesIO(data)) as archive, archive.open("xl/workbook.xml") as opened:
             text = opened.read(1_000_000).decode("utf-8", "replace")
-    except Exception:  # it is told when the workbook is read
+    except Exception:  # it is reported when the workbook is read
         return set()
     return {name.casefold() for name in re.findall(r'<sheet [^>]*?name="([^"]*)"', text)}
 

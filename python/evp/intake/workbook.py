@@ -1,7 +1,7 @@
 """The tables of a workbook, .xlsx by openpyxl and .ods by odfpy, both of Debian.
 
 A number is read as the cell shows it: with as many decimal places as its format has, or with its own digits where it
-has none. What is no number on purpose (a date, an error, a formula without its value) is told cell by cell.
+has none. What is no number on purpose (a date, an error, a formula without its value) is reported cell by cell.
 """
 
 import datetime

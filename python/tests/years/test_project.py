@@ -1,4 +1,4 @@
-"""Each form of a project, and what is told of one that is not complete."""
+"""Each form of a project, and what is reported of one that is not complete."""
 
 import unittest
 

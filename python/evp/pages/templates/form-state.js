@@ -1,4 +1,4 @@
-/* The form as words, and the page as it is told. Other scripts change the words and put them on the page; what is typed
+/* The form as words, and the page that shows them. Other scripts change the words and put them on the page; what is typed
    goes into the words field by field, since reading a thousand rows from the page takes time. */
 var evpForm = {};
 (function (app) {
@@ -74,7 +74,7 @@ var evpForm = {};
     if (field.value !== option.value) field.value = option.value;
   };
 
-  // the page as it is told
+  // the page that shows them
   function number(name) {
     app.lines(name).forEach(function (line, i) {
       var first = line.querySelector("th");
