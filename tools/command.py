@@ -10,6 +10,7 @@ from typing import NamedTuple
 
 TOP = Path(__file__).resolve().parent.parent
 SAMPLES = TOP / "samples"
+OUT = "out"  # the folder of a crate with what rt made of it
 
 
 def described(description: str, example: str) -> dict:
@@ -23,6 +24,12 @@ def described(description: str, example: str) -> dict:
 def add_command(commands, name: str, about: str, example: str, more: str = "") -> argparse.ArgumentParser:
     """A command of a parser: a line in its list, and its own help."""
     return commands.add_parser(name, help=about, **described(about + more, example))
+
+
+def crate_files(*endings: str) -> list[Path]:
+    """The files of all crates' src/, specs/ and proofs/ with one of these endings, in the order of their paths."""
+    return [path for path in sorted((TOP / "crates").glob("*/*/**/*"))
+            if path.suffix in endings and path.relative_to(TOP).parts[2] != OUT]
 
 
 class MadeFile(NamedTuple):

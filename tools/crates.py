@@ -7,13 +7,14 @@ from tools.command import TOP
 
 LIST = "crates.txt"
 SECTION = re.compile(r"# ([^:]+): (.+)")
-CRATE = re.compile(r"(\w+):(.*)")
+CRATE = re.compile(r"(\w+)( staticlib)?:(.*)")
 
 
 class Crate(NamedTuple):
-    """A crate, and those of this repository that its files name."""
+    """A crate, and those of this repository that its files name; whether it is a static library, for C."""
     name: str
     needs: list[str]
+    is_static: bool = False
 
 
 class Section(NamedTuple):
@@ -26,11 +27,12 @@ class Section(NamedTuple):
 def read(text: str) -> list[Section]:
     """The sections of a list, whose first line is a heading; what a crate needs of the kit is left out."""
     found: list[Section] = []
-    known = set(re.findall(r"^(\w+):", text, re.M))
+    known = set(re.findall(r"^(\w+)(?: staticlib)?:", text, re.M))
     for number, line in enumerate(text.splitlines(), 1):
         crate, section = CRATE.fullmatch(line), SECTION.fullmatch(line) if number > 1 else None
         if crate and found:
-            found[-1].crates.append(Crate(crate[1], [need for need in crate[2].split() if need in known]))
+            needs = [need for need in crate[3].split() if need in known]
+            found[-1].crates.append(Crate(crate[1], needs, crate[2] is not None))
         elif section:
             found.append(Section(section[1], section[2], []))
         elif line and number > 1:

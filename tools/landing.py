@@ -1,16 +1,16 @@
-"""The check's time before and after a change, by crate: processor seconds of rt check on two commits.
+"""The check's time before and after a change, by crate: processor seconds of the kit's check on two commits.
 
     nice -n 19 python3 -m tools.landing 4f3728e 3f15c5b
 
 It checks both commits out into a scratch folder outside the repository and finds
 the crates whose own files, or whose line in crates.txt, differ; edits that must
-fail are left out, since no check reads them. What these crates depend on is proved
-first. Each is then checked by itself from nothing, its program run with it, and the
-processor time of that run is taken: seconds by the clock depend on what else runs
-on the machine. What rt needs to see that nothing has changed is subtracted. The
-table is printed as Markdown. With --scratch the proofs and the seconds are kept in
-that folder by the contents of a crate and of all that it depends on, so that
-several pairs of commits share them and a run that was interrupted goes on.
+fail are left out, since no check reads them. What these crates depend on is built
+first, by `rt lib`, which may take what other copies of the repository kept. Each is
+then checked by itself and from nothing, over that, by the kit's `rattle check` with
+one job, and the processor time of that run is taken: seconds by the clock depend on
+what else runs on the machine. The table is printed as Markdown. With --scratch the
+seconds are kept in that folder by the contents of a crate and of all that it depends
+on, so that several pairs of commits share them and a run that was interrupted goes on.
 """
 
 import argparse
@@ -30,8 +30,8 @@ from typing import NamedTuple
 
 from tools.command import TOP, described, run
 
-PARTS = ("src", "specs", "proofs", "stdin", "stdout", "args", "data")  # what rt check reads of a crate
-PROVED = re.compile(r"^rt: (\w+) proved \(\d+ s\)$", re.M)
+PARTS = ("src", "specs", "proofs")  # what a check reads of a crate
+STATIC = "staticlib"  # the word behind the name of a static library
 LIMIT = 3600  # seconds by the clock for one check, so that an unattended run ends
 SHOWN = 20  # lines of a check that failed
 
@@ -58,9 +58,10 @@ class Row(NamedTuple):
 
 
 def read_lines(text: str) -> dict[str, list[str]]:
-    """The crates of a crates.txt, and the words behind each."""
+    """The crates of a crates.txt, and the words behind each; of a static library the first says that it is one."""
     without = re.sub(r"#.*", "", text)
-    return {name: words.split() for name, words in re.findall(r"^[ \t]*(\w+)[ \t]*:(.*)$", without, re.M)}
+    found = re.findall(r"^[ \t]*(\w+)((?:[ \t]+%s)?)[ \t]*:(.*)$" % STATIC, without, re.M)
+    return {name: (kind + words).split() for name, kind, words in found}
 
 
 def state_of(text: str, files: Iterable[tuple[str, str]]) -> State:
@@ -104,11 +105,6 @@ def changed(before: State, after: State) -> list[str]:
     return there + [name for name in ordered(before.lines, before) if name not in after.lines]
 
 
-def proved_now(log: str) -> list[str]:
-    """The crates that a check has proved, without those that it found unchanged."""
-    return PROVED.findall(log)
-
-
 def cell(seconds: float | None, missing: str) -> str:
     return missing if seconds is None else "%.1f" % seconds
 
@@ -147,37 +143,42 @@ def spent(command: list[str], folder: Path) -> tuple[float, str]:
     return now.ru_utime + now.ru_stime - began.ru_utime - began.ru_stime, ended.stdout
 
 
+def kit() -> Path:
+    """The folder of the kit whose rt is on PATH."""
+    found = shutil.which("rt")
+    if found is None:
+        raise LandingError("rt is not on PATH")
+    return Path(found).resolve().parent.parent
+
+
+def check_words(kit_folder: Path, name: str, state: State, is_program: bool) -> list[str]:
+    """The command that checks a crate in its folder from nothing, over what it depends on."""
+    below = ordered([name], state)[:-1]
+    words = [str(kit_folder / "bin" / "rattle"), "check", "--crate-name", name,
+             "src/main.rt" if is_program else "src/lib.rt"]
+    for need in ["std", *(word for word in state.lines[name] if word != STATIC)]:
+        built = "../%s/out/rlib" % need if need in state.lines else str(kit_folder / "rlibs")
+        words += ["--extern", "%s=%s/%s.rlib" % (need, built, need)]
+    for folder in [*("../%s/out/rlib" % need for need in below), str(kit_folder / "rlibs")]:
+        words += ["-L", "dependency=" + folder]
+    words += ["--antt-project", str(kit_folder / "rattle/logic/antt-project.json"),
+              "--logic-built", str(kit_folder / "logic_built"), "--links", name + "=", "--jobs", "1"]
+    return [*words, "--crate-type", STATIC] if STATIC in state.lines[name] else words
+
+
 class Records:
-    """The seconds and the proofs that were made, by the key of a crate, in a folder."""
+    """The seconds of checks, by the key of a crate, in a folder."""
 
     def __init__(self, folder: Path):
-        self.folder, self.file = folder, folder / "seconds.json"
+        self.file = folder / "seconds.json"
         self.seconds: dict[str, list[float]] = json.loads(self.file.read_text()) if self.file.exists() else {}
 
     def taken(self, key: str) -> list[float]:
         return self.seconds.get(key, [])
 
-    def add(self, key: str, name: str, seconds: float, target: Path):
-        """Keeps a proof, and the seconds that it took."""
-        kept = self.folder / "proofs" / key
-        if not kept.exists():
-            kept.mkdir(parents=True)
-            shutil.copy(target / "stamp" / name, kept / "stamp")
-            if (target / "rlib" / (name + ".rlib")).exists():  # a program has none
-                shutil.copytree(target / "rlib" / (name + ".rlib"), kept / "rlib", symlinks=True)
+    def add(self, key: str, seconds: float):
         self.seconds.setdefault(key, []).append(round(seconds, 2))
         self.file.write_text(json.dumps(self.seconds, indent=0))
-
-    def restore(self, key: str, name: str, target: Path):
-        """Puts a proof that was kept where rt looks for it, unless it is there."""
-        kept = self.folder / "proofs" / key
-        if (target / "stamp" / name).exists():
-            return
-        for part in ("stamp", "rlib"):
-            (target / part).mkdir(parents=True, exist_ok=True)
-        if (kept / "rlib").exists():
-            shutil.copytree(kept / "rlib", target / "rlib" / (name + ".rlib"), symlinks=True)
-        shutil.copy(kept / "stamp", target / "stamp" / name)
 
 
 class Tree:
@@ -187,24 +188,26 @@ class Tree:
         self.commit, self.folder, self.records = commit, folder, records
         self.state = state_at(commit)
         self.keys = keys_of(self.state)
+        self.built: set[str] = set()
+
+    def build(self, name: str):
+        """Builds what a crate depends on, lowest first."""
+        for need in ordered([name], self.state)[:-1]:
+            if need not in self.built:
+                spent(["rt", "lib"], self.folder / "crates" / need)
+                self.built.add(need)
 
     def check(self, name: str):
         """Proves one crate from nothing, over what it depends on, and records the time."""
-        target = self.folder / "target"
-        (target / "stamp" / name).unlink(missing_ok=True)
-        shutil.rmtree(target / "rlib" / (name + ".rlib"), ignore_errors=True)
-        whole, log = spent(["rt", "check", name], self.folder)
-        if proved_now(log) != [name]:
-            raise LandingError("a check of %s alone has proved %s" % (name, " ".join(proved_now(log)) or "nothing"))
-        idle, _ = spent(["rt", "check", name], self.folder)
-        print("%s %s: %.1f s" % (self.commit, name, whole - idle), file=sys.stderr, flush=True)
-        self.records.add(self.keys[name], name, whole - idle, target)
+        self.build(name)
+        folder = self.folder / "crates" / name
+        words = check_words(kit(), name, self.state, (folder / "src" / "main.rt").exists())
+        seconds, _ = spent(words, folder)
+        print("%s %s: %.1f s" % (self.commit, name, seconds), file=sys.stderr, flush=True)
+        self.records.add(self.keys[name], seconds)
 
     def ensure(self, name: str, times: int):
-        """Sees to it that a crate is proved here and was checked at least so many times."""
-        if not self.records.taken(self.keys[name]):
-            self.check(name)
-        self.records.restore(self.keys[name], name, self.folder / "target")
+        """Sees to it that a crate was checked at least so many times."""
         while len(self.records.taken(self.keys[name])) < times:
             self.check(name)
 
@@ -275,7 +278,7 @@ def parser() -> argparse.ArgumentParser:
     top.add_argument("--rounds", type=int, default=1, metavar="N",
                      help="check each crate that changed N times, both commits in turn; the least is printed")
     top.add_argument("--but", nargs="*", default=[], metavar="NAME", help="crates that are not timed")
-    top.add_argument("--scratch", metavar="DIR", help="a folder for proofs and seconds that is kept")
+    top.add_argument("--scratch", metavar="DIR", help="a folder for the seconds that is kept")
     top.set_defaults(run=measure_or_say)
     return top
 

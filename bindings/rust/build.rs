@@ -19,7 +19,7 @@ fn find() -> Option<PathBuf> {
     }
     let here = PathBuf::from(env::var_os("CARGO_MANIFEST_DIR")?);
     let top = here.parent()?.parent()?;
-    let near = [here.join("lib"), top.join("lib"), top.join("target/lib"), top.join("target/staticlib")];
+    let near = [here.join("lib"), top.join("lib"), top.join("target/lib"), top.join("target/c")];
     near.into_iter().find(|folder| folder.join(NAME).exists()).or_else(installed)
 }
 

@@ -10,13 +10,13 @@ from evp.files import InputError
 from evp.library import TOP
 from evp.wording import MOST_SHOWN, printable
 
-TARGET = "evaporation"
+TARGET = "evaporation_c"
 
 
 def crates_wanted(listing: str, target: str = TARGET) -> set[str]:
     """The crates that a crate stands on, and itself, by the lines of crates.txt."""
     lines = (line.partition(":") for line in listing.splitlines())
-    below = {name: rest.split() for name, colon, rest in lines if colon}
+    below = {name.split()[0]: rest.split() for name, colon, rest in lines if colon and not name.startswith("#")}
     wanted, left = set(), [target]
     while left:
         name = left.pop()
@@ -49,12 +49,12 @@ def make_library():
 
 
 def _follow(lines: Iterable[str], wanted: set[str]) -> str:
-    """Says of each part that is proved how many are; the last line that the kit prints."""
+    """Says of each part that is proved how many are; the last line that c/shared prints."""
     proved, last = set(), ""
     for line in lines:
         last = line.strip() or last
         words = line.split()
-        if len(words) > 2 and words[0] == "rt:" and words[2] == "proved" and words[1] in wanted - proved:
+        if words[:1] == ["c/archive:"] and words[2:] == ["proved"] and words[1] in wanted - proved:
             proved.add(words[1])
             _say("evp: %d of %d parts proved" % (len(proved), len(wanted)))
     return last

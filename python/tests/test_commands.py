@@ -237,9 +237,10 @@ class MakingTest(DeskTestCase):
 
     def test_shared(self):
         """Only the calls are exported, each with its version node."""
-        if not (TOP / "target" / "staticlib" / "libevaporation.a").exists():
-            self.skipTest("rt staticlib evaporation was not run")
+        if not (TOP / "crates" / "evaporation_c" / "out" / "libevaporation_c.a").exists():
+            self.skipTest("bash c/archive evaporation_c was not run")
         self.put("bin/rt", "#!/bin/sh\n").chmod(0o755)
+        self.put("bin/rattle", "#!/bin/sh\n").chmod(0o755)
         path = "%s:%s" % (self.folder / "bin", os.environ["PATH"])
         subprocess.run(["bash", TOP / "c" / "shared", self.folder / "lib"], check=True,
                        env={**os.environ, "PATH": path})
@@ -252,9 +253,9 @@ class MakingTest(DeskTestCase):
         forms = {name for name in calls if name.endswith("_to")}
         self.assertEqual((set(calls) - forms, set(calls.values())), (set(library.CALLS), nodes))
         self.assertEqual((calls["evp_report"], {calls[name] for name in forms}), ("EVP_1.0", {"EVP_1.1"}))
-        self.assertEqual(os.readlink(self.folder / "lib" / "libevaporation.so"), library.NAME)
+        self.assertTrue((self.folder / "lib" / "libevaporation.so").samefile(made))
 
-    def make(self, script: str, crates: str = "numbers:\nbounds: numbers\nevaporation: bounds\nreport: io\n"):
+    def make(self, script: str, crates: str = "numbers:\nbounds: numbers\nevaporation_c staticlib: bounds\nreport:\n"):
         self.put("crates.txt", crates)
         self.put("c/shared", script)
         err = io.StringIO()
@@ -265,23 +266,25 @@ class MakingTest(DeskTestCase):
 
     def test_progress(self):
         """The last part is proved where the library is made, and not by itself."""
-        said = self.make("for name in numbers bounds bounds report; do echo rt: $name proved; done")
+        said = self.make("for name in numbers bounds bounds report; do echo c/archive: $name proved; done")
         began = "evp: the library is not made yet. Proving and making it takes some minutes;\n"
         self.assertTrue(said.startswith(began))
         self.assertTrue(said.endswith("\nevp: all 3 parts proved, the library is made\n"))
-        many = "".join("p%d:\n" % i for i in range(24)) + "evaporation:" + "".join(" p%d" % i for i in range(24))
-        said = self.make("for i in $(seq 0 23); do echo rt: p$i proved; done", many)
+        many = "".join("p%d:\n" % i for i in range(24)) + "evaporation_c staticlib:"
+        many += "".join(" p%d" % i for i in range(24))
+        said = self.make("for i in $(seq 0 23); do echo c/archive: p$i proved; done", many)
         self.assertEqual(said.splitlines()[2:], [
             "evp: 10 of 25 parts proved", "evp: 20 of 25 parts proved",
             "evp: all 25 parts proved, the library is made"])
 
     def test_failure(self):
         with self.assertRaisesRegex(InputError, r"could not be made: no \?\[2Jroom\nrun it by itself to see more"):
-            self.make("echo rt: numbers proved; printf 'no \\033[2Jroom\\n'; exit 1")
+            self.make("echo c/archive: numbers proved; printf 'no \\033[2Jroom\\n'; exit 1")
 
     def test_crates(self):
         wanted = making.crates_wanted((TOP / "crates.txt").read_text(encoding="utf-8"))
         self.assertIn("bounds", wanted)
+        self.assertIn("evaporation_c", wanted)
         self.assertIn("evaporation", wanted)
         self.assertNotIn("report", wanted)
 

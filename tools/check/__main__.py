@@ -43,10 +43,11 @@ def run_edits(given: argparse.Namespace) -> int:
         return finish("edits", faults, said)
     count = len(edits.find(given.crates))
     said = "%d edits are read whole and change one place" % count
-    unproved = list(edits.unproved(given.crates)) if given.logs else []
-    if given.logs:
+    log = Path(given.logs).read_text(encoding="utf-8", errors="replace") if given.logs else None
+    unproved = [] if log is None else list(edits.unproved(log, given.crates))
+    if log is not None:
         said += "; %d are refused by a fact" % (count - len(unproved))
-    return finish("edits", edits.faults(given.logs, given.crates), "\n".join([*unproved, said]))
+    return finish("edits", edits.faults(log, given.crates), "\n".join([*unproved, said]))
 
 
 def run_figures(_: argparse.Namespace) -> int:
@@ -58,7 +59,7 @@ def run_header(_: argparse.Namespace) -> int:
     named = header.name_faults(Path(TOP / header.HEADER).read_text(encoding="ascii"))
     said = "%s declares the %d functions and %d structs of the crate" % (
         header.HEADER, len(theirs.functions), len(theirs.structs))
-    return finish("header", chain(header.faults(ours, theirs), named), said)
+    return finish("header", chain(header.faults(ours, theirs), named, header.own_export_faults()), said)
 
 
 def run_bindings(_: argparse.Namespace) -> int:
@@ -134,8 +135,8 @@ def parser() -> argparse.ArgumentParser:
     found["snippets"].add_argument("--write", action="store_true", help="put the files into the document")
     found["believe"].add_argument("--list", action="store_true", help="print these definitions by file, with lines")
     found["believe"].add_argument("--mixed", action="store_true", help="print the files that are to be split")
-    found["edits"].add_argument("--logs", action="store_true", help="look at the logs under target/must-fail too")
-    found["edits"].add_argument("--try", dest="one", metavar="FILE.edit", help="try this edit alone, by rt dev")
+    found["edits"].add_argument("--logs", metavar="LOG", help="look at this log of rt ci or rt must-fail too")
+    found["edits"].add_argument("--try", dest="one", metavar="FILE.edit", help="try this edit alone, by rt check")
     found["edits"].add_argument("crates", nargs="*", metavar="CRATE", help="the edits of these crates alone")
     found["lines"].add_argument("--wrap", action="store_true", help="wrap those of Markdown first")
     found["lines"].add_argument("files", nargs="*", metavar="FILE", help="these files alone")

@@ -30,7 +30,7 @@ READING = "docs/READING.md"
 DEMANDS: dict[str, dict[str, str]] = {
     "1": {
         "inventory": "report_demands factor_demands written answer_number answer_place",
-        "sheet": "Says numberOf placeOf",
+        "sheet": "Says number_of place_of",
     },
     "2": {"inventory": "FactorBand answer_low answer_high", "sheet": "Written"},
     "3": {"report_words": "ReportPromise"},
@@ -53,6 +53,9 @@ LAWS = ("bounds", "Laws")
 
 # The crates that are programs for a person: their contracts speak of what is read and written.
 PROGRAMS = ("report_run", "species_run", "pool_run")
+
+# The crates whose functions C can call: the library, and the static library that calls it.
+EXPORTS = ("evaporation", "evaporation_c")
 
 # The exceptions. Each list can only become shorter: one that is no longer needed is a fault.
 
@@ -152,7 +155,7 @@ def public_calls() -> set[tuple[str, str]]:
              for name in re.findall(r"`([^`]+)`", listed)}
     return found | {(str(each.path.relative_to(TOP)), each.name) for each in contracts()
                     if each.path.relative_to(CRATES).parts[0] in PROGRAMS
-                    or each.path.is_relative_to(CRATES / "evaporation") and each.name.startswith("evp_")}
+                    or each.path.relative_to(CRATES).parts[0] in EXPORTS and each.name.startswith("evp_")}
 
 
 @cache

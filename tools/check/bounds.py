@@ -12,7 +12,7 @@ from collections.abc import Iterator
 from functools import cache
 from pathlib import Path
 
-from tools.command import TOP
+from tools.command import TOP, crate_files
 
 BOUNDS = TOP / "crates" / "bounds"
 
@@ -28,7 +28,7 @@ SERIES = {
 # Where the definitions are opened, for the examples and values that must compute; others open them through this file.
 OPEN = "crates/exact/proofs/Open.antt"
 
-USE = re.compile(r"^(?:unfoldable )?(?:pub )?use Rattle·bounds(?:·\w+)?\.(specs|proofs)\.([\w.]+)\.\{([^}]*)\}", re.M)
+USE = re.compile(r"^(?:unfoldable )?(?:pub )?use Rattle\.bounds\.(specs|proofs)\.([\w.]+)\.\{([^}]*)\}", re.M)
 DEFINED = re.compile(r"^(?:(?:unfoldable|abbrev) )?pub (?:record )?(\S+) ")
 
 
@@ -93,7 +93,7 @@ def shut() -> set[str]:
 
 def above() -> Iterator[Path]:
     """Every file of proofs and definitions above bounds."""
-    for file in sorted((TOP / "crates").glob("*/*/**/*.antt")):
+    for file in crate_files(".antt"):
         if file.relative_to(TOP / "crates").parts[0] != "bounds":
             yield file
 

@@ -7,14 +7,15 @@ in src/lib.rt of a crate with public calls has a `requires`, and no function tha
 exported to C has one: every input has an answer. A program writes an answer in one
 place for each stream, by a function of crates/program, calls each of its functions
 that lead to standard output once and has no loop, so that it writes at most one answer
-there; its `main` is one call.
+there, also to the system's streams, of which no contract says what they have; its
+`main` hands its streams to the one function that does all, and is nothing else.
 """
 
 import re
 from collections.abc import Iterator
 from pathlib import Path
 
-from tools.command import TOP
+from tools.command import TOP, crate_files
 
 # Crates whose src/lib.rt has the public calls, in Rattle.
 CALLS = (
@@ -22,8 +23,9 @@ CALLS = (
     "map_cells", "map_rows", "speciation", "species_report", "report_text", "boundary_calls", "evaporation",
 )
 BESIDE = ("map_cells/src/sums.rt",)  # public calls in another file of such a crate
-EXPORTS = "evaporation"  # the crate whose functions C calls, in any of its files
-PROGRAMS = ("report", "species", "pool")  # those that answer a sheet; crates/NAME_run has what each does
+EXPORTS = ("evaporation", "evaporation_c")  # the crates whose functions C calls, in any of their files
+# Those that answer a sheet, and where its bytes are from; crates/NAME_run has what each does.
+PROGRAMS = {"report": "OneSheet", "species": "OneSheet", "pool": "TwoSheets"}
 START = "evp_run"  # where such a program starts
 
 # The laws by which something counts as read or written, and the files that may name them.
@@ -31,11 +33,28 @@ LAWS = ("taken", "missed", "wrote", "stopped")
 SHUT = ("crates/program/specs/Reads.antt", "crates/program/specs/Writes.antt")
 READERS = "crates/program/proofs/"
 
-LAW = re.compile(r"(?<! \.)(?<![\w'-])(?:%s)(?![\w'-])" % "|".join(LAWS))
-USE = re.compile(r"\buse Rattle·program(?:·specs)?((?:\.\w+)*)(\.\{)?")
+# By itself or behind a module; behind a value, as in i.loop-test.taken, the word is a field.
+LAW = re.compile(r"(?:(?<![\w'.-])|\b[A-Z]\w*\.)(%s)(?![\w'-])" % "|".join(LAWS))
+LABEL = re.compile(r"\b((?:requires|ensures)\*?) \w+ \{")  # a clause with its name
+USE = re.compile(r"\buse Rattle\.program((?:\.\w+)*)(\.\{)?")
 WHOLE = (".specs.Reads", ".specs.Writes")
 OUT = re.compile(r"\bprogram::(?:write_answer|write_out)\(")
 ERROR = re.compile(r"\bprogram::write_error\(")
+# What reads or writes by itself; a program's code has the trait Write for its bounds, and reads by Sources.
+TRAITS = re.compile(r"^use std::io::Write;$", re.M)
+OWN = re.compile(r"\b(?:io|fs|env|libc|os)::|\b(?:e?print(?:ln)?|write(?:ln)?)!|"
+                 r"\.(?:write\w*|flush|stdout|stderr|stdin|reader)\(")
+MACRO = re.compile(r"\b(?:write(?:ln)?)!\(\s*(\w+)")
+PRINTING = re.compile(r"\be?print(?:ln)?!|\bstdout\(|\bstderr\(")
+MAIN = """
+#![tactic(auto)]
+use program::sources::%(sheets)s;
+use std::process::ExitCode;
+fn main(rt: HostRuntime) -> ExitCode {
+    let sheets = %(sheets)s::new(&rt, "%(name)s");
+    ExitCode::from(%(name)s_run::%(start)s(&sheets, &mut rt.stdout(), &mut rt.stderr()))
+}
+"""
 FUNCTION = re.compile(r"^(?P<head>(?:pub )?(?:extern \"C\" )?)fn (?P<name>\w+)(?P<rest>.*?)(?:^\{| \{$)", re.M | re.S)
 LOOP = re.compile(r"\b(?:while|for|loop)\b")
 
@@ -49,8 +68,8 @@ def law_faults(place: str, text: str) -> Iterator[str]:
     """Whether a file that may not do so can name a law by which something counts as read or written."""
     if place in SHUT or place.startswith(READERS):
         return
-    code = plain(text, "--" if place.endswith(".antt") else "//")
-    if "Rattle·program" not in code:
+    code = LABEL.sub(r"\1 {", plain(text, "--" if place.endswith(".antt") else "//"))
+    if "Rattle.program" not in code:
         return
     for name in sorted(set(LAW.findall(code))):
         yield "%s names `%s`: that is for the functions of program that read and write, and for no other" % (
@@ -76,12 +95,17 @@ def roots() -> list[Path]:
     return [TOP / "crates" / name for name in (*("%s/src/lib.rt" % crate for crate in CALLS), *BESIDE)]
 
 
+def exporting() -> list[Path]:
+    """The files with functions that C calls."""
+    return [file for crate in EXPORTS for file in sources(crate)]
+
+
 def call_faults() -> Iterator[str]:
     """Public calls that require something of their caller."""
     for file in roots():
         for function in demanding(file.read_text(encoding="utf-8"), exported=False):
             yield "%s: `%s` is public and has a `requires`" % (file.relative_to(TOP), function)
-    for file in sources(EXPORTS):
+    for file in exporting():
         for function in demanding(file.read_text(encoding="utf-8"), exported=True):
             yield "%s: `%s` is exported and has a `requires`" % (file.relative_to(TOP), function)
 
@@ -113,7 +137,7 @@ def program_faults(name: str, text: str) -> Iterator[str]:
         count = len(write.findall(code))
         if count > most or (write is OUT and not count):
             yield "%s: an answer is written to %s in %d places; one is wanted" % (name, stream, count)
-    if re.search(r"\b(?:io|libc|os)::", code):
+    if OWN.search(TRAITS.sub("", code)):
         yield "%s: it reads or writes by itself; crates/program does that" % name
     if LOOP.search(code):
         yield "%s: it has a loop, in which it could write twice" % name
@@ -124,22 +148,35 @@ def program_faults(name: str, text: str) -> Iterator[str]:
 
 
 def main_faults(name: str, text: str) -> Iterator[str]:
-    """Whether the source with `main` is more or less than one call."""
-    if plain(text, "//").split() != ("fn main() { %s_run::%s(); }" % (name, START)).split():
+    """Whether the source with `main` is more or less than one call, to which its sheets and its streams are handed."""
+    expected = MAIN % {"name": name, "sheets": PROGRAMS[name], "start": START}
+    if plain(text, "//").split() != expected.split():
         yield "%s: `main` is more or less than a call of `%s_run::%s`" % (name, name, START)
 
 
 def shared_faults(text: str) -> Iterator[str]:
-    """Whether crates/program writes an answer elsewhere than in the two functions for that."""
+    """Whether crates/program writes an answer elsewhere than in the two functions for that; what it says besides goes
+    to standard error."""
     code = plain(text, "//")
     found = bodies(code)
-    if len(re.findall(r"\bSTDOUT_FILENO\b", code)) != 2 or found["write_out"].split("}")[0].strip() != \
-            "io::write_all(STDOUT_FILENO, text)":
-        yield "program: standard output is named elsewhere than in `write_out`, or that writes something else"
-    if found["write_error"].split("}")[0].strip() != "io::write_all(STDERR_FILENO, text)":
-        yield "program: `write_error` writes something else than its text"
+    for function, call in (("write_out", "write_all(out, text)"), ("write_error", "write_all(err, text)")):
+        if found[function].split("}")[0].strip() != call:
+            yield "program: `%s` writes something else than its text" % function
+    if calls_of("write_all", code) != 2:
+        yield "program: `write_all` is called elsewhere than in `write_out` and `write_error`"
+    for method in ("write", "flush"):
+        count = len(re.findall(r"\.%s\(" % method, code))
+        if count != 1 or ".%s(" % method not in found["write_all"]:
+            yield "program: `%s` is called elsewhere than once in `write_all`" % method
+    if set(MACRO.findall(code)) - {"err"} or PRINTING.search(code):
+        yield "program: something is printed elsewhere than on standard error"
     if calls_of("write_out", code) != 1 or calls_of("write_out", found["write_answer"]) != 1:
         yield "program: `write_out` is called elsewhere than once in `write_answer`"
+
+
+def shared() -> str:
+    """The code of crates/program, all of its files."""
+    return "\n".join(file.read_text(encoding="utf-8") for file in sources("program"))
 
 
 def sources(crate: str) -> list[Path]:
@@ -148,17 +185,16 @@ def sources(crate: str) -> list[Path]:
 
 def faults() -> Iterator[str]:
     """What is wrong, of all three rules."""
-    for ending in ("antt", "rt"):
-        for file in sorted((TOP / "crates").glob("*/*/**/*." + ending)):
-            yield from law_faults(str(file.relative_to(TOP)), file.read_text(encoding="utf-8"))
+    for file in crate_files(".antt", ".rt"):
+        yield from law_faults(str(file.relative_to(TOP)), file.read_text(encoding="utf-8"))
     yield from call_faults()
     crates = TOP / "crates"
     for name in PROGRAMS:
         yield from program_faults(name, (crates / (name + "_run") / "src" / "lib.rt").read_text(encoding="utf-8"))
         yield from main_faults(name, (crates / name / "src" / "main.rt").read_text(encoding="utf-8"))
-    yield from shared_faults((crates / "program" / "src" / "lib.rt").read_text(encoding="utf-8"))
+    yield from shared_faults(shared())
 
 
 def count() -> int:
     """How many public and exported functions are looked at."""
-    return sum(len(public(file.read_text(encoding="utf-8"))) for file in {*roots(), *sources(EXPORTS)})
+    return sum(len(public(file.read_text(encoding="utf-8"))) for file in {*roots(), *exporting()})

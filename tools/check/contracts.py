@@ -12,7 +12,7 @@ from tools.check.statements import Place, contract, declared, find, imports, rea
 from tools.command import TOP
 
 PAGE = "docs/LIBRARY.md"
-SOURCES = "crates/evaporation/src"
+SOURCES = "crates/evaporation_c/src"
 
 SECTION = re.compile(r"^### ((?:`evp_\w+`(?:, )?)+)$(.*?)(?=^##|\Z)", re.M | re.S)
 CONTRACTS = re.compile(r"\bContracts? ((?:`\w+`(?: and )?)+)")

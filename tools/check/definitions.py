@@ -16,6 +16,7 @@ from tools.command import TOP
 
 CRATES = TOP / "crates"
 DECLARED = "src"  # in place of a file of specs/: a struct or an enum of the crate's code
+VARIANTS = "TheVariants"  # the module of an enum's constructors
 
 
 class Key(NamedTuple):
@@ -38,7 +39,7 @@ START = re.compile(r"( *)((?:unfoldable|abbrev|pub|record|data) )+")
 NAMED = re.compile(r" *((?:(?:unfoldable|abbrev|pub|record|data) )+)(\S+)")
 OTHER = re.compile(r" *(module|use|pub use|unfoldable use|unfoldable pub use|infix[lr]?|pub mod|mod)\b")
 MODULE = re.compile(r"( *)module _ (.*) where$")
-USE = re.compile(r"^(?:ghost )?(?:unfoldable )?(?:pub )?use Rattle·(\w+?)(?:·specs)?\.specs\.([\w.-]+?)"
+USE = re.compile(r"^(?:ghost )?(?:unfoldable )?(?:pub )?use Rattle\.(\w+)\.specs\.([\w.-]+?)"
                  r"(?:\.\{([^}]*)\}| as (\w+));?$", re.M)
 TOKEN = re.compile(r"[^\s(){};,\[\]|]+")
 BINDER = re.compile(r"[({]([^(){}:=;]*?) :(?= )|λ ([^.(]*)\.|\blet (\S+)(?= =)")
@@ -47,6 +48,7 @@ GIVEN = re.compile(r"(?<=[{;])(\s*)(\S+)(?= = )")  # the name of a field in `rec
 LET = re.compile(r"\b(let )(\S+)(?= =)")
 DECLARATION = re.compile(r"^(?:pub )?(?:struct|enum) (\w+)\s*(?:\{(.*?)^\}|\(([^;]*)\);)", re.M | re.S)
 FUNCTION = re.compile(r"^(?:pub )?(?:extern \"C\" )?fn (\w+)(.*?)(?:^| )\{$", re.M | re.S)
+CLAUSE = re.compile(r"\b(requires|ensures)\*?(?: \w+)? \{")
 
 
 def without_comments(text: str) -> list[str]:
@@ -118,8 +120,8 @@ def declared() -> dict[Key, str]:
 
 
 def bare(name: str) -> str:
-    """An operator as it is written between its arguments: ≤ᶠ for _≤ᶠ_."""
-    return name.strip("_") or name
+    """An operator as it is written between its arguments: ≤ᶠ for ◌≤ᶠ◌."""
+    return name.strip("◌") or name
 
 
 class Scope(NamedTuple):
@@ -149,9 +151,9 @@ def imported(text: str) -> Iterator[tuple[str, Key, bool]]:
     for crate, module, names, alias in USE.findall(text):
         parts = module.split(".")
         if parts[0] == "declared":
-            key = Key(crate, DECLARED, [part for part in parts if part != "the-variants"][-1])
+            key = Key(crate, DECLARED, [part for part in parts if part != VARIANTS][-1])
             listed = [name.strip() for name in names.split(",")] if names else []
-            yield from ((name.split(" as ")[-1], key, "the-variants" in parts) for name in listed)
+            yield from ((name.split(" as ")[-1], key, VARIANTS in parts) for name in listed)
             if alias:
                 yield alias + ".", key, True
             continue
@@ -167,8 +169,9 @@ def imported(text: str) -> Iterator[tuple[str, Key, bool]]:
 
 def unresolved(text: str) -> Iterator[str]:
     """Names that a text imports from definitions of ours and that are not found, so that a closure would lack them."""
-    lines = re.findall(r"^(?:ghost )?(?:unfoldable )?(?:pub )?use Rattle·.*", text, re.M)
-    yield from (line for line in lines if not USE.search(line))
+    for line, crate in re.findall(r"^((?:ghost )?(?:unfoldable )?(?:pub )?use Rattle\.(\w+).*)", text, re.M):
+        if (CRATES / crate).is_dir() and not USE.search(line):
+            yield line
     for crate, module, listed, _ in USE.findall(text):
         names = [name.strip().split(" as ")[0] for name in listed.split(",")] if listed else []
         if module.startswith("declared.") or not (CRATES / crate).is_dir():  # a crate of the kit
@@ -185,10 +188,15 @@ def scope_of(text: str, own: Scope) -> Scope:
     return Scope(names, made)
 
 
+def head_of(token: str) -> str:
+    """What a token begins with: the value of a projection, as in row.class, or the module of a name."""
+    return token.partition(".")[0] or token
+
+
 def meaning(token: str, scope: Scope) -> Key | None:
-    """The definition that a token names, if any."""
-    alias, dot, _ = token.partition(".")
-    return scope.find(token) or (scope.made.get(alias + ".") if dot and alias else None)
+    """The definition that a token names, if any: by its name, by a module's other name, or as the value of a field."""
+    head = head_of(token)
+    return scope.find(token) or (head != token and (scope.made.get(head + ".") or scope.find(head)) or None)
 
 
 def is_constructor(token: str, scope: Scope) -> bool:
@@ -216,7 +224,7 @@ def references(text: str, scope: Scope, hidden: Iterable[str] = ()) -> set[Key]:
     found = set()
     for match in TOKEN.finditer(text):
         token = match[0].rstrip(".")  # as in `λ r.`; of a field, .vp, the dot stays, so that it is no name
-        if any(token == name and match.start() >= place for place, name in variables):
+        if any(head_of(token) == name and match.start() >= place for place, name in variables):
             continue
         if key := meaning(token, scope):
             found.add(key)
@@ -306,18 +314,30 @@ class Contract(NamedTuple):
     ensures: frozenset[Key]
 
 
+def clauses(head: str) -> list[tuple[str, str]]:
+    """The clauses of a function's head, each with its word, `requires` or `ensures`."""
+    found = []
+    for match in CLAUSE.finditer(head):
+        end, depth = match.end(), 1
+        while depth and end < len(head):
+            depth += {"{": 1, "}": -1}.get(head[end], 0)
+            end += 1
+        found.append((match[1], " ".join(head[match.end():end - 1].split())))
+    return found
+
+
 def read_contracts(path: Path) -> Iterator[Contract]:
-    """The functions of a file of code."""
+    """The functions of a file of code; of a file that has no contract, none."""
     text = path.read_text(encoding="utf-8")
-    if "⌜" not in text:
+    if not CLAUSE.search(text):
         return
     scope = scope_of(text, Scope({}, {}))
     for name, head in FUNCTION.findall(text):
-        before, _, ensured = head.partition("ensures {")
-        signature, _, needed = before.partition("requires {")
-        hidden = re.findall(r"(\w+): ", signature)
-        yield Contract(path, name, bool(needed), frozenset(references(needed, scope, hidden)),
-                       frozenset(references(ensured, scope, hidden)))
+        said = clauses(head)
+        hidden = [*re.findall(r"(\w+): ", CLAUSE.split(head)[0]), "result"]
+        named = {word: frozenset(key for kind, clause in said if kind == word
+                                 for key in references(clause, scope, hidden)) for word in ("requires", "ensures")}
+        yield Contract(path, name, any(word == "requires" for word, _ in said), named["requires"], named["ensures"])
 
 
 @cache

@@ -8,18 +8,19 @@ text stands once in the file, where the pairs before it are done; the file is on
 of src/ or specs/, since an edit of a proof shows nothing of a contract; and some
 line says what the edit would break.
 
-With --logs, after `rt must-fail` or `rt ci`, the first error of each log under
-target/must-fail is looked at. It must show a goal that fails: two types that
-differ, an equation or a computed test that is false, or values at which `omega`'s
-goal fails.
+With --logs, the log of `rt ci` or `rt must-fail` must have a line for every edit
+that says it was refused. The first error that stands there, cut by rt after 160
+characters, must show a goal that fails: two types that differ, an equation or a
+computed test that is false, or values at which `omega`'s goal fails.
 Where the prover only found no proof, the edited statement may still be true: it is
 then not called refused by a fact, and is printed with the line `# why: ..` of the
 edit, which says why it is false, or with the remark that no line says it. A name
-or a field that is gone, a need that has another name, or a file that does not
-parse shows nothing at all, and is a fault.
+or a field that is gone, a goal that has another name, or a file that does not
+parse shows nothing at all, and is a fault; so is an edit that rt calls bad, that it
+did not try, or that only a limit of the prover refused.
 
-With --try, one edit is tried in seconds: it is done in its crate, `rt dev` is run
-and the crate's files are put back. Its first error is printed.
+With --try, one edit is tried in seconds: it is done in its crate, `rt check` is run
+there and the crate's files are put back. Its first error is printed.
 """
 
 import re
@@ -31,12 +32,16 @@ from typing import NamedTuple
 from tools.command import TOP
 
 EDITS = "crates/*/must-fail/*.edit"
-LOGS = TOP / "target" / "must-fail"
+# What rt says of an edit: of which crate, which edit, and what came of it.
+TRIED = re.compile(r"^rt: must-fail (\w+)/(\S+)\.edit: (.*)", re.M)
+REFUSED = "refused, as it must be"
+
+ERROR = re.compile(r": error[:\[]|^error|: no proof: |^note: \S+:\d+:\d+: it is not proved that ")
 
 # First errors that show nothing of a fact, by the words that rattle and antt have for them.
 NO_FACTS = {
-    "a need that is named otherwise": r"has no `Need-|that can be named from here|expected type `tie\.Need-",
-    "a name that is gone": r"is not in scope|has no `[^`]*`",
+    "a goal that is named otherwise": r"that can be named from here|(?<!the )expected type `goal\.",
+    "a name that is gone": r"is not in scope|has no `[^`]*`|no module is found by the path|was not admitted",
     "a field that is gone": r"has no field",
     "a proof that is asked for": r"no proof: expected",
     "a file that does not parse": r"error: (expected|unexpected|parse|syntax)",
@@ -49,10 +54,11 @@ NO_FACTS = {
 # to false.
 FACTS = {
     "values at which the goal fails": r"`omega`: .* All of that holds, and the goal fails",
-    "two types that differ": r"the two types (first )?differ|expected type `.*but this has type `",
+    "two types that differ": r"the two types (first )?differ|expected type `(?:.*but this has type `|[^`]*$)",
     "an equation whose ends differ": r"must be a path whose two ends are equal, and `.*` is none",
-    "two indices that differ": r"the two indices are `.*` \(the constructor's\) and `.*` \(the expected",
-    "a computed test that is false": r"the two sides are `Prim\.Unit[^`]*` \(left\) and `Prim\.⊥` \(right\)",
+    "two indices that differ": r"the two indices are `.*` \(the constructor's\) and `.*` \(the expected|"
+                               r"lands at index `[^`]*` \(position \d+\) but the expected type",
+    "a computed test that is false": r"the two sides are `(?:Prim\.)?Unit[^`]*` \(left\) and `(?:Prim\.)?⊥` \(right\)",
 }
 
 # Every other first error: the prover gave up, and the edited statement may be true.
@@ -137,10 +143,10 @@ def form_faults(edit: Path) -> list[Fault]:
 
 
 def first_error(log: str) -> str:
-    """The first error of a log, with the lines that belong to it; empty where there is none."""
+    """The first error of a check, or goal that it left, with the lines that belong to it; empty where there is none."""
     lines = log.splitlines()
     for i, line in enumerate(lines):
-        if re.search(r": error[:\[]|^error|: no proof: ", line):
+        if ERROR.search(line):
             rest = []
             for more in lines[i + 1:]:
                 if not more.startswith("  "):
@@ -161,9 +167,8 @@ def first_of(patterns: dict[str, str], error: str) -> str:
     return next((name for name, pattern in patterns.items() if re.search(pattern, error)), "")
 
 
-def refusal(log: str, why: str) -> Refusal:
-    """What the first error of a log shows; `why` says why the edit is false, where its file does."""
-    error = first_error(log)
+def refusal(error: str, why: str) -> Refusal:
+    """What the first error of a check shows; `why` says why the edit is false, where its file does."""
     if not error:
         return Refusal("", "no error in its log")
     nothing = first_of(NO_FACTS, error)
@@ -187,14 +192,14 @@ def changed(changes: Iterable[Change], crate: Path) -> dict[Path, str]:
 
 
 def tried(edit: Path) -> str:
-    """What `rt dev` says of an edit's crate with the edit done; the files are put back, whatever happens."""
+    """What `rt check` says of an edit's crate with the edit done; the files are put back, whatever happens."""
     crate = edit.parent.parent
     made = changed(read(edit.read_text(encoding="utf-8"))[0], crate)
     before = {path: path.read_bytes() for path in made}
     try:
         for path, text in made.items():
             path.write_text(text, encoding="utf-8")
-        run = subprocess.run(["rt", "dev", crate.name], cwd=TOP, stdout=subprocess.PIPE, stderr=subprocess.STDOUT)
+        run = subprocess.run(["rt", "check"], cwd=crate, stdout=subprocess.PIPE, stderr=subprocess.STDOUT)
     finally:
         for path, data in before.items():
             path.write_bytes(data)
@@ -212,35 +217,48 @@ def try_edit(edit: Path) -> tuple[str, list[str]]:
         log = tried(edit)
     except (ValueError, FileNotFoundError) as error:
         return "", [str(error)]
-    shown = refusal(log, reason(edit.read_text(encoding="utf-8")))
+    shown = refusal(first_error(log), reason(edit.read_text(encoding="utf-8")))
     return shown.said, [shown.fault] if shown.fault else []
 
 
-def logged(edit: Path) -> Refusal:
-    """What the log of an edit under target/must-fail shows."""
-    log = LOGS / edit.parent.parent.name / edit.stem / ".log"
-    if not log.exists():
-        return Refusal("", "no log; rt must-fail %s makes it" % edit.parent.parent.name)
-    return refusal(log.read_text(encoding="utf-8", errors="replace"), reason(edit.read_text(encoding="utf-8")))
+def outcomes(log: str) -> dict[tuple[str, str], str]:
+    """What a log of `rt ci` or `rt must-fail` says of each edit, by its crate and its name."""
+    return {(crate, edit): said for crate, edit, said in TRIED.findall(log)}
 
 
-def unproved(crates: Iterable[str] = ()) -> Iterator[str]:
-    """The edits whose logs show no counterexample, with why they are false where their files say it."""
+def logged(edit: Path, said: dict[tuple[str, str], str]) -> Refusal:
+    """What a log shows of an edit."""
+    crate = edit.parent.parent.name
+    outcome = said.get((crate, edit.stem))
+    if outcome is None:
+        return Refusal("", "the log says nothing of it; rt must-fail %s tries it" % crate)
+    if not outcome.startswith(REFUSED):
+        return Refusal("", outcome[:200])
+    how, _, error = outcome.removeprefix(REFUSED).partition(": ")
+    if how:  # in brackets, that a proof names what is gone, or that the prover met a limit
+        return Refusal("", "refused" + how.partition(", so this says")[0].rstrip(")") + ")")
+    return refusal(error, reason(edit.read_text(encoding="utf-8")))
+
+
+def unproved(log: str, crates: Iterable[str] = ()) -> Iterator[str]:
+    """The edits of which a log shows no counterexample, with why they are false where their files say it."""
+    said = outcomes(log)
     for edit in find(crates):
-        if logged(edit).said.startswith(NO_COUNTEREXAMPLE):
+        if logged(edit, said).said.startswith(NO_COUNTEREXAMPLE):
             why = reason(edit.read_text(encoding="utf-8"))
             yield "%s: %s; %s" % (
                 edit.relative_to(TOP), NO_COUNTEREXAMPLE, "false because " + why if why else NO_REASON)
 
 
-def faults(logs: bool, crates: Iterable[str] = ()) -> Iterator[str]:
-    """What is wrong with the edits of these crates, or of all."""
+def faults(log: str | None = None, crates: Iterable[str] = ()) -> Iterator[str]:
+    """What is wrong with the edits of these crates, or of all; with a log, in it too."""
+    said = None if log is None else outcomes(log)
     for edit in find(crates):
         name = edit.relative_to(TOP)
         for fault in form_faults(edit):
             yield "%s, line %d: %s" % (name, *fault)
-        if logs and logged(edit).fault:
-            yield "%s: %s" % (name, logged(edit).fault)
+        if said is not None and logged(edit, said).fault:
+            yield "%s: %s" % (name, logged(edit, said).fault)
 
 
 def find(crates: Iterable[str] = ()) -> list[Path]:

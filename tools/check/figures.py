@@ -3,8 +3,8 @@
 A claim is a piece of a sentence with the names of facts in braces. It must
 stand in some document, and wherever it stands the figures must be those of the
 facts; spaces and line ends count alike. A figure beside one of NOUNS that no
-claim holds is reported too. docs/changes and docs/TIMES.md tell how things were
-in some run, and are not read.
+claim holds is reported too. docs/changes, docs/PORT.md and docs/TIMES.md tell how
+things were, and are not read.
 """
 
 import re
@@ -255,7 +255,7 @@ def facts() -> dict[str, str]:
 
 
 def documents() -> list[Text]:
-    pages = sorted(set((TOP / "docs").glob("*.md")) - {TOP / times.PAGE})
+    pages = sorted(set((TOP / "docs").glob("*.md")) - {TOP / times.PAGE, TOP / "docs/PORT.md"})
     paths = [TOP / "README.md", TOP / "CONTRIBUTING.md", *pages]
     return [Text(str(path.relative_to(TOP)), " ".join(path.read_text(encoding="utf-8").split())) for path in paths]
 

@@ -1,5 +1,6 @@
-"""include/evaporation.h against the exported functions of crates/evaporation
-and the #[repr(C)] structs that they take and answer.
+"""include/evaporation.h against the exported functions of crates/evaporation_c
+and the #[repr(C)] structs that they take and answer; and these functions against
+those of crates/evaporation, which they call.
 
 Both sides are brought to one form. A function is its name, its parameters in
 their order and what it answers; a slice is two parameters, a pointer and a
@@ -14,6 +15,11 @@ enum share one word behind EVP_, and no two names differ by their case alone.
 
 The pointer forms, which tools.make pointers writes, are no functions of the
 crate: they are left out.
+
+crates/evaporation_c is the static library: a crate is built as a library or as a
+static library, not as both. Each of its functions has the parameters, the answer
+and the clauses of the function of crates/evaporation with its name, every such
+function has one, and its body is the call of that function with these parameters.
 """
 
 import re
@@ -24,13 +30,15 @@ from typing import NamedTuple
 from tools.command import TOP
 
 HEADER = "include/evaporation.h"
-CRATE = "crates/evaporation/src/*.rt"
+CRATE = "crates/evaporation_c/src/*.rt"
+CALLED = "crates/evaporation/src"
 ALL_CRATES = "crates/*/src/**/*.rt"
 DEMANDS = "crates/sheet/specs/Demands.antt"
 SCALARS = {"u8": "uint8_t", "u32": "uint32_t", "u64": "uint64_t", "usize": "size_t", "f64": "double", "bool": "bool"}
 SIZES = {"uint8_t": 1, "bool": 1, "uint32_t": 4, "uint64_t": 8, "size_t": 8, "double": 8}
 LENGTHS = ("bytes", "count")
 INLINE = re.compile(r"^static inline .*?^\}$", re.M | re.S)  # a function that the header itself has
+EXPORTED = re.compile(r'^#\[unsafe\(no_mangle\)\]\npub extern "C" fn (\w+)(\(.*?)^\{\n(.*?)^\}$', re.M | re.S)
 FORMS_START = "/* Pointer forms: "  # the section of the header that has them
 FORMS_END = "/* End of the pointer forms. */\n"
 FORMS = re.compile("^%s.*?^%s" % (re.escape(FORMS_START), re.escape(FORMS_END)), re.M | re.S)
@@ -99,8 +107,53 @@ def crate_source(exports: str, declarations: str) -> Source:
         name: Function(name, crate_members(parameters), SCALARS.get(answer, answer))
         for name, parameters, answer in re.findall(r'pub extern "C" fn (\w+)\(([^)]*)\)\s*->\s*(\w+)', exports)
     }
-    structs = re.findall(r"#\[repr\(C\)\]\s*pub struct (\w+) \{(.*?)\}", declarations, re.S)
+    structs = re.findall(r"#\[repr\(C\)\]\s*(?:#\[[^\]]*\]\s*)*pub struct (\w+) \{(.*?)\}", declarations, re.S)
     return Source(functions, {name: crate_members(members) for name, members in structs})
+
+
+class Export(NamedTuple):
+    """An exported function: its parameters, answer and clauses, its body, and its path in Rattle."""
+    head: str
+    body: str
+    path: str
+
+
+def exports_of(text: str, path: str = "") -> dict[str, Export]:
+    """The functions that a file of a crate exports, by their names; `path` is that of the file's module."""
+    plain = re.sub(r"//[^\n]*", "", text)
+    return {name: Export(one_line(head), one_line(body), path + "::" + name)
+            for name, head, body in EXPORTED.findall(plain)}
+
+
+def one_line(text: str) -> str:
+    """A text on one line, also a list that had a line for each of its words."""
+    return re.sub(r",? \)", ")", " ".join(text.split())).replace("( ", "(")
+
+
+def export_faults(exports: dict[str, Export], called: dict[str, Export]) -> Iterator[str]:
+    """Functions of the static library that are not the calls of the library with their names."""
+    for name in sorted(exports.keys() ^ called.keys()):
+        yield "%s is in the %s alone" % (name, "static library" if name in exports else "library that it calls")
+    for name in sorted(exports.keys() & called.keys()):
+        head = called[name].head
+        if exports[name].head != head:
+            yield "%s: it is `%s` in the static library, and `%s` in the library" % (name, exports[name].head, head)
+        words = re.findall(r"(\w+): ", head.partition(")")[0])
+        body = "%s(%s)" % (called[name].path, ", ".join(words))
+        if exports[name].body != body:
+            yield "%s: its body is `%s`, and not `%s`" % (name, exports[name].body, body)
+
+
+def own_export_faults() -> Iterator[str]:
+    """The same of the crates."""
+    exports: dict[str, Export] = {}
+    called: dict[str, Export] = {}
+    for path in sorted(TOP.glob(CRATE)):
+        exports |= exports_of(path.read_text(encoding="utf-8"))
+    for path in sorted((TOP / CALLED).glob("*.rt")):
+        module = "evaporation" if path.stem == "lib" else "evaporation::" + path.stem
+        called |= exports_of(path.read_text(encoding="utf-8"), module)
+    yield from export_faults(exports, called)
 
 
 def numbers_asked(demands: str) -> tuple[int, ...]:

@@ -15,12 +15,12 @@ from collections.abc import Iterator
 from pathlib import Path
 from typing import NamedTuple
 
-from tools.command import TOP
+from tools.command import OUT, TOP
 
 LIMIT = 120
 RATTLE, RATTLE_LIMIT = (".rt", ".antt"), 150
 MADE = TOP / "crates/exact/proofs/Values.antt"  # fractions of a hundred digits
-SKIPPED = {"target", ".git", "__pycache__"}
+SKIPPED = {"target", OUT, ".git", "__pycache__"}
 
 ITEM = re.compile(r"( *)([-*+]|\d+[.)]) +")
 FENCE = re.compile(r" *(```|~~~)")

@@ -1,14 +1,14 @@
 """The names that README.md, CONTRIBUTING.md and docs/*.md give: is each file, link and function there?
 
 A path that begins with a folder of the repository, such as crates/fields/src/limits.rt,
-must be there, and so must what a link leads to, with its heading. `name` in
-crates/../file.rt must be a function, a constant or a definition of that file;
-several names may stand before one `in`. In a path NAME, X, * and {..} stand for
-any name. `law` in crate/proofs/File must stand in that file; so must, in the
+must be there, and so must what a link leads to, with its heading; what rt makes in a
+crate's folder out/ need not. `name` in crates/../file.rt must be a function, a
+constant or a definition of that file; several names may stand before one `in`. In a
+path NAME, X, * and {..} stand for any name. `law` in crate/proofs/File must stand in that file; so must, in the
 tables of docs/READING.md, the definitions beside crate: File, and that page must
 speak of every file of definitions. Whatever else stands as one name in `..` must be
-a name of some source file. docs/changes tell how things were: of these the links
-alone are looked at.
+a name of some source file. docs/changes and docs/PORT.md tell how things were: of
+these the links alone are looked at.
 """
 
 import re
@@ -17,12 +17,14 @@ from collections.abc import Iterator
 from pathlib import Path
 
 from tools.check.promises import has_word
-from tools.command import TOP
+from tools.command import OUT, TOP
 
 READING = "docs/READING.md"
+PORT = "docs/PORT.md"
 FOLDERS = ("crates", "tools", "docs", "python", "bench", "include", "samples", "c")
 PATH = re.compile(r"(?<![\w/.:-])((?:%s)/[\w./*-]*\w[\w*/]*)" % "|".join(FOLDERS))
 ANY = re.compile(r"\*|\bNAME\b|\bX\b|\.\.|\{")
+MADE = re.compile(r"crates/\w+/%s/" % OUT)  # what rt makes, and no file of the repository
 LINK = re.compile(r"\[[^\]]*\]\(([^)\s]+)\)")
 LAW = re.compile(r"`([^`]+)` in ([a-z_]+/proofs/\w+)")
 SPECS = re.compile(r"([a-z_]+): ([A-Z]\w*(?:, [A-Z]\w*)*)")
@@ -33,7 +35,7 @@ SOURCES = (".rt", ".antt", ".py", ".h", ".c", ".cc", ".rs", ".edit", ".txt", "")
 
 
 def pages() -> list[Path]:
-    return [TOP / "README.md", TOP / "CONTRIBUTING.md", *sorted((TOP / "docs").glob("*.md"))]
+    return [TOP / "README.md", TOP / "CONTRIBUTING.md", *sorted(set((TOP / "docs").glob("*.md")) - {TOP / PORT})]
 
 
 def words_of(path: Path) -> str:
@@ -81,7 +83,8 @@ def link_faults(path: Path) -> Iterator[str]:
 def path_faults(text: str) -> Iterator[str]:
     """Paths of a page's words that are not there."""
     for path in sorted(set(PATH.findall(text))):
-        if not ANY.search(path) and not any((TOP / (path + end)).exists() for end in ("", ".antt", ".evp")):
+        if not (ANY.search(path) or MADE.match(path)
+                or any((TOP / (path + end)).exists() for end in ("", ".antt", ".evp"))):
             yield "there is no %s" % path
 
 
@@ -107,7 +110,7 @@ def source_names() -> set[str]:
     found: set[str] = set()
     for path in TOP.rglob("*"):
         parts = path.relative_to(TOP).parts
-        if {"target", ".git", "docs", "tests"} & set(parts) or path.suffix not in SOURCES:
+        if {"target", OUT, ".git", "docs", "tests"} & set(parts) or path.suffix not in SOURCES:
             continue
         found.add(path.stem)
         if path.is_file() and path.name not in ("stdin", "stdout"):
@@ -136,7 +139,7 @@ def spec_faults(text: str) -> Iterator[str]:
         yield from ("there is no %s" % file.relative_to(TOP) for file in files if not file.is_file())
         held = " ".join(file.read_text(encoding="utf-8") for file in files if file.is_file())
         yield from ("%s has no %s" % (files[0].relative_to(TOP), name) for name in re.findall(r"`([^`]+)`", cells[1])
-                    if files and not has_word(held, name) and "_%s_" % name not in held)
+                    if files and not has_word(held, name) and "◌%s◌" % name not in held)
 
 
 def unread_faults(text: str) -> Iterator[str]:
@@ -157,5 +160,5 @@ def faults() -> Iterator[str]:
             yield "%s: %s" % (path.relative_to(TOP), fault)
     reading = (TOP / READING).read_text(encoding="utf-8")
     yield from ("%s: %s" % (READING, fault) for fault in (*spec_faults(reading), *unread_faults(reading)))
-    for path in sorted((TOP / "docs" / "changes").glob("*.md")):
+    for path in (TOP / PORT, *sorted((TOP / "docs" / "changes").glob("*.md"))):
         yield from ("%s: %s" % (path.relative_to(TOP), fault) for fault in link_faults(path))

@@ -11,7 +11,7 @@ The masses are decimals that are off by less than 10^-84 g, and the same where
 the pressures are. A tenth of kPa moves what a season adds to a mass by some
 2500th of that, so no order hangs on the last places.
 
-The program is target/bin/report, as `rt check report` or `rt ci` made it.
+The program is target/bin/report, which c/programs puts there as `rt ci` made it.
 """
 
 from collections.abc import Iterator
@@ -183,7 +183,7 @@ class Counts(NamedTuple):
 def check() -> tuple[list[str], Counts]:
     """What is wrong, and how much was compared."""
     if not REPORT.exists():
-        return ["no target/bin/report; rt check report makes it"], Counts(0, 0, 0)
+        return ["no target/bin/report; rt ci and bash c/programs make it"], Counts(0, 0, 0)
     every = list(pairs())
     found, rows, apart = list(missing(every)), 0, 0
     for pair in every:

@@ -9,7 +9,8 @@ contract of `fn` in crates/../file.rt, where the file may be left out after the 
   condition of its own proves no theorem.
 - What a function ensures mentions a definition that the line names, or leads to it by way of definitions that the line
   names, the last of the clause as "through `A`, `B`". A function that requires something is named with it, as "which
-  requires `..`", word by word. An `ensures` with an implication, an alternative or a negation is none of the forms.
+  requires `..`", word by word. A clause of `ensures` with an implication, an alternative or a negation, or with a
+  word for a condition such as `OnOk`, is none of the forms and counts for nothing.
 - Every definition of a line is the type of a law or met so from one, or from a contract.
 
 The edits that the page names for what would be no delivery, as crate: edit, edit; crate: .., must be there. The law
@@ -25,7 +26,7 @@ from typing import NamedTuple
 
 from tools.check import contracts, statements
 from tools.check.statements import Place, contract, find, imports, law_type, mentioned, reached, read
-from tools.command import TOP
+from tools.command import TOP, crate_files
 
 PAGE = "docs/PROMISES.md"
 
@@ -39,6 +40,7 @@ STATEMENT = re.compile(r"`([^`]+)`(?: \(([^)]*)\))?")
 REQUIRES = re.compile(r", which requires `([^`]+)`")
 THROUGH = re.compile(r", through %s$" % NAMES)
 COMMAND = re.compile(r"`python3 -m [^`]+`")
+CONDITIONAL = re.compile(r"[→⊎¬]|\b(?:On|If)(?:Ok|Err|Some|None)\b")
 
 
 def has_word(text: str, name: str) -> bool:
@@ -150,9 +152,10 @@ def contract_proofs(clause: str, known: dict[str, Path], wrong: list[str]) -> It
             wrong.append("%s has no function %s" % (path.relative_to(TOP), name))
             continue
         needed.add(found.requires)
-        if re.search("[→⊎¬]", found.ensures):
+        plain = [clause for clause in found.clauses if not CONDITIONAL.search(clause)]
+        if found.clauses and not plain:
             wrong.append("%s ensures something conditional: %s" % (name, found.ensures))
-        yield Proof(name, mentioned(found.ensures, imports(read(path))),
+        yield Proof(name, mentioned(" × ".join(plain or found.clauses), imports(read(path))),
                     frozenset(NAME.findall(through[1] if through else "")))
     for requires in needed - {""} - set(told):
         wrong.append("the contract requires, and the line does not say so: %s" % requires)
@@ -192,15 +195,15 @@ def proof_faults(said: str, holds: str, known: dict[str, Path]) -> Iterator[str]
 def reads_faults(path: Path, text: str) -> Iterator[str]:
     """Where a file takes the law `taken`, or the module that has it as a whole."""
     for line in statements.code_lines(text):
-        names = re.search(r"\bRattle·program(?:·\w+)?\.specs\.Reads\b(.*)", line)
+        names = re.search(r"\bRattle\.program\.specs\.Reads\b(.*)", line)
         if names and (has_word(names[1], "taken") or "{" not in names[1]):
             yield "%s: `taken` is for the proofs of crates/program alone: %s" % (path, line.strip())
 
 
 def taken_faults() -> Iterator[str]:
     """Crates beside `program` that take its law `taken`."""
-    for path in sorted((TOP / "crates").glob("*/*/**/*")):
-        if path.suffix in (".antt", ".rt") and path.relative_to(TOP).parts[1] != "program":
+    for path in crate_files(".antt", ".rt"):
+        if path.relative_to(TOP).parts[1] != "program":
             yield from reads_faults(path.relative_to(TOP), read(path))
 
 

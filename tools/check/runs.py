@@ -27,7 +27,7 @@ CATEGORIES = {"cars": (1, 2, 3), "light": (4,), "two": (5, 6, 7, 8, 9)}  # the c
 REFUSED_EACH, ACCEPTED_EACH = 20, 10  # of the vectors every so many are run
 LEAST = {"refused": 100, "accepted": 70, "pairs": 100}
 ANSWERED, REFUSED, NEITHER = 0, 1, 2  # the exit statuses
-LINK = "bash c/programs links the programs with their exit status"
+LINK = "bash c/programs puts there what rt ci made"
 
 
 class Run(NamedTuple):

@@ -11,7 +11,7 @@ and refused, empty and longest: each must write one answer (tools/check/runs.py)
 
 The exit status must be 0 for an answer, 1 for a refusal and 2 for neither. The
 programs are target/bin/report, target/bin/species and target/bin/pool, as c/programs
-links them after `rt check report species pool` or `rt ci`.
+puts them there as `rt ci` or `rt run` made them.
 """
 
 import re
@@ -125,7 +125,7 @@ def check(write: bool) -> Iterator[str]:
     """What is wrong; with `write` what `report` prints is stored first."""
     for program in (REPORT, SPECIES, POOL):
         if not program.exists():
-            yield "no target/bin/%s; rt check %s makes it" % (program.name, program.name)
+            yield "no target/bin/%s; rt ci and bash c/programs make it" % program.name
             return
     sheets = sorted(SAMPLES.glob("*.evp"))
     if not sheets:

@@ -10,13 +10,13 @@ from functools import cache
 from pathlib import Path
 from typing import NamedTuple
 
+from tools.check.definitions import clauses
 from tools.command import TOP
 
 DECLARATION = re.compile(r" *(?:abbrev |unfoldable )?pub (?:record |data )?([^\s:]+)(.*)")
 OTHER = re.compile(r" *(?:pub )?(?:use|mod|module|infix|infixl|infixr)\b")
-IMPORT = re.compile(r"use Rattle·(\w+)(?:·\w+)?\.specs\.([A-Z]\w*)\.\{([^}]*)\}")
-WORD = re.compile(r"[^\s(){},;⌜⌝]+")
-CLAUSE = r"\b%s \{ (?:λ \w+\. )?⌜(.*?)⌝ \}"
+IMPORT = re.compile(r"use Rattle\.(\w+)\.specs\.([A-Z]\w*)\.\{([^}]*)\}")
+WORD = re.compile(r"(?<![^\s(){},;])[^\s(){},;.]+")  # of a projection, as row.class, what stands before the dot
 
 
 class Place(NamedTuple):
@@ -38,9 +38,13 @@ class Declaration(NamedTuple):
 
 
 class Contract(NamedTuple):
-    """What a function requires and ensures; empty where it states none."""
+    """What a function requires, and each clause of what it ensures; empty where it states none."""
     requires: str
-    ensures: str
+    clauses: tuple[str, ...]
+
+    @property
+    def ensures(self) -> str:
+        return " × ".join(self.clauses)
 
 
 def one_line(text: str) -> str:
@@ -122,11 +126,12 @@ def reached(start: Iterable[Place], through: frozenset[str]) -> set[Place]:
 
 def contract(text: str, function: str) -> Contract | None:
     """The contract of a function of a Rattle file; None where there is no such function."""
-    found = re.search(r"\bfn %s\(.*?\{$" % re.escape(function), text, re.S | re.M)
+    found = re.search(r"\bfn %s[(<].*?\{$" % re.escape(function), text, re.S | re.M)
     if not found:
         return None
-    clauses = (re.findall(CLAUSE % word, found[0], re.S) for word in ("requires", "ensures"))
-    return Contract(*(" × ".join(map(one_line, texts)) for texts in clauses))
+    said = clauses(found[0])
+    requires, ensures = ([clause for kind, clause in said if kind == word] for word in ("requires", "ensures"))
+    return Contract(" × ".join(requires), tuple(ensures))
 
 
 def law_type(path: Path, law: str) -> Declaration | None:

@@ -34,7 +34,7 @@ def parts_of(page: str) -> tuple[str, str, str]:
 
 def section_table(section: Section, words: dict[str, str]) -> str:
     lines = ["| `%s` | %s | %s | %s |\n" % (
-        name, look_of(name), crates.edits_of(name) or "", words[name]) for name, _ in section.crates]
+        name, look_of(name), crates.edits_of(name) or "", words[name]) for name, *_ in section.crates]
     return "\n### %s\n\n%s\n\n" % (section.title, section.about[0].upper() + section.about[1:]) + HEAD + "".join(lines)
 
 

@@ -10,6 +10,7 @@ for every truncation from 40 on. The table of Θ is in theta.py.
 """
 
 import re
+import textwrap
 from collections.abc import Iterator
 from fractions import Fraction
 
@@ -56,8 +57,11 @@ FAR_ABOVE = [int(-(-FAR_UNIT * bounds(Fraction(c), 40)[1] // 1)) for c in range(
 
 
 def source(entries: list[int]) -> str:
-    """As rt fmt lays an array out."""
-    return "".join("    %d,\n" % e for e in entries)
+    """As rt fmt lays an array out: many entries to a line where each has at most ten digits, else one."""
+    words = ["%d," % entry for entry in entries]
+    if any(len(word) > 11 for word in words):
+        return "".join("    %s\n" % word for word in words)
+    return textwrap.fill(" ".join(words), 100, initial_indent="    ", subsequent_indent="    ") + "\n"
 
 
 def listed(entries: list[int], width: int = 8) -> str:
@@ -73,7 +77,7 @@ PLACES = [
     ("crates/bounds/specs/Exponential.antt", r"\nmiddle =\n", listed(MIDDLE), r"\[\]\n"),
     ("crates/bounds/src/whole.rt", r"const FAR: \[u64; 15\] = \[\n", source(FAR), r"\];"),
     ("crates/bounds/specs/WholeExponents.antt", r"\nfar =\n", listed(FAR), r"\[\]\n"),
-    ("crates/bounds/specs/WholeExponents.antt", r"\nfarAbove =\n", listed(FAR_ABOVE), r"\[\]\n"),
+    ("crates/bounds/specs/WholeExponents.antt", r"\nfar_above =\n", listed(FAR_ABOVE), r"\[\]\n"),
     ("crates/bounds/src/theta.rt", r"const THETAS: \[u64; THETA_WORDS\] = \[\n", source(THETAS), r"\];"),
     ("crates/bounds/specs/Theta.antt", r"\nthetas =\n", listed(THETAS, 9), r"\[\]\n"),
     ("crates/bounds/proofs/ThetaTable.antt", r"\nlevels =\n", listed(LEVELS, 6), r"\[\]\n"),

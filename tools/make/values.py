@@ -163,18 +163,18 @@ HEAD = """\
 -- Exact factors and masses of small sheets and starting loads for small n, in grams, calculated apart from these
 -- definitions: tools/make/values.py wrote this file from tools/reckoning. antt computes each value anew.
 -- Assumes nothing.
-use mathlib.Core.Bool.{Bool, true, false, _&&_}
-use mathlib.Core.List.{List, [], _∷_, map}
-use Prim.Native.Nat.{ℕ, _+_, _*_}
+use mathlib.Core.Bool.{Bool, true, false, ◌&&◌}
+use mathlib.Core.List.{List, [], ◌∷◌, map}
+use Prim.Native.Nat.{ℕ, ◌+◌, ◌*◌}
 use lib.Dec.{T, eqb}
-use Rattle·numbers.specs.Fraction.{Fraction, whole, negᶠ, _over_}
-use Rattle·exact·specs.specs.declared.Canister.the-variants.{None, Small, Medium, Large}
-use Rattle·exact·specs.specs.declared.Season.{Season}
-use Rattle·exact·specs.specs.declared.Row.{Row}
-use Rattle·exact·specs.specs.Mileage.{starting_load}
-use Rattle·exact·specs.specs.Factors.{F1, F2, F3, F4, F5, F6, F7, factor, products}
-use Rattle·exact·specs.specs.Masses.{diurnal, soak, running, mass}
-use Rattle·exact·proofs.proofs.Open.{definitions}
+use Rattle.numbers.specs.Fraction.{Fraction, whole, negᶠ, ◌over◌}
+use Rattle.exact.specs.declared.Canister.TheVariants.{None, Small, Medium, Large}
+use Rattle.exact.specs.declared.Season.{Season}
+use Rattle.exact.specs.declared.Row.{Row}
+use Rattle.exact.specs.Mileage.{starting_load}
+use Rattle.exact.specs.Factors.{F1, F2, F3, F4, F5, F6, F7, factor, products}
+use Rattle.exact.specs.Masses.{diurnal, soak, running, mass}
+use Rattle.exact.proofs.Open.{definitions}
 
 -- the same values one by one, compared crosswise
 same : List Fraction → List Fraction → Bool
@@ -182,7 +182,7 @@ same [] [] = true
 same [] (y ∷ ys) = false
 same (x ∷ xs) [] = false
 same (x ∷ xs) (y ∷ ys) =
-    eqb (x .up * y .den + y .down * x .den) (y .up * x .den + x .down * y .den) && same xs ys
+    eqb (x.up * y.den + y.down * x.den) (y.up * x.den + x.down * y.den) && same xs ys
 
 -- the seven factors of a season and row
 factors : ℕ → List ℕ → Season → Row → List Fraction

@@ -13,8 +13,8 @@ from tools.check.definitions import Key
 from tools.command import TOP
 
 TEXT = """-- A file of definitions.
-use Prim.Native.Nat.{ℕ}
-use Rattle·numbers.specs.Fraction.{Fraction, _+ᶠ_, whole}
+use Rattle.std.specs.Prelude.{ℕ}
+use Rattle.numbers.specs.Fraction.{Fraction, ◌+ᶠ◌, whole}
 
 pub data Kind : Type 0 where
   small large : Kind
@@ -34,7 +34,7 @@ abbrev pub hours : ℕ → ℕ
 hours m = m
 """
 
-OWN = reader.Scope({name: Key("c", "F", name) for name in ("hours", "vp", "load", "_next_")},
+OWN = reader.Scope({name: Key("c", "F", name) for name in ("hours", "vp", "load", "◌next◌")},
                    {name: Key("c", "F", "Kind") for name in ("small", "large")})
 
 
@@ -83,12 +83,18 @@ class Reading(unittest.TestCase):
         self.assertEqual([each.around for each in found], ["", "(n : ℕ)", "(n : ℕ)", ""])
 
     def test_an_operator_and_a_constructor_are_names(self):
-        self.assertEqual(named("small next whole 1 +ᶠ x"), {"Kind", "_next_", "whole", "_+ᶠ_"})
+        self.assertEqual(named("small next whole 1 +ᶠ x"), {"Kind", "◌next◌", "whole", "◌+ᶠ◌"})
 
     def test_a_field_is_no_name(self):
-        self.assertEqual(named("season .vp"), set())
+        self.assertEqual(named("season.vp"), set())
+        self.assertEqual(named("(f season).vp"), set())
         self.assertEqual(named("record { vp = 1; hours = 2 }"), set())
-        self.assertEqual(named("season .vp + vp"), {"vp"})
+        self.assertEqual(named("season.vp + vp"), {"vp"})
+
+    def test_what_a_field_is_taken_of_is_a_name(self):
+        self.assertEqual(named("hours.vp"), {"hours"})
+        self.assertEqual(named("hours.vp", ("hours",)), set())
+        self.assertEqual(named("(load small).vp"), {"load", "Kind"})
 
     def test_a_variable_hides_a_definition(self):
         self.assertEqual(named("(hours : ℕ) → hours ≡ vp"), {"vp"})
@@ -112,17 +118,17 @@ class Reading(unittest.TestCase):
     def test_a_name_of_two_crates_is_two_definitions(self):
         with tree({"a/specs/One": "abbrev pub total : ℕ\ntotal = 1\n",
                    "b/specs/Two": "abbrev pub total : ℕ\ntotal = 2\n",
-                   "c/specs/Use": "use Rattle·a.specs.One.{total}\nabbrev pub f : ℕ\nf = total\n",
-                   "d/specs/Use": "use Rattle·b·specs.specs.Two.{total}\nabbrev pub f : ℕ\nf = total\n"}):
+                   "c/specs/Use": "use Rattle.a.specs.One.{total}\nabbrev pub f : ℕ\nf = total\n",
+                   "d/specs/Use": "use Rattle.b.specs.Two.{total}\nabbrev pub f : ℕ\nf = total\n"}):
             graph = reader.graph()
         self.assertEqual(graph[Key("c", "Use", "f")], {Key("a", "One", "total")})
         self.assertEqual(graph[Key("d", "Use", "f")], {Key("b", "Two", "total")})
 
     def test_a_name_that_is_passed_on_is_the_first_one(self):
         with tree({"a/specs/One": "pub data Kind : Type 0 where\n  small : Kind\n",
-                   "b/specs/Two": "pub use Rattle·a.specs.One.{Kind, small}\n",
-                   "c/specs/Use": "use Rattle·b.specs.Two.{Kind, small}\nabbrev pub f : Kind\nf = small\n",
-                   "d/specs/Use": "use Rattle·b.specs.Two.{small}\nabbrev pub f : ℕ\nf small = 1\nf large = large\n"}):
+                   "b/specs/Two": "pub use Rattle.a.specs.One.{Kind, small}\n",
+                   "c/specs/Use": "use Rattle.b.specs.Two.{Kind, small}\nabbrev pub f : Kind\nf = small\n",
+                   "d/specs/Use": "use Rattle.b.specs.Two.{small}\nabbrev pub f : ℕ\nf small = 1\nf large = large\n"}):
             graph = reader.graph()
         self.assertEqual(graph[Key("c", "Use", "f")], {Key("a", "One", "Kind")})
         self.assertEqual(graph[Key("d", "Use", "f")], {Key("a", "One", "Kind")})
@@ -131,25 +137,32 @@ class Reading(unittest.TestCase):
         self.assertIn(Key("exact", "Canister", "escape"), reader.graph()[Key("exact", "Factors", "row_escape")])
 
     def test_a_name_that_is_not_found_is_reported(self):
-        text = ("use Rattle·exact.specs.Day.{temperature, dew}\nuse Rattle·io.specs.Counts.{Counts}\n"
-                "pub use Rattle·exact.specs.Day.{w,\n")
-        self.assertEqual(list(reader.unresolved(text)), ["pub use Rattle·exact.specs.Day.{w,", "dew of exact: Day"])
+        text = ("use Rattle.exact.specs.Day.{temperature, dew}\nuse Rattle.io.specs.Counts.{Counts}\n"
+                "pub use Rattle.exact.specs.Day.{w,\n")
+        self.assertEqual(list(reader.unresolved(text)), ["pub use Rattle.exact.specs.Day.{w,", "dew of exact: Day"])
 
     def test_a_type_that_the_code_declares_is_followed(self):
         self.assertIn(Key("exact", reader.DECLARED, "Canister"), reader.graph()[Key("exact", reader.DECLARED, "Row")])
         self.assertIn(Key("findings", reader.DECLARED, "Site"), reader.declared())
 
     def test_a_contract_has_what_it_requires_and_ensures(self):
-        code = ('ghost use Rattle·sheet.specs.Bytes.{rowsOf};\nghost use Rattle·sheet.specs.Sheet.{sheet_check};\n'
-                'pub fn f(s: &[u8]) -> u64\n    requires { ⌜ sheet_check (now s) ≡ Pass ⌝ }\n'
-                '    ensures { λ r. ⌜ r ≡ rowsOf (now s) ⌝ }\n{\n    1\n}\n\npub fn g() -> u64 {\n    0\n}\n')
+        code = ('ghost use Rattle.sheet.specs.Bytes.{rows_of};\nghost use Rattle.sheet.specs.Sheet.{sheet_check};\n'
+                'pub fn f(s: &[u8]) -> u64\n    requires { sheet_check s.now ≡ Pass }\n'
+                '    ensures { result ≡ rows_of s.now }\n{\n    1\n}\n\npub fn g() -> u64 {\n    0\n}\n')
         with tempfile.TemporaryDirectory() as folder:
             path = Path(folder) / "lib.rt"
             path.write_text(code, encoding="utf-8")
             first, second = reader.read_contracts(path)
         self.assertEqual((first.name, first.requires, {key.name for key in first.needs}), ("f", True, {"sheet_check"}))
-        self.assertEqual({key.name for key in first.ensures}, {"rowsOf"})
+        self.assertEqual({key.name for key in first.ensures}, {"rows_of"})
         self.assertEqual((second.name, second.requires), ("g", False))
+
+    def test_a_contract_may_have_several_clauses(self):
+        head = ("(s: &[u8])\n    requires few { length s.now < 9 }\n    requires more { a s.now }\n"
+                "    ensures { (x : ℕ) →\n        b {x} }\n    ensures* kept { c }\n")
+        self.assertEqual(reader.clauses(head), [
+            ("requires", "length s.now < 9"), ("requires", "a s.now"), ("ensures", "(x : ℕ) → b {x}"),
+            ("ensures", "c")])
 
 
 class Closure(unittest.TestCase):

@@ -4,13 +4,13 @@ import unittest
 
 from tools.check import bounds
 
-SERIES = "use Rattle·bounds.specs.Series.{E, cut_root}\n"
+SERIES = "use Rattle.bounds.specs.Series.{E, cut_root}\n"
 
 
 class Bounds(unittest.TestCase):
     def test_what_is_passed_on_is_listed(self):
-        text = ("pub use Rattle·bounds·proofs.proofs.Exponential.{E-cong, E-mono}\n"
-                "use Rattle·bounds·proofs.proofs.Within.{widen}\n")
+        text = ("pub use Rattle.bounds.proofs.Exponential.{E-cong, E-mono}\n"
+                "use Rattle.bounds.proofs.Within.{widen}\n")
         self.assertEqual(bounds.listed(text), {"E-cong", "E-mono"})
 
     def test_a_field_has_its_law(self):
@@ -21,13 +21,13 @@ class Bounds(unittest.TestCase):
         self.assertEqual(bounds.public("mod Root\npub mod Within\n"), {"Within"})
 
     def test_the_calculus_speaks_of_no_series(self):
-        text = ("use Rattle·bounds·specs.specs.Short.{short_exponent, binary}\n"
-                "use Rattle·bounds·proofs.proofs.Within.{widen}\n")
+        text = ("use Rattle.bounds.specs.Short.{short_exponent, binary}\n"
+                "use Rattle.bounds.proofs.Within.{widen}\n")
         self.assertEqual(bounds.spoken(text), [])
 
     def test_a_computed_exponential_speaks_of_a_series(self):
-        text = ("use Rattle·bounds·specs.specs.Short.{short}\n"
-                "use Rattle·bounds·proofs.proofs.Tangent.{tangent-near}\n")
+        text = ("use Rattle.bounds.specs.Short.{short}\n"
+                "use Rattle.bounds.proofs.Tangent.{tangent-near}\n")
         self.assertEqual(bounds.spoken(text), ["short", "tangent-near"])
 
     def test_an_opened_definition_is_found(self):

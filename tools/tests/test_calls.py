@@ -5,12 +5,12 @@ import unittest
 from tools.check import calls
 from tools.command import TOP
 
-IMPORT = "ghost use Rattle·program.specs.Reads.{Taken, counted};\n"
+IMPORT = "ghost use Rattle.program.specs.Reads.{Taken, counted};\n"
 ASKED = """pub fn arrive(
     words: &mut [u64],
 ) -> Check
-    requires { ⌜ 1 ≤ row ⌝ }
-    ensures { λ r. ⌜ row ≤ r ⌝ }
+    requires { 1 ≤ row }
+    ensures { row ≤ result }
 {
     inner(row)
 }
@@ -21,10 +21,6 @@ def program(name: str) -> str:
     return (TOP / "crates" / (name + "_run") / "src" / "lib.rt").read_text(encoding="utf-8")
 
 
-def shared() -> str:
-    return (TOP / "crates" / "program" / "src" / "lib.rt").read_text(encoding="utf-8")
-
-
 class Taken(unittest.TestCase):
     def told(self, place: str, text: str) -> int:
         return len(list(calls.law_faults(place, text)))
@@ -32,18 +28,22 @@ class Taken(unittest.TestCase):
     def test_a_program_has_it_from_a_function_that_reads(self):
         self.assertEqual(self.told("crates/report_run/src/lib.rt", IMPORT + "// taken from a file\n"), 0)
         self.assertEqual(self.told("crates/pool_run/proofs/answer/Proof.antt",
-                                   "use Rattle·program.specs.Reads.{counted}\nx = taken-more\n"), 0)
+                                   "use Rattle.program.specs.Reads.{counted}\nx = taken-more\n"), 0)
+        self.assertEqual(self.told("crates/pool_run/src/lib.rt",
+                                   IMPORT + "    requires taken { Taken 1 n s.now }\n"), 0)
+        self.assertEqual(self.told("crates/pool_run/proofs/a/Answers.antt",
+                                   "use Rattle.program.specs.Reads.{counted}\nx c = c.loop-test.taken\n"), 0)
 
     def test_a_proof_of_another_crate_may_not_name_it(self):
-        for line in ("use Rattle·program.specs.Reads.{counted, taken}", "use Rattle·program.specs.Reads.{taken as t}",
-                     "use Rattle·program.specs.{Reads}\nx = Reads.taken 1", "use Rattle·program as p",
-                     "use Rattle·program.specs.Reads as R", "pub use Rattle·program.specs.Reads",
-                     "use Rattle·program.specs.Reads.{missed}", "use Rattle·program.specs.Writes.{wrote}",
-                     "use Rattle·program.specs.Writes.{stopped}", "use Rattle·program.specs.Writes as W"):
+        for line in ("use Rattle.program.specs.Reads.{counted, taken}", "use Rattle.program.specs.Reads.{taken as t}",
+                     "use Rattle.program.specs.{Reads}\nx = Reads.taken 1", "use Rattle.program as p",
+                     "use Rattle.program.specs.Reads as R", "pub use Rattle.program.specs.Reads",
+                     "use Rattle.program.specs.Reads.{missed}", "use Rattle.program.specs.Writes.{wrote}",
+                     "use Rattle.program.specs.Writes.{stopped}", "use Rattle.program.specs.Writes as W"):
             self.assertNotEqual(self.told("crates/pool_run/proofs/evp_run/Proof.antt", line + "\n"), 0, line)
 
     def test_the_proofs_of_program_may(self):
-        text = "use Rattle·program·specs.specs.Reads.{taken, Reads}\n"
+        text = "use Rattle.program.specs.Reads.{taken, Reads}\n"
         self.assertEqual(self.told("crates/program/proofs/Taking.antt", text), 0)
         self.assertEqual(self.told("crates/program/specs/Other.antt", text), 1)
 
@@ -56,7 +56,7 @@ class Requires(unittest.TestCase):
         self.assertEqual(calls.demanding(ASKED.replace("pub fn", "fn"), exported=False), [])
 
     def test_that_of_the_next_function_is_not_taken_for_it(self):
-        public = "pub fn a(s: &[u8]) -> u64\n    ensures { λ r. ⌜ r ≡ 1 ⌝ }\n{\n    1\n}\n\n"
+        public = "pub fn a(s: &[u8]) -> u64\n    ensures { result ≡ 1 }\n{\n    1\n}\n\n"
         self.assertEqual(calls.demanding(public + ASKED.replace("pub fn", "fn"), exported=False), [])
         self.assertEqual(calls.demanding("pub fn a()\n{\n}\n// requires nothing\n" + ASKED, exported=False), ["arrive"])
 
@@ -85,44 +85,61 @@ class Programs(unittest.TestCase):
     def test_as_they_are(self):
         for name in calls.PROGRAMS:
             self.assertEqual(self.faults(name, program(name)), [])
-        self.assertEqual(list(calls.shared_faults(shared())), [])
+            main = (TOP / "crates" / name / "src" / "main.rt").read_text(encoding="utf-8")
+            self.assertEqual(list(calls.main_faults(name, main)), [])
+        self.assertEqual(list(calls.shared_faults(calls.shared())), [])
 
     def test_which_functions_write(self):
         for name, write in (("report", "write"), ("species", "write"), ("pool", "write_pool")):
             self.assertEqual(calls.writing(calls.bodies(program(name))), {write, "answer", calls.START})
 
     def test_an_answer_more_or_less(self):
-        line = "    answer(&bytes, n)\n"
-        for wrong in ("    answer(&bytes, n);\n" + line, "    NEITHER\n",
-                      "    while answer(&bytes, n) == 2 {}\n    0\n",
-                      "    io::write_all(1, &bytes[..n]);\n" + line, "    program::write_out(&bytes);\n" + line):
+        line = "    answer(&bytes, n, out, err)\n"
+        for wrong in (line.replace(")\n", ");\n") + line, "    NEITHER\n",
+                      "    while answer(&bytes, n, out, err) == 2 {}\n    0\n",
+                      "    let _ = out.write(&bytes[..n]);\n" + line, "    let _ = write!(out, \"x\");\n" + line,
+                      "    let _ = out.flush();\n" + line, "    println!(rt; \"x\");\n" + line,
+                      "    std::io::copy(out);\n" + line, "    program::write_out(out, &bytes);\n" + line):
             text = program("report")
             self.assertEqual(text.count(line), 1)
             self.assertNotEqual(self.faults("report", text.replace(line, wrong)), [], wrong)
 
     def test_a_second_refusal(self):
-        line = "    if program::write_error(text) {\n"
+        line = "    if program::write_error(err, text) {\n"
         text = program("pool")
         self.assertEqual(text.count(line), 1)
-        self.assertNotEqual(self.faults("pool", text.replace(line, "    program::write_error(text);\n" + line)), [])
+        self.assertNotEqual(
+            self.faults("pool", text.replace(line, "    program::write_error(err, text);\n" + line)), [])
 
     def test_a_function_that_calls_itself(self):
-        text = program("report").replace("    write(bytes, count", "    answer(bytes, count);\n    write(bytes, count")
-        self.assertNotEqual(self.faults("report", text), [])
+        line = "    write(bytes, count, &text[..end], out, err)"
+        text = program("report")
+        self.assertEqual(text.count(line), 1)
+        self.assertNotEqual(
+            self.faults("report", text.replace(line, "    answer(bytes, count, out, err);\n" + line)), [])
 
     def test_a_main_is_one_call(self):
-        call = "    report_run::evp_run();\n"
-        for body, few in ((call, True), ("", False), (2 * call, False),
-                          ("    species_run::evp_run();\n", False)):
-            found = list(calls.main_faults("report", "// The program.\nfn main() {\n%s}\n" % body))
-            self.assertEqual(found == [], few, body)
+        text = (TOP / "crates" / "report" / "src" / "main.rt").read_text(encoding="utf-8")
+        line = "    let sheets = "
+        for old, new in (("report_run::", "species_run::"), ("OneSheet", "TwoSheets"),
+                         ("&mut rt.stdout()", "&mut rt.stderr()"),
+                         (line, "    report_run::evp_run(&sheets, &mut rt.stdout(), &mut rt.stderr());\n" + line),
+                         ("ExitCode::from(report", "let _ = ExitCode::from(report"), ('"report"', '"species"')):
+            with self.subTest(new=new):
+                self.assertIn(old, text)
+                self.assertNotEqual(list(calls.main_faults("report", text.replace(old, new))), [])
 
     def test_what_the_programs_share_writes_in_two_functions(self):
-        text = shared()
-        for old, wrong in (("io::write_all(STDOUT_FILENO, text)", "io::write_all(STDOUT_FILENO, &text[1..])"),
-                           ("io::write_all(STDERR_FILENO, text)", "true"),
-                           ("    io::write_all(STDERR_FILENO, usage);", "    io::write_all(STDOUT_FILENO, usage);"),
-                           ("    if write_out(text) {", "    write_out(text);\n    if write_out(text) {")):
+        text = calls.shared()
+        for old, wrong in (("    write_all(out, text)\n", "    write_all(out, &text[1..])\n"),
+                           ("    write_all(err, text)\n", "    true\n"),
+                           ("    write_all(err, text)\n", "    write_all(err, text) & write_all(err, text)\n"),
+                           ('            err,\n            "usage:', ' out,\n            "usage:'),
+                           ("    let _ = write!(err, ", "    let _ = err.write(x);\n    let _ = write!(err, "),
+                           ("    out.flush().is_ok()\n", "    out.flush().is_ok() & out.flush().is_ok()\n"),
+                           ("    let _ = write!(err, ", "    println!(rt; \"x\");\n    let _ = write!(err, "),
+                           ("    if write_out(out, text) {",
+                            "    write_out(out, text);\n    if write_out(out, text) {")):
             self.assertEqual(text.count(old), 1, old)
             self.assertNotEqual(list(calls.shared_faults(text.replace(old, wrong))), [], wrong)
 

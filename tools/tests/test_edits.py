@@ -11,36 +11,25 @@ GOOD = "# the error is what is proved\nfile: specs/A.antt\nold: 3 + 1\nnew: 3 + 
 LOG = "note: some words\n%s\n  more of it\nlogic=not-proved\n"
 DIFFER = "A.antt:3:1: error: `f`: as printed, the two types differ only where one has `4` (expected)"
 
-# First errors of logs as antt wrote them, cut at their ends.
-SHARE_MISREAD = """\
-/crates/speciation/proofs/share_table/Proof.antt:10:13: error: `returns`: computed as far as they go, the two types \
-differ only where one has `579` (expected) and the other has `597` (found)
-  expected type `Rattle·speciation·proofs.proofs.share_table.Reads.Post (Prim.tt {0})`
-  but this has type `mathlib.Core.Path._≡_ (borrow.Fn.Function.resV Rattle·speciation·proofs.proofs.share_table.Lts.r)`
-/crates/speciation/proofs/share_table/Proof.antt:13:40: error: `share-table-spec`: `returns` was not admitted (it has \
-holes or undetermined implicits, or was rejected), so this cannot be checked
-"""
-ORDER_EXCHANGED = """\
-/crates/findings/proofs/Agree.antt:260:5: error: `row-agrees`: as printed, the two types first differ where one has \
-`row_finding` (expected), right after `Checks (`, and the other has `Rattle·findings·specs.specs.Lines._orElse_` (found)
-"""
+# First errors as rt must-fail shows them, cut after 160 characters, and as rt check shows them.
+CANISTER = ("./proofs/Alike.antt:62:27: error: `canister-counts`: as printed, the two types differ only where one has "
+            "`255` (expected), right after `canister_of (code_of Sma")
+ORDER_EXCHANGED = ("./proofs/Agree.antt:260:5: error: `row-agrees`: as printed, the two types first differ where one "
+                   "has `row_finding` (expected), right after `Checks (`, and the o")
+NINE_HAS_3 = ("./proofs/Classes.antt:47:121: error: `pair-tests`: expected type `last_technology 9 ≡ 2`, but this has "
+              "type `last_technology 9 ≡ last_technology 9`")
 TOWN_AS_WORDS = """\
-/crates/boundary/proofs/CellNumbers.antt:113:18: error: `row-untold`: give a proof of that as the last argument, \
+./proofs/CellNumbers.antt:113:18: error: `row-untold`: give a proof of that as the last argument, \
 `rw L t` (`rw L ?` shows it as a hole's goal), or add what is missing to the list
   `rw` has no last argument, so what it leaves must be a path whose two ends are equal, and `Path RowCellsAnswer \
 (row.Refused 28 0) (handed_row w NoTravel)` is none
 """
-LAST_LEFT_OUT = """\
-/crates/speciation/proofs/split/Proof.antt:43:51: error: `returns`: `omega`: the goal does not follow from what it \
-read. All of that holds, and the goal fails, at `c .before .loop .i` = 28. It read 9 hypotheses about numbers
-"""
-KILOGRAM_AS_GRAM = """\
-/crates/marking/proofs/exponent_of/Proof.antt:19:16: error: `returns-3`: list the missing equation with its arguments, \
-or rewrite by `rw` or `simp`
-  `cc` met a bound of its own before the equations had joined `borrow.Fn.Function.resV` to `exponent`
-"""
+FEEDBACK = ("./proofs/Loss.antt:36:5: error: `feedback-most`: `omega`: the goal does not follow from what it read. "
+            "All of that holds, and the goal fails, at `k` = 0, `k / 2 ")
+EURO_3 = ("note: src/classes.rt:53:1: it is not proved that what the function ensures holds when it returns "
+          "(`returns-in-0-to-3`)")
 ONE_UNIT_LESS = """\
-/crates/bounds/proofs/PowerBound.antt:174:27: error: `product-below`: `omega` found no proof, and no values at which \
+./proofs/PowerBound.antt:174:27: error: `product-below`: `omega` found no proof, and no values at which \
 the goal fails: what it read and the goal's failing hold together at fractions, and it found no whole numbers at which \
 they do. The goal may be false, or need reasoning about whole numbers that `omega` does not have. It read 3 hypotheses
 """
@@ -99,8 +88,9 @@ class TryTest(unittest.TestCase):
                 path.parent.mkdir()
                 path.write_text(text)
 
-            def rt(words, **_):
-                self.assertEqual((words[:2], file.read_text()), (["rt", "dev"], "f = 3 + 2\n"))
+            def rt(words, cwd, **_):
+                self.assertEqual(cwd, Path(folder))
+                self.assertEqual((words, file.read_text()), (["rt", "check"], "f = 3 + 2\n"))
                 return mock.Mock(returncode=status, stdout=log.encode())
             with mock.patch.object(edits.subprocess, "run", rt):
                 found = edits.try_edit(edit)
@@ -124,70 +114,78 @@ class TryTest(unittest.TestCase):
 
 
 class RefusalTest(unittest.TestCase):
-    """The first error of a log."""
+    """The first error of a check."""
+
+    def shown(self, log: str, why: str = "") -> edits.Refusal:
+        return edits.refusal(edits.first_error(log), why)
 
     def test_types_differ(self):
-        for log in (SHARE_MISREAD, ORDER_EXCHANGED):
+        for log in (CANISTER, ORDER_EXCHANGED, NINE_HAS_3, NINE_HAS_3.partition("`, but")[0]):
             with self.subTest(log=log):
-                shown = edits.refusal(log, "")
+                shown = self.shown(log)
                 self.assertEqual(shown.said.partition(": ")[0], "refused by a fact, two types that differ")
                 self.assertEqual(shown.fault, "")
 
     def test_ends_differ(self):
-        shown = edits.refusal(TOWN_AS_WORDS, "")
+        shown = self.shown(TOWN_AS_WORDS)
         self.assertEqual(shown.said.partition(": ")[0], "refused by a fact, an equation whose ends differ")
         self.assertEqual(shown.fault, "")
 
     def test_indices_differ(self):
         error = ("A.antt:10:13: error: `returns`: computed as far as they go, the two indices are "
                  "`2` (the constructor's) and `1` (the expected type's) this `unread` lands at index `2`")
-        self.assertEqual(edits.refusal(LOG % error, "").said.partition(": ")[0],
-                         "refused by a fact, two indices that differ")
+        today = ("./proofs/evp_run/Answers.antt:9:41: error: `returns-then-not-input-clause-ran`: this `unread` "
+                 "lands at index `2` (position 1) but the expected type `goal.the-as")
+        for text in (error, today):
+            shown = self.shown(LOG % text)
+            self.assertTrue(shown.said.startswith("refused by a fact, "), shown)
+            self.assertEqual(shown.fault, "")
 
     def test_a_computed_test(self):
         error = ("A.antt:92:20: error: `start-width`: computed as far as they go, the two sides are "
                  "`Prim.Unit {?ℓ0}` (left) and `Prim.⊥` (right)")
-        self.assertEqual(edits.refusal(LOG % error, "").said.partition(": ")[0],
+        self.assertEqual(self.shown(LOG % error).said.partition(": ")[0],
                          "refused by a fact, a computed test that is false")
         waiting = error.replace("`Prim.⊥`", "`Prim.Unit {0}`")
-        self.assertTrue(edits.refusal(LOG % waiting, "").said.startswith(edits.NO_COUNTEREXAMPLE))
+        self.assertTrue(self.shown(LOG % waiting).said.startswith(edits.NO_COUNTEREXAMPLE))
 
     def test_values(self):
-        shown = edits.refusal(LAST_LEFT_OUT, "")
+        shown = self.shown(FEEDBACK)
         self.assertEqual(shown.said.partition(": ")[0], "refused by a fact, values at which the goal fails")
         self.assertEqual(shown.fault, "")
 
     def test_no_proof_found(self):
-        for log in (ONE_UNIT_LESS, KILOGRAM_AS_GRAM):
+        for log in (ONE_UNIT_LESS, EURO_3):
             with self.subTest(log=log):
-                shown = edits.refusal(log, "")
+                shown = self.shown(log)
                 self.assertTrue(shown.said.startswith(
                     "not proved; no counterexample shown; no line `# why:` says why it is false: "), shown.said)
                 self.assertEqual(shown.fault, "")
 
     def test_no_proof_found_of_what_is_false(self):
-        shown = edits.refusal(ONE_UNIT_LESS, "643 was measured")
+        shown = self.shown(ONE_UNIT_LESS, "643 was measured")
         self.assertEqual(shown.said.partition(": ")[0],
                          "not proved; no counterexample shown; false because 643 was measured")
         self.assertEqual(shown.fault, "")
 
     def test_nothing_is_shown_by_what_does_not_fit(self):
         for error, what in (
-            ("A.antt:3:1: error: `tie` has no `Need-a` that can be named from here", "a need that is named otherwise"),
+            ("A.antt:3:1: error: `goal` has no `a` that can be named from here", "a goal that is named otherwise"),
             ("A.antt:3:1: error: `x` is not in scope", "a name that is gone"),
-            ("A.antt:3:1: error: the record has no field `x`", "a field that is gone"),
+            ("A.antt:3:1: error: `f`: no module is found by the path `w.before`", "a name that is gone"),
+            ("A.antt:3:1: error: record `Args` has no field `x`", "a field that is gone"),
             ("A.antt:3:1: error: expected a term", "a file that does not parse"),
         ):
             with self.subTest(error=error):
-                shown = edits.refusal(LOG % error, "a reason does not help")
+                shown = self.shown(LOG % error, "a reason does not help")
                 self.assertEqual((shown.said, shown.fault.partition(":")[0]), ("", what))
 
     def test_no_error(self):
-        self.assertEqual(edits.refusal("logic=not-proved\n", "").fault, "no error in its log")
+        self.assertEqual(self.shown("logic=not-proved\n").fault, "no error in its log")
 
     def test_first_counts(self):
         log = LOG % DIFFER + LOG % "A.antt:9:1: error: `x` is not in scope"
-        self.assertEqual(edits.refusal(log, "").fault, "")
+        self.assertEqual(self.shown(log).fault, "")
         self.assertEqual(edits.first_error(log), DIFFER + " more of it")
 
     def test_reason(self):
@@ -196,37 +194,56 @@ class RefusalTest(unittest.TestCase):
 
 
 class LogsTest(unittest.TestCase):
-    """All edits of the crates, with their logs."""
+    """All edits of the crates, with what a log says of them."""
 
     def setUp(self):
         folder = tempfile.TemporaryDirectory()
         self.addCleanup(folder.cleanup)
         self.top = Path(folder.name)
-        for name, value in (("TOP", self.top), ("LOGS", self.top / "logs")):
-            patch = mock.patch.object(edits, name, value)
-            patch.start()
-            self.addCleanup(patch.stop)
+        patch = mock.patch.object(edits, "TOP", self.top)
+        patch.start()
+        self.addCleanup(patch.stop)
+        self.log = "rt: a proved\n"
 
-    def add(self, name: str, text: str, log: str) -> None:
+    def add(self, name: str, text: str, said: str) -> None:
         for path, content in ((self.top / "crates/a/must-fail" / (name + ".edit"), text),
-                              (self.top / "crates/a/specs/A.antt", "f = 3 + 1\n"),
-                              (self.top / "logs/a" / name / ".log", log)):
+                              (self.top / "crates/a/specs/A.antt", "f = 3 + 1\n")):
             path.parent.mkdir(parents=True, exist_ok=True)
             path.write_text(content)
+        self.log += "rt: must-fail a/%s.edit: %s\n" % (name, said)
 
     def test_each_kind(self):
-        self.add("differs", GOOD, SHARE_MISREAD)
-        self.add("unproved", GOOD, ONE_UNIT_LESS)
-        self.add("measured", "# why: 643 was measured\n" + GOOD, ONE_UNIT_LESS)
-        self.assertEqual(list(edits.faults(True)), [])
-        self.assertEqual(list(edits.unproved()), [
+        refused = "refused, as it must be: "
+        self.add("differs", GOOD, refused + CANISTER)
+        self.add("unproved", GOOD, refused + EURO_3)
+        self.add("measured", "# why: 643 was measured\n" + GOOD, refused + ONE_UNIT_LESS[:160])
+        self.assertEqual(list(edits.faults(self.log)), [])
+        self.assertEqual(list(edits.unproved(self.log)), [
             "crates/a/must-fail/measured.edit: not proved; no counterexample shown; false because 643 was measured",
             "crates/a/must-fail/unproved.edit: not proved; no counterexample shown; "
             "no line `# why:` says why it is false"])
 
+    def test_no_refusal(self):
+        for said, fault in (
+            ("refused, as it must be (only because a proof file names what the edit took away, so this says little of "
+             "the contract: change a value and keep the names): proofs/A.antt:3:1: error: `x` is not in scope",
+             "refused (only because a proof file names what the edit took away)"),
+            ("refused, as it must be (only by a limit of the prover, which gave no verdict, so this says less of the "
+             "contract: choose a change that it refuses sooner): x",
+             "refused (only by a limit of the prover, which gave no verdict)"),
+            ("BAD EDIT: an 'old:' text is in src/lib.rt 0 times, and not once",
+             "BAD EDIT: an 'old:' text is in src/lib.rt 0 times, and not once"),
+            *[(said, said) for said in ("NOT REFUSED: the crate is still proved with this edit",
+                                        "NOT TRIED: its check was killed")],
+            ("refused, as it must be", "no error in its log"),
+        ):
+            with self.subTest(said=said):
+                self.log = ""
+                self.add("one", GOOD, said)
+                self.assertEqual(list(edits.faults(self.log)), ["crates/a/must-fail/one.edit: " + fault])
+
     def test_no_log(self):
-        self.add("differs", GOOD, SHARE_MISREAD)
-        (self.top / "logs/a/differs/.log").unlink()
-        self.assertEqual(list(edits.faults(True)),
-                         ["crates/a/must-fail/differs.edit: no log; rt must-fail a makes it"])
-        self.assertEqual(list(edits.faults(False)), [])
+        self.add("differs", GOOD, "refused, as it must be: " + CANISTER)
+        self.assertEqual(list(edits.faults("rt: a proved\n")),
+                         ["crates/a/must-fail/differs.edit: the log says nothing of it; rt must-fail a tries it"])
+        self.assertEqual(list(edits.faults()), [])

@@ -12,6 +12,7 @@ pub struct Span {
 }
 
 #[repr(C)]
+#[derive(Drop)]
 pub struct Words {
     pub town: bool, // in town
     pub soak: Span,
@@ -19,14 +20,14 @@ pub struct Words {
     pub parts: [u64; 3],
 }
 
-#[no_mangle]
+#[unsafe(no_mangle)]
 pub extern "C" fn evp_a(sheet: &[u8], words: &mut [u64], row: u64, town: bool) -> Words
-    ensures { λ r. ⌜ r ≡ evp_b(x: u64) ⌝ }
+    ensures { result ≡ evp_b(x: u64) }
 {
     ..
 }
 
-#[no_mangle]
+#[unsafe(no_mangle)]
 pub extern "C" fn evp_b(
     of: Words,
 ) -> usize
@@ -152,3 +153,56 @@ class HeaderTest(unittest.TestCase):
         ):
             with self.subTest(new=new):
                 self.assertIn(fault, ", ".join(header.name_faults((refusals + kinds).replace(old, new))))
+
+
+class ExportsTest(unittest.TestCase):
+    """A static library over a library."""
+
+    CALLED = """
+// The sum.
+#[unsafe(no_mangle)]
+pub extern "C" fn evp_sum(
+    a: u64,
+    words: &mut [u64],
+) -> EvpSum
+    requires { a < 9 } // few
+    ensures { Sum a words.new result }
+{
+    if a < 1 {
+        return none();
+    }
+    some(a, words)
+}
+
+fn none() -> EvpSum {
+    EvpSum { number: 0 }
+}
+"""
+    EXPORT = """
+#[unsafe(no_mangle)]
+pub extern "C" fn evp_sum(a: u64, words: &mut [u64]) -> EvpSum
+    requires { a < 9 }
+    ensures { Sum a words.new result }
+{
+    evaporation::sums::evp_sum(a, words)
+}
+"""
+
+    def faults(self, export: str) -> list[str]:
+        called = header.exports_of(self.CALLED, "evaporation::sums")
+        return list(header.export_faults(header.exports_of(export), called))
+
+    def test_the_same(self):
+        self.assertEqual(self.faults(self.EXPORT), [])
+
+    def test_another(self):
+        for old, new in (("a < 9", "a < 8"), ("Sum a", "Sum 0"), ("    requires { a < 9 }\n", ""),
+                         ("-> EvpSum", "-> u64"), ("fn evp_sum", "fn evp_add"), ("(a, words)", "(words, a)"),
+                         ("sums::evp_sum(", "sums::evp_add("), ("    evap", "    other();\n    evap"),
+                         ("#[unsafe(no_mangle)]\n", "")):
+            with self.subTest(new=new):
+                self.assertEqual(self.EXPORT.count(old), 1, old)
+                self.assertNotEqual(self.faults(self.EXPORT.replace(old, new)), [])
+
+    def test_those_of_the_crates(self):
+        self.assertEqual(list(header.own_export_faults()), [])

@@ -1,5 +1,5 @@
 """c/install on a small repository whose crates are made up: what it makes again, where it puts it, and what the shared
-library looks like. The kit is a script that compiles two calls and counts how often it was run."""
+library looks like. The kit is a script that compiles two calls and counts how often it made an archive of them."""
 
 import os
 import re
@@ -13,20 +13,21 @@ from pathlib import Path
 from tools.command import TOP
 
 KIT = """#!/bin/sh
-case $1 in
-version) cat "$KIT_VERSION" ;;
-staticlib)
-    echo staticlib >> "$KIT_RUNS"
-    mkdir -p target/staticlib
-    gcc -c -fPIC -o target/calls.o crates/evaporation/src/calls.c
-    rm -f target/staticlib/libevaporation.a
-    ar rc target/staticlib/libevaporation.a target/calls.o ;;
+case $1:$(basename "$PWD") in
+version:*) cat "$KIT_VERSION" ;;
+lib:evaporation_c)
+    echo archive >> "$KIT_RUNS"
+    mkdir -p out
+    gcc -c -fPIC -o out/calls.o src/calls.c
+    rm -f out/libevaporation_c.a
+    ar rc out/libevaporation_c.a out/calls.o ;;
+lib:*) echo "rt: $(basename "$PWD") is built" ;;
 esac
 """
 CALLS = "int helper(void) { return 1; }\nint evp_one(void) { return helper(); }\nint evp_two(void) { return 2; }\n"
 FORMS = "int evp_two(void);\nint evp_two_to(void) { return evp_two(); }\n"
 NEWER = "EVP_1.0 {\n    global: evp_one;\n    local: *;\n};\nEVP_1.1 {\n    global: evp_two;\n} EVP_1.0;\n"
-CRATES = "# The crates\n\n# Some: of them\nnumbers:\nsheet: numbers\nreport: io sheet\nevaporation: sheet\n"
+CRATES = "# The crates\n\n# Some: of them\nnumbers:\nsheet: numbers\nreport: sheet\nevaporation_c staticlib: sheet\n"
 OLDER = "EVP_1.0 {\n    global: evp_*;\n    local: *;\n};\n"
 VERSION = subprocess.run(["bash", TOP / "c/version"], capture_output=True, text=True, check=True).stdout.strip()
 LIBRARY = "libevaporation.so." + VERSION
@@ -49,7 +50,7 @@ class InstallTest(unittest.TestCase):
         self.put("crates.txt", CRATES)
         for name in ("numbers", "sheet", "report"):
             self.put("crates/%s/src/lib.rt" % name, name)
-        self.put("crates/evaporation/src/calls.c", CALLS)
+        self.put("crates/evaporation_c/src/calls.c", CALLS)
         self.put("../bin/rt", KIT).chmod(0o755)
         self.runs.write_text("")
         self.version.write_text("a kit\n")
@@ -80,13 +81,14 @@ class InstallTest(unittest.TestCase):
         self.assert_made(1)
         before = (self.top / "target/lib" / LIBRARY).stat().st_mtime_ns
         for path in sorted(self.top.rglob("*")):
-            if "target" not in path.parts:
+            if not {"target", "out"} & set(path.parts):
                 os.utime(path)  # touched, with the same bytes
         self.put("crates/report/src/lib.rt", "a crate that the library does not need")
         self.put("crates/sheet/must-fail/one.edit", "an edit")
         self.put("README.md", "a document")
         self.assert_made(1)
         self.assertEqual((self.top / "target/lib" / LIBRARY).stat().st_mtime_ns, before)
+        self.assertEqual([path for path in self.top.rglob("*") if path.is_symlink()], [])
 
     def test_changed_crate_is_made_again(self):
         self.assert_made(1)

@@ -13,12 +13,12 @@ numbers:
 bounds: numbers
 sheet: numbers bounds   # a comment
 # Programs.
-report: sheet io libc
+report: sheet json
 text:
 """
 FILES = {
     "crates/numbers/src/lib.rt": "1", "crates/bounds/src/lib.rt": "2", "crates/bounds/must-fail/low.edit": "3",
-    "crates/sheet/specs/Limits.antt": "4", "crates/report/stdout": "5", "crates/text/src/lib.rt": "6",
+    "crates/sheet/specs/Limits.antt": "4", "crates/report/src/main.rt": "5", "crates/text/src/lib.rt": "6",
 }
 
 
@@ -31,7 +31,7 @@ class ChangedTest(unittest.TestCase):
 
     def test_lines(self):
         self.assertEqual(landing.read_lines(LIST)["sheet"], ["numbers", "bounds"])
-        self.assertEqual(landing.read_lines(LIST)["report"], ["sheet", "io", "libc"])
+        self.assertEqual(landing.read_lines(LIST)["report"], ["sheet", "json"])
         self.assertEqual(len(landing.read_lines(LIST)), 5)
 
     def test_needs_leave_out_the_kit(self):
@@ -44,6 +44,7 @@ class ChangedTest(unittest.TestCase):
         for path in FILES:
             names = [] if "must-fail" in path else [path.split("/")[1]]
             self.assertEqual(landing.changed(state(), state({path: "7"})), names, path)
+        self.assertEqual(landing.changed(state(), state({"crates/report/stdout": "7", "crates/text/out/x": "7"})), [])
 
     def test_moved_file(self):
         moved = {**FILES, "crates/text/specs/lib.rt": FILES["crates/text/src/lib.rt"]}
@@ -53,6 +54,12 @@ class ChangedTest(unittest.TestCase):
     def test_line(self):
         after = state(text=LIST.replace("report: sheet", "report: sheet text"))
         self.assertEqual(landing.changed(state(), after), ["report"])
+
+    def test_static_library(self):
+        after = state(text=LIST.replace("text:", "text staticlib: numbers"))
+        self.assertEqual(after.lines["text"], ["staticlib", "numbers"])
+        self.assertEqual(after.needs("text"), ["numbers"])
+        self.assertEqual(landing.changed(state(text=LIST.replace("text:", "text: numbers")), after), ["text"])
 
     def test_comment_is_no_change(self):
         self.assertEqual(landing.changed(state(), state(text=LIST.replace("a comment", "another"))), [])
@@ -81,29 +88,30 @@ class OrderTest(unittest.TestCase):
         before, after = landing.keys_of(state()), landing.keys_of(state({"crates/bounds/src/lib.rt": "7"}))
         self.assertEqual([name for name in before if before[name] != after[name]], ["bounds", "sheet", "report"])
 
-    def test_proved_now(self):
-        log = "rt: numbers proved (unchanged since it was last proved)\nlogic=proved\nrt: bounds proved (12 s)\n"
-        self.assertEqual(landing.proved_now(log), ["bounds"])
 
+class CheckTest(unittest.TestCase):
+    """The command of a check, and the seconds that are kept in a folder."""
 
-class RecordsTest(unittest.TestCase):
-    """Proofs and seconds that are kept in a folder."""
+    def test_words(self):
+        words = landing.check_words(Path("/kit"), "report", state(), True)
+        self.assertEqual(words[:5], ["/kit/bin/rattle", "check", "--crate-name", "report", "src/main.rt"])
+        pairs = list(zip(words[5::2], words[6::2]))
+        self.assertEqual([said for word, said in pairs if word == "--extern"], [
+            "std=/kit/rlibs/std.rlib", "sheet=../sheet/out/rlib/sheet.rlib", "json=/kit/rlibs/json.rlib"])
+        self.assertEqual([said for word, said in pairs if word == "-L"], [
+            *("dependency=../%s/out/rlib" % name for name in ("numbers", "bounds", "sheet")),
+            "dependency=/kit/rlibs"])
+        self.assertNotIn("--incremental", words)
+        static = landing.check_words(Path("/kit"), "text", state(text=LIST.replace("text:", "text staticlib:")), False)
+        self.assertEqual((static[4], static[-2:]), ("src/lib.rt", ["--crate-type", "staticlib"]))
 
-    def test_kept_and_restored(self):
+    def test_kept(self):
         with tempfile.TemporaryDirectory() as name:
-            first, second = Path(name) / "first", Path(name) / "second"
-            (first / "stamp").mkdir(parents=True)
-            (first / "stamp" / "bounds").write_text("stamp")
-            (first / "rlib" / "bounds.rlib").mkdir(parents=True)
-            (first / "rlib" / "bounds.rlib" / "part").write_text("proof")
             records = landing.Records(Path(name))
-            records.add("key", "bounds", 12.345, first)
-            records.add("key", "bounds", 11, first)
+            records.add("key", 12.345)
+            records.add("key", 11)
             again = landing.Records(Path(name))
             self.assertEqual((again.taken("key"), again.taken("other")), ([12.35, 11], []))
-            again.restore("key", "bounds", second)
-            self.assertEqual((second / "stamp" / "bounds").read_text(), "stamp")
-            self.assertEqual((second / "rlib" / "bounds.rlib" / "part").read_text(), "proof")
 
 
 class TableTest(unittest.TestCase):

@@ -18,7 +18,7 @@ class LimitsTest(unittest.TestCase):
     def test_desk(self):
         self.assertEqual(layout.MOST_ROWS, LIMITS["rows_limit"])
         for name in ("days", "vp", "tank", "vehicles", "trips", "minutes", "mileage"):
-            self.assertEqual(layout.FIELDS[name].most, LIMITS[name + "Limit"], name)
+            self.assertEqual(layout.FIELDS[name].most, LIMITS[name + "_limit"], name)
         for name in ("carburettor", "hot", "fill"):
             self.assertEqual(layout.FIELDS[name].most, LIMITS["percent_limit"], name)
         for name in ("lowest", "highest"):

@@ -14,7 +14,7 @@ class NamesTest(unittest.TestCase):
 
     FILES = {
         "crates/a/src/lib.rt": "pub const MOST: u64 = 3;\npub fn read(s: &[u8]) -> u64\n",
-        "crates/a/specs/Limits.antt": "abbrev pub most : ℕ\nmost = 3\npub _≤ᶠ_ : ℕ\n  pub trips-minutes : ℕ\n",
+        "crates/a/specs/Limits.antt": "abbrev pub most : ℕ\nmost = 3\npub ◌≤ᶠ◌ : ℕ\n  pub trips-minutes : ℕ\n",
         "crates/a/proofs/Laws.antt": "pub reads : ℕ\n", "docs/A.md": "# A page\n\n## What it's for\n",
     }
 

@@ -23,7 +23,7 @@ module _ (s : List ℕ) where
     pub band : Band s
 """,
     "crates/low/specs/Call.antt": """\
-use Rattle·low·specs.specs.Band.{Band, Inner}
+use Rattle.low.specs.Band.{Band, Inner}
 
 pub record LowCall (s : List ℕ) : Type 0 where
   pub promise : Inner s
@@ -33,7 +33,7 @@ abbrev pub BandTheorem : Type 0
 BandTheorem = Unit
 """,
     "crates/low/proofs/Band.antt": """\
-use Rattle·low.specs.Band.{Band, BandTheorem}
+use Rattle.low.specs.Band.{Band, BandTheorem}
 
 -- the theorem itself
 pub band-holds : BandTheorem
@@ -53,36 +53,49 @@ module _ (e : Enclosed) where
   band-within = band-holds
 """,
     "crates/high/proofs/Other.antt": """\
-use Rattle·high·specs.specs.Band.{BandTheorem}
+use Rattle.high.specs.Band.{BandTheorem}
 
 pub other : BandTheorem
 other = unit
 """,
     "crates/low/src/lib.rt": """\
-ghost use Rattle·low.specs.Band.{Band};
-ghost use Rattle·low.specs.Call.{LowCall};
+ghost use Rattle.low.specs.Band.{Band};
+ghost use Rattle.low.specs.Call.{LowCall};
 
 pub fn good(s: &[u8]) -> bool
-    ensures { λ r. ⌜ (r ≡ true) × Band (now (s .entry)) ⌝ }
+    ensures { (result ≡ true) × Band s.now }
 {
     true
 }
 
 pub fn call(s: &[u8]) -> bool
-    ensures { λ r. ⌜ LowCall (now (s .entry)) ⌝ }
+    ensures { LowCall s.now }
 {
     true
 }
 
 pub fn guarded(s: &[u8]) -> bool
-    requires { ⌜ 0 < length (now s) ⌝ }
-    ensures { λ r. ⌜ Band (now (s .entry)) ⌝ }
+    requires { 0 < length s.now }
+    ensures { Band s.now }
 {
     true
 }
 
 pub fn perhaps(s: &[u8]) -> bool
-    ensures { λ r. ⌜ r ≡ true → Band (now (s .entry)) ⌝ }
+    ensures { result ≡ true → Band s.now }
+{
+    true
+}
+
+pub fn answered(s: &[u8]) -> Result<bool, Error>
+    ensures ok { OnOk result (Band s.now) }
+{
+    Ok(true)
+}
+
+pub fn both(s: &[u8]) -> bool
+    ensures band { Band s.now }
+    ensures call { result ≡ true → LowCall s.now }
 {
     true
 }
@@ -163,13 +176,23 @@ class InSmallCrates(unittest.TestCase):
 
     def test_a_contract_with_a_condition(self):
         line, contract = "`Band` in low: Band", "contract of `guarded` in crates/low/src/lib.rt"
-        self.assertEqual(self.faults(line, contract + ", which requires `0 < length (now s)`"), [])
+        self.assertEqual(self.faults(line, contract + ", which requires `0 < length s.now`"), [])
         self.assertEqual(self.faults(line, contract), [
-            "the contract requires, and the line does not say so: 0 < length (now s)"])
+            "the contract requires, and the line does not say so: 0 < length s.now"])
         self.assertEqual(self.faults(line, "contract of `good` in crates/low/src/lib.rt, which requires `0 < 1`"), [
             "no function of the line requires 0 < 1"])
         found = self.faults(line, "contract of `perhaps` in crates/low/src/lib.rt")
-        self.assertEqual(found, ["perhaps ensures something conditional: r ≡ true → Band (now (s .entry))"])
+        self.assertEqual(found, ["perhaps ensures something conditional: result ≡ true → Band s.now"])
+        found = self.faults(line, "contract of `answered` in crates/low/src/lib.rt")
+        self.assertEqual(found, ["answered ensures something conditional: OnOk result (Band s.now)"])
+
+    def test_a_clause_with_a_condition(self):
+        """It counts for nothing beside one without."""
+        contract = "contract of `both` in crates/low/src/lib.rt"
+        self.assertEqual(self.faults("`Band` in low: Band", contract), [])
+        self.assertEqual(self.faults("`LowCall` in low: Call", contract), [
+            "both states no definition that the line names",
+            "LowCall in low: Call is stated by no law and no contract of the line"])
 
     def test_a_field_of_another_record(self):
         found = self.faults("`Inner` (`narrow`) in low: Band", "contract of `call` in crates/low/src/lib.rt, through "
@@ -256,11 +279,11 @@ class OfTheProject(unittest.TestCase):
 
     def test_the_law_of_a_read(self):
         path = Path("crates/report/proofs/main/Proof.antt")
-        for line, wrong in (("use Rattle·program.specs.Reads.{Taken, counted}", 0),
-                            ("use Rattle·program.specs.Reads.{Taken, taken}", 1),
-                            ("use Rattle·program.specs.Reads", 1),
-                            ("use Rattle·program.specs.Reads as reads", 1),
-                            ("-- Rattle·program.specs.Reads has taken", 0)):
+        for line, wrong in (("use Rattle.program.specs.Reads.{Taken, counted}", 0),
+                            ("use Rattle.program.specs.Reads.{Taken, taken}", 1),
+                            ("use Rattle.program.specs.Reads", 1),
+                            ("use Rattle.program.specs.Reads as reads", 1),
+                            ("-- Rattle.program.specs.Reads has taken", 0)):
             self.assertEqual(len(list(promises.reads_faults(path, line))), wrong, line)
         self.assertEqual(list(promises.taken_faults()), [])
 

@@ -8,6 +8,7 @@ from pathlib import Path
 
 from tools.command import TOP
 
+OK = "rt: ok; handles allowed: none; must-fail edits: 9 refused, 0 bad; done in this run: 1 of the 3 proofs\n"
 MADE = ("bin/report", "bin/species", "bin/pool", "lib/libevaporation.a", "lib/libevaporation.so.1")
 
 
@@ -63,8 +64,8 @@ class ReleaseTest(unittest.TestCase):
         for name in MADE:
             self.bash("release/seal", "built", self.logs, "target/" + name)
 
-    def end(self, last: str = "235 passed, 0 failed") -> subprocess.CompletedProcess:
-        (self.logs / "rt-ci.log").write_text("rt: something\n%s\n" % last)
+    def end(self, last: str = "235 passed, 0 failed", ok: str = OK) -> subprocess.CompletedProcess:
+        (self.logs / "rt-ci.log").write_text("rt: something\n%s%s\n" % (ok, last))
         return self.bash("release/seal", "end", self.logs)
 
     def seal(self, last: str = "235 passed, 0 failed") -> subprocess.CompletedProcess:
@@ -87,6 +88,18 @@ class ReleaseTest(unittest.TestCase):
         self.assertEqual(self.seal().returncode, 0)
         run = self.bash("-c", 'set -eu; . <(sed -n "/^doubt()/,/^}/p" release/make); doubt')
         self.assertEqual((run.returncode, run.stdout, run.stderr), (0, "", ""))
+
+    def test_gate_whose_rt_ci_is_not_ok(self):
+        for ok, why in (("", "rt ci has not said that it is ok"),
+                        (OK.replace("9 refused, 0", "8 refused, 1"), "must-fail edits are bad: " + OK.replace(
+                            "9 refused, 0", "8 refused, 1").strip())):
+            self.begin()
+            self.assertEqual(self.end(ok=ok).stderr, "release/seal: nothing is sealed: %s\n" % why)
+
+    def test_gate_that_runs_again(self):
+        self.seal()
+        self.begin()
+        self.assert_refused("the gate's last line is not 'N passed, 0 failed'")
 
     def test_another_commit(self):
         self.seal()

@@ -1,4 +1,6 @@
 // What a program in Rust or C can call: the exponential over many exponents at once, with the tables made once.
+#![tactic(auto)]
+
 ghost use Rattle.std.specs.Prelude.{◌≡◌};
 ghost use Rattle.bounds.specs.Exponential.{entries};
 ghost use Rattle.bench_exponentials.specs.Total.{served, total};

@@ -1,5 +1,5 @@
 -- Where the words of each block stand, and a buffer that is filled block by block.
-use mathlib.Core.List.{List, [], ◌∷◌, ◌++◌, append_assoc}
+use mathlib.Core.List.{List, ◌++◌, append_assoc}
 use mathlib.Core.Logic.{⊎_elim}
 use mathlib.Core.Path.{◌≡◌, refl, sym, ◌∙◌, ap}
 use Prim.Native.Nat.{ℕ, suc, zero, ◌+◌, ◌*◌, ◌≤◌, ◌<◌}
@@ -61,7 +61,8 @@ module _ (f : ℕ → List ℕ) (w : ℕ) (size : (i : ℕ) → length (f i) ≡
         rw (before, after, add-one) refl
 
     -- the same by stores
-    pub blocks-stored : (n : ℕ) (words : List ℕ) → words ≡ filled_blocks n → w * n + w ≤ length words → sets words (w * n) (f n) ≡ filled_blocks (n + 1)
+    pub blocks-stored : (n : ℕ) (words : List ℕ) → words ≡ filled_blocks n → w * n + w ≤ length words
+        → sets words (w * n) (f n) ≡ filled_blocks (n + 1)
     blocks-stored n words e room =
         sets-eq (f n) words (w * n) (omega (arith, size n)) ∙ rw (size n) (blocks-next n words e)
 

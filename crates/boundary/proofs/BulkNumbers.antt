@@ -1,14 +1,13 @@
 -- What holds of the answers in bulk holds of the numbers that leave the library.
 use mathlib.Core.List.{List}
 use mathlib.Core.Path.{◌≡◌, refl, sym, ◌∙◌, ap}
-use Prim.Native.Nat.{ℕ, ◌+◌, ◌*◌, ◌-◌, ◌≤◌}
+use Prim.Native.Nat.{ℕ, ◌≤◌}
 use native.Mathlib.Omega.{arith}
 use lib.ListN.{get_or-replicate}
 use Rattle.numbers.specs.Lists.{at}
 use Rattle.sheet.specs.declared.Check.{Check}
 use Rattle.sheet.specs.declared.Check.TheVariants.{Pass, Refused}
 use Rattle.sheet.specs.Check.{number_of, place_of}
-use Rattle.inventory.specs.FactorAnswers.{factor_answer}
 use Rattle.factor_table.specs.declared.RowFactors.{RowFactors}
 use Rattle.factor_table.specs.RowFactors.{band_words, low_place, high_place, row_check, row_answered, row_answer, one_of, RowFactorsCall}
 use Rattle.factor_table.specs.Factors.{FactorsCall}

@@ -5,7 +5,7 @@ use mathlib.Core.Bool.{true, false, true≢false}
 use Prim.Native.Nat.{ℕ, ◌*◌, ◌≤◌, ◌<◌}
 use native.Mathlib.Omega.{arith}
 use lib.Dec.{eqb}
-use lib.Ieee.{Float, fin, up, down, eq}
+use lib.Ieee.{nan, Float, fin, up, down, eq, inf}
 use borrow.Author.Tests.{eq-eqb, ne_eqb, lt-ltb, le-ltb}
 use Rattle.map_cells.specs.declared.Cell.{Cell}
 use Rattle.map_cells.specs.declared.Cell.TheVariants.{Empty, Exact, Band}
@@ -121,6 +121,8 @@ module _ {t : TravelHanded} (w : Words) where
 -- a double with the sign plus equals itself
 plus-same : (m : Float) → Plus m → eq m m ≡ true
 unfolding Plus eq
+plus-same nan p = elim p [ ]
+plus-same (inf _) p = elim p [ ]
 plus-same (fin true m e) p = absurd (true≢false p)
 plus-same (fin false m e) p = rw (eqb-true-refl (m * up e * down e))
   where

@@ -14,7 +14,6 @@ use Rattle.factor_table.specs.RowFactors.{low_place, high_place, row_demands, ro
 use Rattle.factor_table.specs.Factors.{all_factors, factors_check, factors_demands, row_start}
 use Rattle.season_report.specs.Seasons.{report_seasons, seasons_check, seasons_demands, SeasonPromise}
 use Rattle.boundary.specs.declared.EvpCheck.{EvpCheck}
-use Rattle.boundary.specs.declared.EvpFactor.{EvpFactor}
 use Rattle.boundary.specs.declared.EvpRowFactors.{EvpRowFactors}
 use Rattle.boundary.specs.Export.{check_numbers, factor_numbers}
 

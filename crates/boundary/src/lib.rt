@@ -1,12 +1,14 @@
 // What passes to and from a program in another language: structs of numbers and doubles, as include/evaporation.h has them. What they say
 // is defined in specs/; the code is in the crates boundary_calls and evaporation.
+#![tactic(auto)]
+
 use map_cells::Cell;
 use map_shares::{Mileages, Speeds, Travel};
 use marking::Unit;
 
 // A refusal's number and place; number 0 where the sheet is accepted.
 #[repr(C)]
-#[derive(Drop)]
+#[derive(Clone, Copy)]
 pub struct EvpCheck {
     pub number: u64,
     pub place: u64,
@@ -14,7 +16,7 @@ pub struct EvpCheck {
 
 // The same, with the low and the high in micrograms where the sheet is accepted.
 #[repr(C)]
-#[derive(Drop)]
+#[derive(Clone, Copy)]
 pub struct EvpFactor {
     pub number: u64,
     pub place: u64,
@@ -24,7 +26,7 @@ pub struct EvpFactor {
 
 // The same, with the low and the high of factors 1 to 7 in micrograms; zeros where the sheet is refused.
 #[repr(C)]
-#[derive(Drop)]
+#[derive(Clone, Copy)]
 pub struct EvpRowFactors {
     pub number: u64,
     pub place: u64,
@@ -33,7 +35,7 @@ pub struct EvpRowFactors {
 
 // Number and place are those of the report, number 0 where the text is one; and how many bytes the text has.
 #[repr(C)]
-#[derive(Drop)]
+#[derive(Clone, Copy)]
 pub struct EvpText {
     pub number: u64,
     pub place: u64,
@@ -42,7 +44,7 @@ pub struct EvpText {
 
 // The species of a sheet's high total, in milligrams; zeros where it is refused.
 #[repr(C)]
-#[derive(Drop)]
+#[derive(Clone, Copy)]
 pub struct EvpComposition {
     pub number: u64,
     pub place: u64,
@@ -53,7 +55,7 @@ pub struct EvpComposition {
 // A refusal's number and place, and which sheet it is of: 1 the first, 2 the second, 3 the two together. All 0 where the pool is accepted,
 // and then how many bytes are written.
 #[repr(C)]
-#[derive(Drop)]
+#[derive(Clone, Copy)]
 pub struct EvpPool {
     pub number: u64,
     pub place: u64,
@@ -63,7 +65,7 @@ pub struct EvpPool {
 
 // A refusal's number and place; number 0, and the row's count and six words, where it is read.
 #[repr(C)]
-#[derive(Drop)]
+#[derive(Clone, Copy)]
 pub struct EvpRow {
     pub number: u64,
     pub place: u64,
@@ -73,7 +75,7 @@ pub struct EvpRow {
 
 // The same, with the 26 words after the rows.
 #[repr(C)]
-#[derive(Drop)]
+#[derive(Clone, Copy)]
 pub struct EvpTotals {
     pub number: u64,
     pub place: u64,
@@ -82,7 +84,7 @@ pub struct EvpTotals {
 
 // Whether a row's owners live in town, 0 not and 1 in town, and where its vehicles drive.
 #[repr(C)]
-#[derive(Drop)]
+#[derive(Clone, Copy)]
 pub struct EvpTravel {
     pub town: u64,
     pub mileage: Mileages,
@@ -90,7 +92,7 @@ pub struct EvpTravel {
 }
 
 // What was handed in, or that its first number is neither 0 nor 1.
-#[derive(Drop)]
+#[derive(Clone, Copy)]
 pub enum TravelHanded {
     Told(Travel),
     NoTravel,
@@ -98,7 +100,7 @@ pub enum TravelHanded {
 
 // A cell: kind 0 is empty, 1 one mass in both doubles, 2 a low and a high mass. Kind 3 is no cell.
 #[repr(C)]
-#[derive(Drop)]
+#[derive(Clone, Copy)]
 pub struct EvpCell {
     pub kind: u64,
     pub low: f64,
@@ -107,7 +109,7 @@ pub struct EvpCell {
 
 // A refusal's number and place, and no cells; number 0 where the cells are given.
 #[repr(C)]
-#[derive(Drop)]
+#[derive(Clone, Copy)]
 pub struct EvpRowCells {
     pub number: u64,
     pub place: u64,
@@ -118,7 +120,7 @@ pub struct EvpRowCells {
 
 // The same for a sum.
 #[repr(C)]
-#[derive(Drop)]
+#[derive(Clone, Copy)]
 pub struct EvpCellSum {
     pub number: u64,
     pub place: u64,
@@ -126,7 +128,7 @@ pub struct EvpCellSum {
 }
 
 // A cell handed in, or that its kind and doubles make none.
-#[derive(Drop)]
+#[derive(Clone, Copy)]
 pub enum Handed {
     Given(Cell),
     NoCell,
@@ -134,7 +136,7 @@ pub enum Handed {
 
 // A filed figure: its digits, how many of them stand behind the point, and its unit, 0 mg, 1 g, 2 kg, 3 t.
 #[repr(C)]
-#[derive(Drop)]
+#[derive(Clone, Copy)]
 pub struct EvpFiled {
     pub digits: u64,
     pub places: u64,
@@ -143,14 +145,14 @@ pub struct EvpFiled {
 
 // 0 agrees, 1 fits, 2 low, 3 high, 4 unreadable; and by how many milligrams at least the figure is too low or too high, else 0.
 #[repr(C)]
-#[derive(Drop)]
+#[derive(Clone, Copy)]
 pub struct EvpVerdict {
     pub verdict: u64,
     pub off: u64,
 }
 
 // The unit that a number names, or that it names none.
-#[derive(Drop)]
+#[derive(Clone, Copy)]
 pub enum UnitHanded {
     Named(Unit),
     NoUnit,

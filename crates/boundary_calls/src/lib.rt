@@ -1,4 +1,6 @@
 // The answers of the calls as numbers, for a program in another language; and what it hands in, as the calls take it.
+#![tactic(auto)]
+
 ghost use Rattle.std.specs.Prelude.{◌≡◌};
 ghost use Rattle.boundary.specs.Export.{check_numbers, factor_numbers};
 ghost use Rattle.boundary.specs.TextExport.{text_numbers};

@@ -1,6 +1,7 @@
 // The cells of the map as numbers and doubles.
 ghost use Rattle.std.specs.Prelude.{◌≡◌};
-ghost use Rattle.boundary.specs.Cells.{cell_numbers, no_cell, row_numbers, sum_numbers, exact_handed, cell_handed, handed_sum, travel_handed, handed_row};
+ghost use Rattle.boundary.specs.Cells.{cell_numbers, no_cell, row_numbers, sum_numbers, exact_handed, cell_handed, handed_sum, travel_handed};
+ghost use Rattle.boundary.specs.Cells.{handed_row};
 
 use boundary::{EvpCell, EvpCellSum, EvpRowCells, EvpTravel, Handed, TravelHanded};
 use map_cells::sums::add_cells;

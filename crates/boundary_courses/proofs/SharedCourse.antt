@@ -6,7 +6,6 @@ use mathlib.Core.Path.{◌≡◌, refl, sym, ap, ap₂, ◌∙◌}
 use Prim.Native.Nat.{ℕ}
 use lib.Dec.{eqb}
 use lib.ListN.{length}
-use Rattle.numbers.specs.Lists.{at}
 use Rattle.sheet.specs.declared.Check.TheVariants.{Pass}
 use Rattle.sheet.specs.Check.{number_of, place_of}
 use Rattle.ledger.specs.declared.Call.{Call}

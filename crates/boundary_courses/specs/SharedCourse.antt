@@ -46,7 +46,8 @@ pub record Course (s owners w : List ℕ) (asks : List Ask) (replies : List Repl
 unfoldable pub replies_to : ℕ → List Ask → List Reply → List Reply
 replies_to who [] replies = []
 replies_to who (ask ∷ asks) [] = []
-replies_to who (ask ∷ asks) (r ∷ replies) = elim (eqb (asker_of ask) who) [ true ↦ r ∷ replies_to who asks replies | false ↦ replies_to who asks replies ]
+replies_to who (ask ∷ asks) (r ∷ replies) =
+    elim (eqb (asker_of ask) who) [ true ↦ r ∷ replies_to who asks replies | false ↦ replies_to who asks replies ]
 
 -- "what a participant is told depends on the sheet's seasons and parking, which rows are theirs, those rows as opened and the calls they
 -- made, nothing else": in any two courses that agree on these their calls returned the same numbers

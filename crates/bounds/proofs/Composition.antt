@@ -133,7 +133,7 @@ near-cut {q} {N} {w} {i} {j} {t} c c0 a = record {
 rescale : (c q x j w i n : ℕ) → x * num q j n ≤ w * num q i n → x * num (c * q) (c * j) n ≤ w * num (c * q) (c * i) n
 rescale c q x j w i n h = rw (num-scale c q j n, num-scale c q i n) (omega (arith, mul-le-mul_left (c ^ n) h))
 
--- An entry t just below W-as-E at a multiple of 1/q, and a small exponent d/(c·q) with its product lo.
+-- An entry t just below W·E at a multiple of 1/q, and a small exponent d/(c·q) with its product lo.
 module _ (q c d k W w lo v t : ℕ) (q0 : 0 < c * q) (s : Small (c * q) k w d lo v) where
   -- the exponent (c·i + d)/(c·q)
   entry-plus-below : (i n : ℕ) → 40 ≤ n → W * num q i n ≤ (t + 1) * num q 0 n

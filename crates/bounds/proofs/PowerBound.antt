@@ -58,7 +58,7 @@ pub power_size : (θ : ℕ) → θ ≤ degrees_limit → power θ < 2 ^ 40
 unfolding power power_from
 power_size θ h = omega (arith, half_power-most (θ - 30 * 10 ^ 10) (omega arith))
 
--- (p·q·H)² ≤ N⁵ for p ≤ N²/W and q² ≤ N-as-B, where W² = B-as-H²
+-- (p·q·H)² ≤ N⁵ for p ≤ N²/W and q² ≤ N·B, where W² = B·H²
 fifth-above :
     (N p q W B H : ℕ)
     → 0 < B
@@ -69,7 +69,7 @@ fifth-above :
 fifth-above N p q W B H b e h k =
     le_of_mul-le-mul_right {k = B} (omega (arith, mul-le-mul (mul-le-mul h h) k, ap (λ t. t * (p * q * (p * q))) e)) b
 
--- N⁵ < (P·Q·H)² for N² < P-as-W and N-as-B < Q²
+-- N⁵ < (P·Q·H)² for N² < P·W and N·B < Q²
 fifth-below :
     (N P Q W B H : ℕ)
     → W * W ≡ B * (H * H)

@@ -64,12 +64,12 @@ none_above [] ys = true
 none_above (x ∷ xs) [] = false
 none_above (x ∷ xs) (y ∷ ys) = both (leb x y) (none_above xs ys)
 
-none_above : (xs ys : List ℕ) → T (none_above xs ys) → (k : ℕ) → k < length xs → get_or xs k 0 ≤ get_or ys k 0
+none_above_lem : (xs ys : List ℕ) → T (none_above xs ys) → (k : ℕ) → k < length xs → get_or xs k 0 ≤ get_or ys k 0
 unfolding none_above
-none_above [] ys t k h = absurd (not-suc-le-zero h)
-none_above (x ∷ xs) [] t k h = absurd t
-none_above (x ∷ xs) (y ∷ ys) t zero h = leb→le x y (both_left (leb x y) (none_above xs ys) t)
-none_above (x ∷ xs) (y ∷ ys) t (suc k) h = none_above xs ys (both_right (leb x y) (none_above xs ys) t) k (le_of_suc-le-suc h)
+none_above_lem [] ys t k h = absurd (not-suc-le-zero h)
+none_above_lem (x ∷ xs) [] t k h = absurd t
+none_above_lem (x ∷ xs) (y ∷ ys) t zero h = leb→le x y (both_left (leb x y) (none_above xs ys) t)
+none_above_lem (x ∷ xs) (y ∷ ys) t (suc k) h = none_above_lem xs ys (both_right (leb x y) (none_above xs ys) t) k (le_of_suc-le-suc h)
 
 abbrev smaller : ℕ → ℕ → ℕ → ℕ → ℕ → ℕ → ℕ → ℕ → List ℕ
 smaller q k p₀ p₁ p₂ α β e =
@@ -106,7 +106,7 @@ unfolding cell_test
 cell-passed q k p₀ p₁ p₂ α β e q0 t =
     let a = near_test q 14 (2 ^ 40) (k * p₀) 0 e in
     let b = none_above (smaller q k p₀ p₁ p₂ α β e) (larger q k p₀ p₁ p₂ α β e) in
-    let g = none_above (smaller q k p₀ p₁ p₂ α β e) (larger q k p₀ p₁ p₂ α β e) (both_right a b t) in
+    let g = none_above_lem (smaller q k p₀ p₁ p₂ α β e) (larger q k p₀ p₁ p₂ α β e) (both_right a b t) in
     record {
       level = near q 14 (2 ^ 40) (k * p₀) 0 e q0 (g 0 (lit< tt)) (mul-pos q0 (lit< tt)) (both_left a b t);
       small = g 1 (lit< tt);

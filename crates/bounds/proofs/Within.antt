@@ -168,14 +168,14 @@ over-within k p a = round-within k p (over-within-scaled k p a)
 
 -- Products.
 
--- a·c − a·d − b·c + b·d at least L-as-M, for a − b ≥ L and c − d ≥ M
+-- a·c − a·d − b·c + b·d at least L·M, for a − b ≥ L and c − d ≥ M
 mul-above : (b d L M : ℕ) {a c : ℕ} → L + b ≤ a → M + d ≤ c → L * M + (a * d + b * c) ≤ a * c + b * d
 mul-above b d L M h k =
     let (u, e) = le_dest h in
     let (v, f) = le_dest k in
     rw (← e, ← f) (omega arith)
 
--- and at most H-as-K, for a − b ≤ H and c − d ≤ K
+-- and at most H·K, for a − b ≤ H and c − d ≤ K
 mul-below : (H K : ℕ) {a b c d : ℕ} → b ≤ a → a ≤ H + b → d ≤ c → c ≤ K + d → a * c + b * d ≤ H * K + (a * d + b * c)
 mul-below H K {b = b} {d = d} h h' k k' =
     let (u, e) = le_dest h in

@@ -1,4 +1,6 @@
 // Bounds of the exponential and of the root: the lower crate of document 01.
+#![tactic(auto)]
+
 pub mod exp;
 pub mod fixed;
 pub mod hours;

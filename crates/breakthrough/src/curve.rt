@@ -15,7 +15,7 @@ const TWO_4: u64 = 16;
 const TWO_24: u64 = 16777216;
 
 // A row's canister at one temperature.
-#[derive(Drop)]
+#[derive(Clone, Copy)]
 pub struct Curve {
     // a + b s m at the load at parking start and at the saturating load, held as (z + 16) * 2^53, and what a rise of 1 adds to it, in units of 2^-36.
     pub exponent: u64,

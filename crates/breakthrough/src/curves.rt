@@ -16,7 +16,7 @@ use bounds::short::{binary, line, short};
 use exact::Row;
 
 // The values of `Curve` by distance from 14:00; what no temperature changes stands once.
-#[derive(Drop)]
+#[derive(Clone, Copy)]
 pub struct Curves {
     pub exponents: [u64; 25],
     pub lasts: [u64; 25],

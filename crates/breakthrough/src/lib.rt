@@ -1,4 +1,6 @@
 // What breaks through the carbon canister of a row.
+#![tactic(auto)]
+
 pub mod curve;
 pub mod curves;
 pub mod loads;

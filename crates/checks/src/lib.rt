@@ -1,4 +1,6 @@
 // Reading a sheet: every byte string is read, or refused with the number and the place that document 01 fixes.
+#![tactic(auto)]
+
 ghost use Rattle.std.specs.Prelude.{◌≡◌};
 ghost use Rattle.sheet.specs.Check.{number_of, place_of};
 ghost use Rattle.sheet.specs.Sheet.{sheet_check};

@@ -1,5 +1,7 @@
 // The calls for a program in another language. A slice is passed as a pointer and a length. Their answers are declared in the crate
 // boundary, and made of those in Rattle by boundary_calls.
+#![tactic(auto)]
+
 ghost use Rattle.std.specs.Prelude.{◌≡◌};
 ghost use Rattle.boundary.specs.Export.{ReportNumbers, FactorNumbers};
 ghost use Rattle.boundary.specs.TextExport.{TextNumbers};
@@ -9,14 +11,14 @@ use boundary::{EvpCheck, EvpFactor, EvpText};
 use boundary_calls::{check_numbers, factor_numbers, text_numbers};
 use inventory::check::report_check;
 
-mod bulk;
+pub mod bulk;
 pub mod filed;
 pub mod map;
-mod pool;
-mod reasons;
-mod registrations;
-mod shared;
-mod sheets;
+pub mod pool;
+pub mod reasons;
+pub mod registrations;
+pub mod shared;
+pub mod sheets;
 pub mod species;
 
 // Version 1.1.0: a million for each major, a thousand for each minor.

@@ -22,7 +22,7 @@ module _ (durations : List ℕ) where
   scaled-total q [] rest = omega arith
   scaled-total q (j ∷ js) rest = omega (arith, scaled-total q js rest)
 
-  -- P-as-Q
+  -- P·Q
   pub products_total : (hours : List ℕ) → total (products durations hours) ≡ total durations * total hours
   unfolding products total
   products_total [] = omega arith

@@ -481,9 +481,9 @@ unfolding definitions same
 load-empty = tt
 
 -- none reaches it, and m_sat is no multiple; n = 3
-load_full : T (same (starting_load 3 (whole 60) (whole 1) (whole 20) 1000000 (whole 121 over 10) ∷ []) ((whole 121 over 10) ∷ []))
+load-full : T (same (starting_load 3 (whole 60) (whole 1) (whole 20) 1000000 (whole 121 over 10) ∷ []) ((whole 121 over 10) ∷ []))
 unfolding definitions same
-load_full = tt
+load-full = tt
 
 -- a canister that holds nothing; n = 4
 load-none : T (same (starting_load 4 (whole 60) (whole 1) (whole 20) 100 (whole 0) ∷ []) ((whole 0) ∷ []))

@@ -121,7 +121,7 @@ weighted_sum value cell (count ∷ counts) = count times value cell +ᶠ weighte
 unfoldable pub mean : (ℕ → Fraction) → List ℕ → Fraction
 mean value counts = weighted_sum value 0 counts over total counts
 
--- version 1: "With sums P and Q, the cell of counts j and q weighs j·q/(P·Q)": the products, whose sum is P-as-Q
+-- version 1: "With sums P and Q, the cell of counts j and q weighs j·q/(P·Q)": the products, whose sum is P·Q
 unfoldable pub products : List ℕ → List ℕ → List ℕ
 products durations [] = []
 products durations (q ∷ hours) = map (λ (j : ℕ). j * q) durations ++ products durations hours

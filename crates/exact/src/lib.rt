@@ -1,7 +1,8 @@
 // The values of a sheet that document 01's exact masses are functions of, in the units of the sheet.
+#![tactic(auto)]
 
 // A carbon canister, or none.
-#[derive(Drop)]
+#[derive(Clone, Copy)]
 pub enum Canister {
     None,
     Small,
@@ -10,14 +11,14 @@ pub enum Canister {
 }
 
 // What a class and technology stand for in Table 3-11: no such pair, or a canister and a tank in tenths of a litre.
-#[derive(Drop)]
+#[derive(Clone, Copy)]
 pub enum Equipment {
     Absent,
     Fitted(Canister, u64),
 }
 
 // One season.
-#[derive(Drop)]
+#[derive(Clone, Copy)]
 pub struct Season {
     pub days: u64,
     // Lowest and highest temperature in tenths of °C, each the number of its 16 bits (two's complement).
@@ -28,7 +29,7 @@ pub struct Season {
 }
 
 // One row, with the canister and the tank that count for it: the class's where the sheet leaves them to the class.
-#[derive(Drop)]
+#[derive(Clone, Copy)]
 pub struct Row {
     pub class: u64,
     pub canister: Canister,

@@ -1,4 +1,6 @@
 // Why a sheet is refused: the first finding of the table, as a function of the bytes.
+#![tactic(auto)]
+
 ghost use Rattle.std.specs.Prelude.{◌≡◌};
 ghost use Rattle.findings.specs.Table.{finding_of};
 ghost use Rattle.findings.specs.Meaning.{Explains};

@@ -87,7 +87,8 @@ module _ (s : List ℕ) (season row : ℕ) where
 
     module _ (bytes : Bytes s) (passed : row_check s season row ≡ Pass) where
       -- it answers these two words
-      pub band-same : answer.Band (at (band_words s season row) (low_place k)) (at (band_words s season row) (high_place k)) ≡ factor_answer s season row k
+      pub band-same : answer.Band (at (band_words s season row) (low_place k)) (at (band_words s season row) (high_place k))
+          ≡ factor_answer s season row k
       band-same = band-is s season row k bytes (check-same ∙ passed) refl low-at high-at
 
       -- and promises this of them

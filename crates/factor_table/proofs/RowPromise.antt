@@ -1,21 +1,20 @@
 -- What the call for the factors of a row answers is what is promised of it.
 use mathlib.Core.List.{List}
-use mathlib.Core.Path.{◌≡◌, refl, sym, ◌∙◌, ap}
+use mathlib.Core.Path.{◌≡◌, refl, ◌∙◌}
 use Prim.Native.Nat.{ℕ, ◌≤◌}
 use native.Mathlib.Omega.{arith}
 use lib.ListN.{replicate}
 use Rattle.numbers.specs.Lists.{at}
 use Rattle.sheet.specs.declared.Check.{Check}
 use Rattle.sheet.specs.declared.Check.TheVariants.{Pass, Refused}
-use Rattle.sheet.specs.Check.{number_of, place_of}
-use Rattle.sheet.specs.Demands.{Says}
+use Rattle.sheet.specs.Check.{number_of}
 use Rattle.sheet.proofs.Accepted.{Bytes}
-use Rattle.inventory.specs.FactorAnswers.{factor_check, factor_answer}
+use Rattle.inventory.specs.FactorAnswers.{factor_answer}
 use Rattle.inventory.specs.FactorBand.{FactorBand}
 use Rattle.inventory.proofs.CallConditions.{factor-judged, factor-says, number-zero}
 use Rattle.inventory.proofs.FactorPromise.{refusal_is}
 use Rattle.factor_table.specs.declared.RowFactors.{RowFactors}
-use Rattle.factor_table.specs.RowFactors.{band_words, low_place, high_place, row_check, row_demands, row_answered, row_answer, one_of, RowFactorsCall}
+use Rattle.factor_table.specs.RowFactors.{band_words, low_place, high_place, row_check, row_answered, row_answer, one_of, RowFactorsCall}
 use Rattle.factor_table.proofs.Pairs.{check-same, band-same, band-holds}
 
 module _ (s : List ℕ) (season row : ℕ) (bytes : Bytes s) where

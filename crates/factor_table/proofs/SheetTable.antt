@@ -1,16 +1,14 @@
 -- The words of all factors: a row and a season more, and where each pair stands.
 use mathlib.Core.List.{List, ◌++◌, append-nil}
-use mathlib.Core.Path.{◌≡◌, refl, sym, ◌∙◌, ap}
+use mathlib.Core.Path.{◌≡◌, sym, ◌∙◌, ap}
 use Prim.Native.Nat.{ℕ, ◌+◌, ◌*◌, ◌≤◌, ◌<◌}
 use native.Mathlib.Omega.{arith}
-use native.Mathlib.Nat.{mul-le-mul_left}
-use lib.ListN.{length, get_or, take, drop, drop_of_length-le}
+use lib.ListN.{length, drop, drop_of_length-le}
 use lib.Seq.{sets}
 use Rattle.numbers.specs.Lists.{tab, at}
 use Rattle.blocks.specs.Blocks.{blocks}
-use Rattle.blocks.proofs.Blocks.{blocks-length, blocks_at, filled_blocks, blocks-stored, blocks-next}
+use Rattle.blocks.proofs.Blocks.{blocks-length, blocks_at, filled_blocks, blocks-stored}
 use Rattle.row_factors.specs.Seven.{seven_units}
-use Rattle.sheet.specs.declared.Check.{Check}
 use Rattle.sheet.specs.declared.Check.TheVariants.{Pass}
 use Rattle.sheet.specs.Bytes.{seasons_of, rows_of, cells_of, season_at, row_at}
 use Rattle.inventory.specs.ReportCall.{written}

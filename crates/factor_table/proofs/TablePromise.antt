@@ -11,16 +11,12 @@ use Rattle.numbers.specs.Lists.{at}
 use Rattle.sheet.specs.declared.Check.{Check}
 use Rattle.sheet.specs.declared.Check.TheVariants.{Pass}
 use Rattle.sheet.specs.Bytes.{seasons_of, rows_of}
-use Rattle.sheet.specs.Check.{refuse, ◌then◌, number_of, place_of}
+use Rattle.sheet.specs.Check.{refuse, ◌then◌, number_of}
 use Rattle.sheet.specs.Sheet.{outside, sheet_check}
-use Rattle.sheet.specs.Demands.{Says}
 use Rattle.sheet.proofs.Checks.{Judges, judges-refuse, judges-then, ltb-tests, then-pass, says}
 use Rattle.sheet.proofs.Conditions.{sheet-judged, no_zero}
-use Rattle.sheet.proofs.Stages.{go}
 use Rattle.sheet.proofs.Accepted.{Bytes}
-use Rattle.inventory.specs.declared.FactorAnswer.TheVariants as answer
-use Rattle.inventory.specs.FactorAnswers.{factor_check, factor_answer}
-use Rattle.inventory.specs.FactorBand.{FactorBand}
+use Rattle.inventory.specs.FactorAnswers.{factor_check}
 use Rattle.inventory.specs.ReportCall.{written}
 use Rattle.inventory.proofs.CallConditions.{number-zero}
 use Rattle.inventory.proofs.Written.{written-first}

@@ -1,4 +1,6 @@
 // All factors of a season and row, and of a sheet, in one call each.
+#![tactic(auto)]
+
 ghost use Rattle.factor_table.specs.RowFactors.{RowFactorsCall};
 
 use crate::bands::put_bands;
@@ -11,7 +13,7 @@ pub mod table;
 
 // What the call for the factors of a row answers: whether it passes, and the low and the high of factors 1 to 7 in micrograms, zeros where it
 // is refused.
-#[derive(Drop)]
+#[derive(Clone, Copy)]
 pub struct RowFactors {
     pub check: Check,
     pub bands: [u64; 14],

@@ -43,7 +43,8 @@ module _ {season : Season} {row : Row} (s : SeasonInRange season) (r : RowInRang
   -- each cell's mark with its temperature, its rise, and its vapour y
   module _ (counts : List ℕ) (p : 0 < total counts) {w : ℕ} (R : ℕ) (mark rise : ℕ → ℕ) (T : ℕ → Fraction) (x y : ℕ → ℕ → Fraction)
       (here : (cell : ℕ) → T cell ≈ᶠ degrees (mark_warmth season (mark cell))) (small : (cell : ℕ) → rise cell ≤ R * 2 ^ 40)
-      (known : (cell : ℕ) → WithinAll (2 ^ 40) (rise cell) w (λ n. x n cell)) (driven : (n cell : ℕ) → y n cell ≈ᶠ exact_gain season row n *ᶠ x n cell)
+      (known : (cell : ℕ) → WithinAll (2 ^ 40) (rise cell) w (λ n. x n cell))
+      (driven : (n cell : ℕ) → y n cell ≈ᶠ exact_gain season row n *ᶠ x n cell)
     where
       -- without canister: the gain times the mean rise
       pub open-within :

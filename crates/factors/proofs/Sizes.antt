@@ -58,7 +58,8 @@ short-3 x h =
     omega (arith, within-most 201 1 ((short-within x (omega arith)).at 40 n40) (E-to-3 40 n40 (exponent-≤ x h)))
 
 -- what breaks through is at most the vapour and the curve's end, from a load of at most m_sat
-break-most : (A K σ error p g rise : ℕ) → p ≤ σ → line_exponent A K σ ≤ 19 * 2 ^ 53 → break_units A K σ error p g rise ≤ 21 * 2 ^ 40 + g * rise / 2 ^ 40
+break-most : (A K σ error p g rise : ℕ) → p ≤ σ → line_exponent A K σ ≤ 19 * 2 ^ 53
+    → break_units A K σ error p g rise ≤ 21 * 2 ^ 40 + g * rise / 2 ^ 40
 unfolding break_units risen_loss
 break-most A K σ error p g rise h e =
     omega (arith, short-3 (min (line_exponent A K p + reach K g * rise / 2 ^ 23) (line_exponent A K σ)) (omega arith))
@@ -197,7 +198,8 @@ module _ {season : Season} {row : Row} (s : SeasonInRange season) (r : RowInRang
 
     -- each class
     class-most : (k : Factor) (two_wheeler : Bool)
-        → (elim two_wheeler [ true ↦ two_wheeler_units season row counts k | false ↦ car_units season row counts k ]) + 2 ^ 28 ≤ grams_limit k * 2 ^ 28
+        → (elim two_wheeler [ true ↦ two_wheeler_units season row counts k | false ↦ car_units season row counts k ]) + 2 ^ 28
+        ≤ grams_limit k * 2 ^ 28
     class-most k true = two_wheeler-most k
     class-most k false = car-most k
 

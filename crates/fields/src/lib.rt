@@ -1,4 +1,6 @@
 // The fields of a sheet where documents 01 and 02 place them. Integers are little-endian.
+#![tactic(auto)]
+
 ghost use Rattle.std.specs.Prelude.{◌≡◌, ◌+◌, ◌*◌, ◌^◌, ◌<◌, ◌≤◌, length};
 ghost use Rattle.sheet.specs.Integers.{u8_at, u16_at, u32_at};
 ghost use Rattle.sheet.specs.Versions.{version_of, has_grid, has_mileage, has_many_rows, rows_most, seasons_start};

@@ -1,9 +1,10 @@
 // What is found wrong on a sheet. The table of findings is in specs/, its laws in proofs/; the code that
 // makes them is in season_findings, row_findings and explanation.
+#![tactic(auto)]
 
 // The first thing that is wrong, or all zeros.
 #[repr(C)]
-#[derive(Drop)]
+#[derive(Clone, Copy)]
 pub struct Finding {
     // The number and the place that the sheet's check returns, and which of the reasons of this number it is, from 1.
     pub number: u64,
@@ -22,17 +23,17 @@ pub struct Finding {
 }
 
 // The parts of a line of the table. The record it is about: its place, its index and a season of the row.
-#[derive(Drop)]
+#[derive(Clone, Copy)]
 pub struct Site(pub u64, pub u64, pub u64);
 
 // A number and a reason of it.
-#[derive(Drop)]
+#[derive(Clone, Copy)]
 pub struct Rule(pub u64, pub u64);
 
 // A field: its first byte, its bytes and the number that stands there.
-#[derive(Drop)]
+#[derive(Clone, Copy)]
 pub struct Field(pub u64, pub u64, pub u64);
 
 // The least and the most of it.
-#[derive(Drop)]
+#[derive(Clone, Copy)]
 pub struct Limits(pub u64, pub u64);

@@ -51,7 +51,8 @@ module _ (s : List ℕ) (season row k : ℕ) (bytes : Bytes s) where
       )
 
   -- Each outcome of the code is the answer.
-  pub refusal_is : {number place : ℕ} → factor_check s season row k ≡ Refused number place → answer.Refused number place ≡ factor_answer s season row k
+  pub refusal_is : {number place : ℕ} → factor_check s season row k ≡ Refused number place
+      → answer.Refused number place ≡ factor_answer s season row k
   unfolding factor_answer factor_answered
   refusal_is h = rw h
 

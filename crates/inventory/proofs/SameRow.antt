@@ -38,7 +38,8 @@ module _ {s t : List ℕ} {i j : ℕ} (same : SameRow s t i j) where
     unfolding units_at
     units-same l = rw (cells-kept (kept same), season-kept (kept same) season l, row_kept same)
 
-    answered-same : (c : Check) → factor_check s season i k ≡ c → factor_answered c (units_at t season j k) ≡ factor_answered c (units_at s season i k)
+    answered-same : (c : Check) → factor_check s season i k ≡ c
+        → factor_answered c (units_at t season j k) ≡ factor_answered c (units_at s season i k)
     unfolding factor_answered
     answered-same Pass h =
         let (accepted, season-there, row-there, least, most) = factor-accepted s season i k h in

@@ -1,4 +1,6 @@
 // The two calls of the inventory: one emission factor, and the report.
+#![tactic(auto)]
+
 ghost use Rattle.std.specs.Prelude.{◌≡◌, ◌^◌, ◌<◌};
 ghost use Rattle.sheet.specs.declared.Check.TheVariants.{Pass};
 ghost use Rattle.inventory.specs.FactorCall.{FactorCall};
@@ -15,7 +17,7 @@ pub mod check;
 pub mod writing;
 
 // What the factor call answers.
-#[derive(Drop)]
+#[derive(Clone, Copy)]
 pub enum FactorAnswer {
     // A refusal with its number and place.
     Refused(u64, u64),

@@ -82,7 +82,8 @@ with-count-same s {j} {v} e f = ap (λ (k : ℕ). with_count s k v) e ∙ ap (wi
 
 -- The three outcomes of a call.
 module _ (s w : List ℕ) (call : Call) where
-  answered : {after words : List ℕ} {r : Check} → r ≡ change_check s (length w) call → after ≡ sheet_after r s call → words ≡ words_after r after call w
+  answered : {after words : List ℕ} {r : Check} → r ≡ change_check s (length w) call → after ≡ sheet_after r s call
+      → words ≡ words_after r after call w
       → ChangeCall s w call after words r
   answered e b c = record { answer-is = e; sheet-is = b; words_are = c; says = rw e (change-says s (length w) call) }
 

@@ -1,4 +1,6 @@
 // The ledger's calls: vehicles arrive at a row or depart from it, and the report is kept in step. The caller lends the sheet and the words.
+#![tactic(auto)]
+
 ghost use Rattle.ledger.specs.declared.Call.TheVariants.{Arrival, Departure};
 ghost use Rattle.ledger.specs.Ledger.{ChangeCall};
 

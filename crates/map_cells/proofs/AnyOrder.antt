@@ -1,5 +1,6 @@
 -- Cells may be added in any order, refusals included.
-use Rattle.std.proofs.Common.{◌≡◌, ℕ, ◌+◌, ◌<◌, ◌≤◌, Bool, true, false, cond, eqb, leb, sym, refl, ap, ◌∙◌, add_comm, arith, lt-ltb, eqb-true, leb-false, leb-true}
+use Rattle.std.proofs.Common.{◌≡◌, ℕ, ◌+◌, ◌<◌, ◌≤◌, Bool, true, false, cond, eqb, leb, sym, refl, ap, ◌∙◌, add_comm, arith, lt-ltb, eqb-true}
+use Rattle.std.proofs.Common.{leb-false, leb-true}
 use borrow.Author.Tests.{lt-leb, eqb-false}
 use Rattle.map_cells.specs.declared.Cell.{Cell}
 use Rattle.map_cells.specs.declared.Cell.TheVariants.{Empty, Exact, Band}

@@ -1,5 +1,6 @@
 -- A cell and its low and high: a cell made of two whole doubles, and what is known of a cell taken apart.
-use Rattle.std.proofs.Common.{◌≡◌, ℕ, zero, suc, ◌+◌, ◌*◌, ◌<◌, ◌≤◌, Bool, true, false, cond, ◌&&◌, eqb, ltb, pos, sym, refl, ap, ◌∙◌, arith, ltb-true, le-ltb, lt-ltb, ne_eqb, le-leb}
+use Rattle.std.proofs.Common.{◌≡◌, ℕ, zero, suc, ◌+◌, ◌*◌, ◌<◌, ◌≤◌, Bool, true, false, cond, ◌&&◌, eqb, ltb, pos, sym, refl, ap, ◌∙◌, arith}
+use Rattle.std.proofs.Common.{ltb-true, le-ltb, lt-ltb, ne_eqb, le-leb}
 use borrow.Author.Tests.{lt-leb}
 use lib.Ieee.{Float, fin, eq}
 use Rattle.map_cells.specs.declared.Whole.{Whole}
@@ -79,19 +80,6 @@ module _ (low high : Float) where
   pub between-band : eq high (fin false 0 (pos 0)) ≡ false → eq low high ≡ false → Band low high ≡ cell_between low high
   unfolding cell_between
   between-band e f = rw (e, f)
-
-module _ {m : Whole} (n : ℕ) (e : m ≡ Mass n) where
-  pub exact-yes : 0 < n → Between n n ≡ exact_masses m
-  unfolding exact_masses
-  exact-yes h = rw (e, lt-ltb 0 n h)
-
-  pub exact-no : n ≤ 0 → Wrong ≡ exact_masses m
-  unfolding exact_masses
-  exact-no h = rw (e, le-ltb 0 n h)
-
-pub exact-other : {m : Whole} → m ≡ Other → Wrong ≡ exact_masses m
-unfolding exact_masses
-exact-other e = rw e
 
 pub band-low : {v : Whole} (w : Whole) → v ≡ Other → Wrong ≡ band_masses v w
 unfolding band_masses

@@ -1,6 +1,6 @@
 -- What lies between a low and a high lies in their cell, and the sum of two cells holds the sums of what lies in them.
 use Rattle.std.proofs.Common.{◌≡◌, ℕ, ◌+◌, ◌*◌, ◌≤◌, Bool, true, false, cond, eqb, ltb, sym, refl, subst, arith, eqb→eq, eqb-true}
-use lib.Ieee.{Float, fin, up}
+use lib.Ieee.{Float, nan, inf, fin, up}
 use Rattle.numbers.specs.Fraction.{Fraction, ◌≤ᶠ◌, ◌≈ᶠ◌, ◌+ᶠ◌, whole}
 use Rattle.numbers.proofs.Order.{≤_trans, ≤-antisym, ≈-sym, ≈-trans, ≈→≤, ≈→≥, +-mono}
 use Rattle.map_cells.specs.declared.Whole.{Whole}
@@ -20,6 +20,8 @@ use Rattle.map_cells.proofs.GivenSum.{given-sum}
 -- a double that is n, a minus zero too, has the value n
 value-of : (x : Float) (n : ℕ) → IsWhole x n → value_of x ≈ᶠ whole n
 unfolding value_of whole
+value-of nan n h = elim h [ ]
+value-of (inf _) n h = elim h [ ]
 value-of (fin true m e) n h =
     let z : n ≡ 0 = eqb→eq n 0 h.2 in
     let v : m * up e ≡ 0 = omega (arith, rw z at h.0) in
@@ -70,7 +72,8 @@ between-whole (Exact m) low high x e h = exact (whole_of m) (λ n k. value-of m 
             let b : n ≡ high = cc in
             let v : x ≈ᶠ whole n = ≈-trans h (f n refl) in
             record { above = subst (λ (k : ℕ). whole k ≤ᶠ x) a (≈→≥ v); below = subst (λ (k : ℕ). x ≤ᶠ whole k) b (≈→≤ v) }
-between-whole (Band l u) low high x e h = band (whole_of l) (whole_of u) (λ n k. value-of l n (whole_is l n k)) (λ n k. value-of u n (whole_is u n k)) e
+between-whole (Band l u) low high x e h =
+    band (whole_of l) (whole_of u) (λ n k. value-of l n (whole_is l n k)) (λ n k. value-of u n (whole_is u n k)) e
   where
     band : (v w : Whole) → ((n : ℕ) → v ≡ Mass n → value_of l ≈ᶠ whole n) → ((n : ℕ) → w ≡ Mass n → value_of u ≈ᶠ whole n)
         → band_masses v w ≡ Between low high

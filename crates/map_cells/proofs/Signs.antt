@@ -1,6 +1,6 @@
 -- No minus zero is given back.
 use Rattle.std.proofs.Common.{◌≡◌, ℕ, ◌+◌, ◌≤◌, Bool, true, false, cond, eqb, arith}
-use lib.Ieee.{Float, fin}
+use lib.Ieee.{Float, nan, inf, fin}
 use lib.Ieee.Exact.{HasValue}
 use Rattle.map_cells.specs.declared.Cell.{Cell}
 use Rattle.map_cells.specs.declared.Cell.TheVariants.{Empty, Exact, Band}
@@ -17,6 +17,8 @@ unfolding Plus
 double-plus n h = go (double n) (double-value n h)
   where
     go : (x : Float) → HasValue x false n 1 → Plus x
+    go nan v = elim v [ ]
+    go (inf _) v = elim v [ ]
     go (fin s m e) v = v.0
 
 pub cell-no-minus : (low high : ℕ) → low ≤ high → high ≤ mass_limit → NoMinus (cell_of low high)

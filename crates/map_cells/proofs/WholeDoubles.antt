@@ -1,10 +1,13 @@
 -- Doubles that are whole numbers: their sum, their comparison, and how a double handed in is recognised as one.
-use Rattle.std.proofs.Common.{◌≡◌, ℕ, zero, suc, ◌+◌, ◌-◌, ◌*◌, ◌/◌, ◌%◌, ◌^◌, ◌<◌, ◌≤◌, Bool, true, false, cond, not, ◌&&◌, ◌||◌, T, eqb, leb, ℤ, pos, sym, refl, ap, ◌∙◌, subst, true≢false, mul-le-mul_right, zero-lt-suc, mul-pos, mul-div_cancel, arith, le→leb, eqb→eq, leb→le, lt-ltb, eq-eqb, ne_eqb, eqb-true}
+use Rattle.std.proofs.Common.{◌≡◌, ℕ, zero, suc, ◌+◌, ◌-◌, ◌*◌, ◌/◌, ◌%◌, ◌^◌, ◌<◌, ◌≤◌, Bool, true, false, cond, not, ◌&&◌, ◌||◌, T, eqb, leb, ℤ}
+use Rattle.std.proofs.Common.{pos, sym, refl, ap, ◌∙◌, subst, true≢false, mul-le-mul_right, zero-lt-suc, mul-pos, mul-div_cancel, arith, le→leb}
+use Rattle.std.proofs.Common.{eqb→eq, leb→le, lt-ltb, eq-eqb, ne_eqb, eqb-true}
 use mathlib.Core.Bool.{beq, false≢true}
 use native.Mathlib.Nat.{eq_of_mul-eq-mul_right, zero-div}
-use borrow.Author.Tests.{eqb-false, not-false}
+use borrow.Author.Tests.{eqb-false}
 use lib.Dec.{eqb_refl}
-use lib.Ieee.{Float, nan, inf, fin, binary64, prec, low, hid, top, up, down, size, round, sum, add, of_int, to_unsigned, to_bits, in_float, is_nan, lt, eq}
+use lib.Ieee.{Float, nan, inf, fin, binary64, prec, low, hid, top, up, down, size, round, sum, add, of_int, to_unsigned, to_bits, in_float, is_nan}
+use lib.Ieee.{lt, eq}
 use lib.Ieee.Fits.{down_pos, and_l, and_r}
 use lib.Ieee.Exact.{HasValue}
 use lib.Ieee.Back.{round_whole}
@@ -25,6 +28,10 @@ double-value n h = round_whole binary64 false n h
 -- the sum of two doubles with whole values, as a fraction
 sum-of-values : (x y : Float) (m n : ℕ) → HasValue x false m 1 → HasValue y false n 1 → add binary64 x y ≡ round binary64 false (m + n) 1
 unfolding add sum
+sum-of-values nan y m n h k = elim h [ ]
+sum-of-values (inf _) y m n h k = elim h [ ]
+sum-of-values (fin false a e) nan m n h k = elim k [ ]
+sum-of-values (fin false a e) (inf _) m n h k = elim k [ ]
 sum-of-values (fin true a e) y m n h k = absurd (true≢false h.0)
 sum-of-values (fin false a e) (fin true b d) m n h k = absurd (true≢false k.0)
 sum-of-values (fin false a e) (fin false b d) m n h k =
@@ -56,6 +63,8 @@ quotient_is v n d h e = ap (λ (x : ℕ). x / d) e ∙ mul-div_cancel n h
 
 mass-of : (x : Float) (n : ℕ) → IsWhole x n → whole_of x ≡ Mass n
 unfolding whole_of
+mass-of nan n h = elim h [ ]
+mass-of (inf _) n h = elim h [ ]
 mass-of (fin s m e) n h =
     let q : m * up e / down e ≡ n = quotient_is (m * up e) n (down e) (down_pos e) h.0 in
     rw q (tests (eqb (m * up e) (n * down e)) (leb n mass_limit) (not s || eqb n 0)
@@ -91,6 +100,8 @@ either false n t e = absurd (false≢true e)
 -- it is above −1
 above_minus_one : (x : Float) (n : ℕ) → IsWhole x n → lt (fin true 1 (pos 0)) x ≡ true
 unfolding lt
+above_minus_one nan n h = elim h [ ]
+above_minus_one (inf _) n h = elim h [ ]
 above_minus_one (fin true m e) n h =
     let z : n ≡ 0 = either true n h.2 refl in
     let v : m * up e * 1 < 1 * 1 * down e = omega (arith, rw z at h.0, down_pos e) in
@@ -100,6 +111,8 @@ above_minus_one (fin false m e) n h = lt-ltb 0 (1 * 1 * down e + m * up e * 1) (
 -- and below 2⁶⁴
 below_top : (x : Float) (n : ℕ) → IsWhole x n → lt x (fin false 1 (pos 64)) ≡ true
 unfolding lt
+below_top nan n h = elim h [ ]
+below_top (inf _) n h = elim h [ ]
 below_top (fin true m e) n h = lt-ltb 0 (m * up e * 1 + 1 * 2 ^ 64 * down e) (omega (arith, down_pos e))
 below_top (fin false m e) n h =
     let d : ℕ = down e in
@@ -110,6 +123,8 @@ below_top (fin false m e) n h =
 -- cut to a whole number, it is n
 cut-is : (x : Float) (n : ℕ) → IsWhole x n → to_unsigned 64 x ≡ n
 unfolding to_unsigned
+cut-is nan n h = elim h [ ]
+cut-is (inf _) n h = elim h [ ]
 cut-is (fin true m e) n h = sym (either true n h.2 refl)
 cut-is (fin false m e) n h =
     let q : m * up e / down e ≡ n = quotient_is (m * up e) n (down e) (down_pos e) h.0 in
@@ -119,6 +134,8 @@ cut-is (fin false m e) n h =
 pub same-value : (y : Float) (n : ℕ) (s : Bool) (m : ℕ) (e : ℤ) → HasValue y false n 1
     → eq y (fin s m e) ≡ (eqb (m * up e) (n * down e) && (not s || eqb n 0))
 unfolding eq
+same-value nan n s m e h = elim h [ ]
+same-value (inf _) n s m e h = elim h [ ]
 same-value (fin true a g) n s m e h = absurd (true≢false h.0)
 same-value (fin false a g) n s m e h =
     let r : ℕ = a * up g in
@@ -151,6 +168,8 @@ same-value (fin false a g) n s m e h =
 
 -- the double of n equals a double that is n
 whole-eq : (x : Float) (n : ℕ) → IsWhole x n → eq (double n) x ≡ true
+whole-eq nan n h = elim h [ ]
+whole-eq (inf _) n h = elim h [ ]
 whole-eq (fin s m e) n h =
     same-value (double n) n s m e (double-value n h.1) ∙
     go (eqb (m * up e) (n * down e)) (not s || eqb n 0)
@@ -169,6 +188,8 @@ no-eq-nan (fin s m e) t = false≢true t
 
 no-eq-inf : (y : Float) (s : Bool) (n : ℕ) → HasValue y false n 1 → eq y (inf s) ≡ true → ⊥
 unfolding eq
+no-eq-inf nan s n v t = elim v [ ]
+no-eq-inf (inf _) s n v t = elim v [ ]
 no-eq-inf (fin u m e) s n v t = false≢true t
 
 -- and no other
@@ -194,6 +215,8 @@ pub none_above : (x : Float) → lt x (fin false 1 (pos 64)) ≡ false → whole
 none_above x t = none_of x (λ n h. false≢true (sym t ∙ below_top x n h))
 
 limit-of : (x : Float) (n : ℕ) → IsWhole x n → n ≤ mass_limit
+limit-of nan n h = elim h [ ]
+limit-of (inf _) n h = elim h [ ]
 limit-of (fin s m e) n h = h.1
 
 pub none-large : (x : Float) (k : ℕ) → k ≡ to_unsigned 64 x → mass_limit < k → whole_of x ≡ Other
@@ -215,9 +238,11 @@ unfolding size
 bits-of-zero true n e = rw e refl
 bits-of-zero false n e = rw e refl
 
-zero_bits : (x : Float) → IsWhole x 0 → zero_bits x ≡ true
+zero_bits_lem : (x : Float) → IsWhole x 0 → zero_bits x ≡ true
 unfolding zero_bits to_bits
-zero_bits (fin s m e) h =
+zero_bits_lem nan h = elim h [ ]
+zero_bits_lem (inf _) h = elim h [ ]
+zero_bits_lem (fin s m e) h =
     let none : m * up e ≡ 0 = omega (arith, h.0) in
     let small : m * up e * 2 ^ low binary64 / down e ≡ 0 = rw none (zero-div (down e)) in
     rw (bits-of-zero s _ small) (either-zero s)
@@ -229,14 +254,11 @@ zero_bits (fin s m e) h =
 -- what is cut to 0 and has other bits is a fraction
 pub none-small : (x : Float) (k : ℕ) → k ≡ to_unsigned 64 x → k ≡ 0 → zero_bits x ≡ false → whole_of x ≡ Other
 none-small x k e z t =
-    none_of x (λ n h. let same : n ≡ 0 = omega (arith, cut-is x n h) in false≢true (sym t ∙ zero_bits x (rw same at h)))
+    none_of x (λ n h. let same : n ≡ 0 = omega (arith, cut-is x n h) in false≢true (sym t ∙ zero_bits_lem x (rw same at h)))
 
--- where a failed test is negated, the double passes
-pub passes-above : (x : Float) → not (lt (fin true 1 (pos 0)) x) ≡ false → T (lt (fin true 1 (pos 0)) x)
-passes-above x e = subst T (sym (not-false (lt (fin true 1 (pos 0)) x) e)) tt
-
-pub passes-below : (x : Float) → not (lt x (fin false 1 (pos 64))) ≡ false → T (lt x (fin false 1 (pos 64)))
-passes-below x e = subst T (sym (not-false (lt x (fin false 1 (pos 64))) e)) tt
+-- what passes a test
+pub passes : {b : Bool} → b ≡ true → T b
+passes e = subst T (sym e) tt
 
 -- a double that the definition takes for n is n
 pub whole_is : (x : Float) (n : ℕ) → whole_of x ≡ Mass n → IsWhole x n
@@ -266,6 +288,8 @@ pub double-whole : (n : ℕ) → n ≤ mass_limit → IsWhole (double n) n
 double-whole n h = go (double n) (double-value n h)
   where
     go : (x : Float) → HasValue x false n 1 → IsWhole x n
+    go nan v = elim v [ ]
+    go (inf _) v = elim v [ ]
     go (fin true m e) v = absurd (true≢false v.0)
     go (fin false m e) v = (omega (arith, v.1), h, tt)
 
@@ -288,6 +312,8 @@ double-eq m n h k = go (double n) (double-value n k)
     strip false c e = e
 
     go : (y : Float) → HasValue y false n 1 → eq (double m) y ≡ eqb m n
+    go nan v = elim v [ ]
+    go (inf _) v = elim v [ ]
     go (fin true b d) v = absurd (true≢false v.0)
     go (fin false b d) v =
         same-value (double m) m false b d (double-value m h) ∙

@@ -13,7 +13,8 @@ use Rattle.map_cells.specs.Cells.{cell_of, masses_of}
 unfoldable pub masses_sum : Masses → Masses → CellAnswer
 masses_sum Wrong b = Refused 27 0
 masses_sum (Between low high) Wrong = Refused 27 0
-masses_sum (Between low high) (Between low' high') = cond (nat_le (high + high') mass_limit) (Sum (cell_of (low + low') (high + high'))) (Refused 27 0)
+masses_sum (Between low high) (Between low' high') =
+    cond (nat_le (high + high') mass_limit) (Sum (cell_of (low + low') (high + high'))) (Refused 27 0)
 
 -- the sum of two cells handed in
 unfoldable pub cell_sum : Cell → Cell → CellAnswer

@@ -22,6 +22,7 @@ pub fn cell_between(low: f64, high: f64) -> Cell
 }
 
 // One mass: it is above 0.
+#[tactic(auto, unfolding(crate::specs::Cells::exact_masses))]
 fn exact_masses(m: Whole) -> Masses
     ensures { result ≡ exact_masses m }
 {

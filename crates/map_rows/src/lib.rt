@@ -1,4 +1,6 @@
 // A row's urban, rural and highway cells, from its six words of the report and where its vehicles drive.
+#![tactic(auto)]
+
 ghost use Rattle.std.specs.Prelude.{◌≡◌};
 ghost use Rattle.map_rows.specs.Promise.{RowCellsPromise};
 ghost use Rattle.map_rows.specs.Rows.{row_cells_answer};
@@ -16,14 +18,14 @@ mod split;
 mod sums;
 
 // The low and the high of one road kind, as doubles.
-#[derive(Drop)]
+#[derive(Clone, Copy)]
 pub struct Limits {
     pub low: f64,
     pub high: f64,
 }
 
 // The lows and highs of the three road kinds of one row.
-#[derive(Drop)]
+#[derive(Clone, Copy)]
 pub struct RoadLimits {
     pub urban: Limits,
     pub rural: Limits,
@@ -31,7 +33,7 @@ pub struct RoadLimits {
 }
 
 // The three cells of one row.
-#[derive(Drop)]
+#[derive(Clone, Copy)]
 pub struct RowCells {
     pub urban: Cell,
     pub rural: Cell,
@@ -39,7 +41,7 @@ pub struct RowCells {
 }
 
 // What the call answers: three cells, or the number and the place of a refusal, which holds no cell.
-#[derive(Drop)]
+#[derive(Clone, Copy)]
 pub enum RowCellsAnswer {
     Cells(RowCells),
     Refused(u64, u64),

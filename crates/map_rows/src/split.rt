@@ -11,7 +11,7 @@ use map_shares::Part;
 const DIGIT: u64 = 262144;
 
 // A quotient and its remainder.
-#[derive(Drop)]
+#[derive(Clone, Copy)]
 pub struct Quotient {
     pub whole: u64,
     pub rest: u64,

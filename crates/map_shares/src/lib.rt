@@ -1,8 +1,9 @@
 // How a row's masses are shared among urban, rural and highway roads, after section 4.7 of the guidebook: definitions and laws.
+#![tactic(auto)]
 
 // The low and the high of one mechanism, in milligrams.
 #[repr(C)]
-#[derive(Drop)]
+#[derive(Clone, Copy)]
 pub struct Span {
     pub low: u64,
     pub high: u64,
@@ -10,7 +11,7 @@ pub struct Span {
 
 // A row's six words of the report.
 #[repr(C)]
-#[derive(Drop)]
+#[derive(Clone, Copy)]
 pub struct Words {
     pub diurnal: Span,
     pub soak: Span,
@@ -19,7 +20,7 @@ pub struct Words {
 
 // How far a row's vehicles drive on each road kind; only the proportions count, so any unit will do.
 #[repr(C)]
-#[derive(Drop)]
+#[derive(Clone, Copy)]
 pub struct Mileages {
     pub urban: u64,
     pub rural: u64,
@@ -28,7 +29,7 @@ pub struct Mileages {
 
 // How fast they drive there. The urban speed plays no part.
 #[repr(C)]
-#[derive(Drop)]
+#[derive(Clone, Copy)]
 pub struct Speeds {
     pub rural: u64,
     pub highway: u64,
@@ -36,7 +37,7 @@ pub struct Speeds {
 
 // Whether a row's owners live in town, and where its vehicles drive.
 #[repr(C)]
-#[derive(Drop)]
+#[derive(Clone, Copy)]
 pub struct Travel {
     pub town: bool,
     pub mileage: Mileages,
@@ -44,14 +45,14 @@ pub struct Travel {
 }
 
 // A fraction: this many parts out of all.
-#[derive(Drop)]
+#[derive(Clone, Copy)]
 pub struct Part {
     pub part: u64,
     pub all: u64,
 }
 
 // What part of each mechanism's mass falls on one road kind.
-#[derive(Drop)]
+#[derive(Clone, Copy)]
 pub struct Road {
     pub diurnal: Part,
     pub soak: Part,
@@ -59,7 +60,7 @@ pub struct Road {
 }
 
 // A road kind's shares of the three mechanisms, in milligrams.
-#[derive(Drop)]
+#[derive(Clone, Copy)]
 pub struct Shares {
     pub diurnal: u64,
     pub soak: u64,
@@ -67,14 +68,14 @@ pub struct Shares {
 }
 
 // The shares of the lows, cut down, and those of the highs, cut up.
-#[derive(Drop)]
+#[derive(Clone, Copy)]
 pub struct RoadShares {
     pub low: Shares,
     pub high: Shares,
 }
 
 // Those of the three road kinds of one row.
-#[derive(Drop)]
+#[derive(Clone, Copy)]
 pub struct RowShares {
     pub urban: RoadShares,
     pub rural: RoadShares,

@@ -1,11 +1,13 @@
 // A filed mass marked against a band that is proved to hold the exact mass.
+#![tactic(auto)]
+
 ghost use Rattle.std.specs.Prelude.{◌≡◌, ◌*◌, ◌-◌, ◌^◌, ◌≤◌};
 ghost use Rattle.marking.specs.Figure.{exponent};
 ghost use Rattle.marking.specs.Verdicts.{compared, verdict};
 ghost use Rattle.marking.specs.Meaning.{Marked};
 
 // The unit that a mass is filed in.
-#[derive(Drop)]
+#[derive(Clone, Copy)]
 pub enum Unit {
     Milligram,
     Gram,
@@ -14,7 +16,7 @@ pub enum Unit {
 }
 
 // A filed figure: "2.834 t" has digits 2834, 3 places and the unit t.
-#[derive(Drop)]
+#[derive(Clone, Copy)]
 pub struct Filed {
     pub digits: u64,
     pub places: u64,
@@ -22,7 +24,7 @@ pub struct Filed {
 }
 
 // What a band says of a filed figure.
-#[derive(Drop)]
+#[derive(Clone, Copy)]
 pub enum Verdict {
     // Every mass of the band rounds to the figure, both ends of the rounding included.
     Agrees,

@@ -173,7 +173,8 @@ module _ {θ : ℕ → ℕ} {up : ℕ → Bool} (warm : (i : ℕ) → θ i ≤ 8
       record {
         alone = rw (step_is hour d l, (runs-down up hour d e).1) same;
         started =
-            rw (step_is hour d l, (runs-down up hour d e).0, more (runs false up hour d) heat_error) (around-+ same (value-within n hour (suc d) n40));
+            rw (step_is hour d l, (runs-down up hour d e).0, more (runs false up hour d) heat_error)
+            (around-+ same (value-within n hour (suc d) n40));
       }
 
   known : (n hour d : ℕ) → 40 ≤ n → d ≤ 48 → Known n hour d

@@ -1,4 +1,6 @@
 // A season at its 48 marks: temperatures, exponentials and permeation as whole numbers.
+#![tactic(auto)]
+
 ghost use Rattle.std.specs.Prelude.{◌≡◌, ℕ, ◌+◌, ◌*◌, ◌-◌, ◌/◌, ◌%◌, ◌^◌, ◌<◌, ◌≤◌};
 ghost use Rattle.bounds.specs.Exponential.{entries};
 ghost use Rattle.numbers.specs.Lists.{tab, at, AllAtMost};
@@ -18,7 +20,7 @@ use exact::Season;
 use fields::warmth;
 
 // A season at its marks 0 to 47.
-#[derive(Drop)]
+#[derive(Clone, Copy)]
 pub struct Marks {
     // The temperature T, in units of 10^-10 °C above -30 °C.
     pub temperature: [u64; 48],
@@ -27,7 +29,7 @@ pub struct Marks {
 }
 
 // What is computed from the temperatures at the marks 0 to 47.
-#[derive(Drop)]
+#[derive(Clone, Copy)]
 pub struct MarkValues {
     pub marks: Marks,
     // The rise of E(0.0716 T) to the next mark, in units of 2^-40.

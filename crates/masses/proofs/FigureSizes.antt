@@ -75,7 +75,8 @@ micrograms-in-range up {units} h = record { diurnal-most = omega (arith, rounded
     go (suc (suc (suc (suc (suc (suc k)))))) = omega arith
 
 -- Hot and warm by their share, then with injection, then for each trip of the day.
-module _ {row : Row} (used : UseInRange row) {hot warm injection : ℕ} (h : hot ≤ trip_limit) (w : warm ≤ trip_limit) (i : injection ≤ trip_limit) where
+module _ {row : Row} (used : UseInRange row) {hot warm injection : ℕ} (h : hot ≤ trip_limit) (w : warm ≤ trip_limit)
+    (i : injection ≤ trip_limit) where
   pub mixed-fits : row.hot * hot + (100 - row.hot) * warm ≤ 100 * trip_limit
   mixed-fits = mixed-most row.hot (100 - row.hot) trip_limit (omega (arith, used.hot-most)) h w
 

@@ -1,17 +1,16 @@
 -- Cells with a count of 0 have no rise in the list: the list of these rises is a list of the season, since such a cell gives nothing to any sum.
 -- Assumes nothing.
-use mathlib.Core.Bool.{false, cond}
+use mathlib.Core.Bool.{false}
 use mathlib.Core.List.{List}
-use mathlib.Core.Path.{◌≡◌, refl, sym, ◌∙◌}
-use Prim.Native.Nat.{ℕ, ◌+◌, ◌*◌, ◌≤◌, ◌<◌, zero-le}
+use mathlib.Core.Path.{◌≡◌, refl, ◌∙◌}
+use Prim.Native.Nat.{ℕ, ◌*◌, ◌≤◌, ◌<◌, zero-le}
 use native.Mathlib.Decide.{ℕ_discrete}
 use native.Mathlib.Omega.{arith}
 use borrow.Author.Tests.{eq-eqb, ne_eqb}
-use lib.Dec.{eqb}
-use Rattle.numbers.specs.Lists.{tab, at, sum, AllAtMost}
+use Rattle.numbers.specs.Lists.{tab, at, AllAtMost}
 use Rattle.numbers.proofs.Lists.{sum-ext, get_d-tab, tab-at-most}
 use Rattle.parking.specs.Grid.{apart_of}
-use Rattle.parking.specs.SeasonList.{by_cell, counted_rise, ListReady}
+use Rattle.parking.specs.SeasonList.{counted_rise, ListReady}
 
 -- the rises of all cells as the list has them
 unfoldable pub counted_rises : List ℕ → List ℕ → List ℕ

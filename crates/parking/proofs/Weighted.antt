@@ -51,7 +51,8 @@ module _ {grid : List ℕ} (r : GridReady grid) (value : ℕ → ℕ) where
   pub cell-fits : ((cell : ℕ) → value cell ≤ 2 ^ 54) → sum (λ (cell : ℕ). at grid cell * (value cell / 2 ^ 12)) 576 < 2 ^ 64
   cell-fits h = fits by-cell h
 
-  pub cell-mean : {x : ℕ} → x ≡ sum (λ (cell : ℕ). at grid cell * (value cell / 2 ^ 12)) 576 → x / at grid sum_place ≡ mean_units (cells_in grid) value
+  pub cell-mean : {x : ℕ} → x ≡ sum (λ (cell : ℕ). at grid cell * (value cell / 2 ^ 12)) 576
+      → x / at grid sum_place ≡ mean_units (cells_in grid) value
   cell-mean e = mean-is (e ∙ by-cell)
 
 module _ {grid : List ℕ} (r : GridReady grid) (ends : Bool) (value : ℕ → ℕ) where

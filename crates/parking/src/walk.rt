@@ -18,7 +18,7 @@ const DURATIONS: usize = 24;
 const RISE_ERROR: u64 = 582;
 
 // What is carried along in an end hour: what passed since the mark that was reached, and in how many steps it was added up.
-#[derive(Drop)]
+#[derive(Clone, Copy)]
 pub struct Carried {
     pub passed: u64,
     pub steps: u64,
@@ -55,7 +55,7 @@ fn column(values: &[u64; 48], hour: usize, out: &mut [u64]) -> u64
 }
 
 // What passed in every cell's parking, of values by mark, and how many steps that took.
-#[derive(Drop)]
+#[derive(Clone, Copy)]
 pub struct Walked {
     pub passed: [u64; 576],
     pub steps: u64,

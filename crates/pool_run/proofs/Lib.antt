@@ -1,1 +1,2 @@
+mod Printing
 mod Refusing

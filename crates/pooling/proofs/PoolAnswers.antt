@@ -69,11 +69,13 @@ module _ (a b : List ℕ) (room : ℕ) {number place : ℕ} where
   unfolding pool_answer pool_answered
   second_is p q = rw (p, q)
 
-  pub pooled-is : region_check a ≡ Pass → region_check b ≡ Pass → pair_check a b room ≡ Refused number place → Pooled number place ≡ pool_answer a b room
+  pub pooled-is : region_check a ≡ Pass → region_check b ≡ Pass → pair_check a b room ≡ Refused number place
+      → Pooled number place ≡ pool_answer a b room
   unfolding pool_answer pool_answered
   pooled-is p q r = rw (p, q, r)
 
-pub accepted-is : (a b : List ℕ) (room : ℕ) → region_check a ≡ Pass → region_check b ≡ Pass → pair_check a b room ≡ Pass → Accepted ≡ pool_answer a b room
+pub accepted-is : (a b : List ℕ) (room : ℕ) → region_check a ≡ Pass → region_check b ≡ Pass → pair_check a b room ≡ Pass
+    → Accepted ≡ pool_answer a b room
 unfolding pool_answer pool_answered
 accepted-is a b room p q r = rw (p, q, r)
 

@@ -91,7 +91,8 @@ abbrev exceeds : List ℕ → ℕ → Bool
 exceeds s i = has_many_rows s && ltb fleet_limit (vehicles_before s i + (row_at s i).vehicles)
 
 -- the checks of a row that t has of s, of the same version and with the same parking and seasons
-row-with : {s t : List ℕ} (i j : ℕ) → SheetKept s t → version_of t ≡ version_of s → Same t s (row_place t j) (row_place s i) 24 → row_at t j ≡ row_at s i
+row-with : {s t : List ℕ} (i j : ℕ) → SheetKept s t → version_of t ≡ version_of s → Same t s (row_place t j) (row_place s i) 24
+    → row_at t j ≡ row_at s i
     → row_check t j ≡ row_with s i (exceeds t j) (row_place t j)
 unfolding row_check row_with mileage_wrong
 row-with {s} {t} i j kept version bytes row =

@@ -30,7 +30,8 @@ pool-reply {a} {b} {old} e w =
     record { answer-is = e; check-is = check; bytes-are = w ∙ rw check; says = rw e (answer-says a b (length old)) }
 
 -- what is known where the answer is no refusal
-pub answer-passes : {a b : List ℕ} {room : ℕ} {r : PoolAnswer} → r ≡ pool_answer a b room → check_of r ≡ Pass → Regions a b × (length (pool a b) ≤ room)
+pub answer-passes : {a b : List ℕ} {room : ℕ} {r : PoolAnswer} → r ≡ pool_answer a b room → check_of r ≡ Pass → Regions a b
+    × (length (pool a b) ≤ room)
 answer-passes {a} {b} {room} e h =
     let pass : pool_check a b room ≡ Pass = sym (ap check_of e ∙ answer-check a b room) ∙ h in
     let (first, second) = regions a b room pass in

@@ -1,8 +1,9 @@
 // What pooling two sheets answers. The pooled sheet, where pooling stops and what the pooled report is are defined in specs/; the code is in
 // the crate pooling_calls.
+#![tactic(auto)]
 
 // Both sheets and their pool are accepted, or one of them is refused.
-#[derive(Drop)]
+#[derive(Clone, Copy)]
 pub enum PoolAnswer {
     // No number applies: the pooled sheet is written.
     Accepted,

@@ -1,4 +1,6 @@
 // Pooling two sheets: the first's rows, then the second's, under the parking and the seasons of both.
+#![tactic(auto)]
+
 ghost use Rattle.std.specs.Prelude.{◌≡◌, ◌≤◌, ◌<◌, length};
 ghost use Rattle.sheet.specs.declared.Check.TheVariants.{Pass};
 ghost use Rattle.sheet.specs.Integers.{u8_at};

@@ -1,2 +1,5 @@
+mod Fronts
+pub mod Overlong
+pub mod Printing
 mod Taking
 pub mod Tested

@@ -1,3 +1,4 @@
 pub mod Ends
+pub mod Printed
 pub mod Reads
 pub mod Writes

@@ -1,11 +1,14 @@
 -- What a program may answer: the sheet that a read put into its buffer, all of it. Definitions only.
 --
--- What the C library's read puts into a buffer no contract can say. So `Taken` and `Unread` are shut: outside this crate they are had from a
--- function that reads this source, and from nothing else. That argument i is the one that is opened for source i is read in `read_argument`,
--- and shown by runs of `pool`.
-use Rattle.std.specs.Prelude.{true, false, List, ◌≡◌, ℕ}
-use Rattle.io.specs.Counts.{IsPrefixLen}
+-- What the system's read puts into a buffer no contract can say. So `Taken` and `Unread` are shut: outside this crate they are had from a
+-- function that reads this source, and from nothing else. Of a source whose bytes are known `Printed` says more. That argument i is the one
+-- that is opened for source i is read in `read_argument`, and shown by runs of `pool`.
+use Rattle.std.specs.Prelude.{true, false, List, ◌≡◌, ℕ, ◌≤◌, length, take}
 use Rattle.program.specs.declared.Input.{Input}
+
+-- the first n bytes of a list are n bytes of it
+abbrev pub IsPrefixLen : ℕ → List ℕ → Type 0
+IsPrefixLen n xs = (n ≤ length xs) × (n ≡ length (take n xs))
 
 -- The first n bytes of a buffer are what a read of source i put there, up to the end of the input or of the buffer. Source i is the file that
 -- argument i names; standard input, in place of argument 1, is source 1. All that is known of n is that it counts bytes of the buffer.

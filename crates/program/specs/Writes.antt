@@ -1,10 +1,11 @@
 -- That a program answers: a text that was handed over to be written. Definitions only.
 --
--- What the C library's write does with a text no contract can say. So `Written` and `Unwritten` are shut: outside this crate they are had from
+-- What the system's write does with a text no contract can say. So `Written` and `Unwritten` are shut: outside this crate they are had from
 -- a function that writes this text to this stream, and from nothing else. A program's contract asks for one of them at its end, so that a
--- program which hands over nothing, or another text, is not proved. That it does so once no contract can say: a fact is not used up, it
--- speaks of values, so that what was written twice is also written. At most one answer is a rule on the source (`python3 -m tools.check
--- calls`), and that the bytes arrive is shown by runs (`tools.check samples`).
+-- program which hands over nothing, or another text, is not proved. That it does so once these facts cannot say: a fact is not used up, it
+-- speaks of values, so that what was written twice is also written. Of a writer whose bytes are known `Printed` says it. At most one answer
+-- is a rule on the source too (`python3 -m tools.check calls`), as is which writer `main` hands over for which stream, and that the bytes
+-- arrive is shown by runs (`tools.check samples`).
 use Rattle.std.specs.Prelude.{Bool, true, false, List, ◌≡◌, ℕ}
 
 -- where a program writes

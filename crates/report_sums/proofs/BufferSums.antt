@@ -1,6 +1,7 @@
 -- The sums that are taken of a buffer: stores after the rows do not change them, and where the rows' words are the report's, so are the sums.
 -- Assumes nothing.
-use Rattle.std.proofs.Common.{◌≡◌, ℕ, zero, suc, ◌+◌, ◌*◌, ◌/◌, ◌%◌, ◌^◌, ◌<◌, ◌≤◌, Bool, List, length, get_or, take, sym, refl, ap, ◌∙◌, mod-eq_of_lt, add-one, arith, length-append, length-drop}
+use Rattle.std.proofs.Common.{◌≡◌, ℕ, zero, suc, ◌+◌, ◌*◌, ◌/◌, ◌%◌, ◌^◌, ◌<◌, ◌≤◌, Bool, List, length, get_or, take, sym, refl, ap, ◌∙◌}
+use Rattle.std.proofs.Common.{mod-eq_of_lt, add-one, arith, length-append, length-drop}
 use lib.Seq.{sets}
 use Rattle.numbers.specs.Lists.{tab, at}
 use Rattle.numbers.proofs.Lists.{tab-length, get_d-tab}
@@ -37,7 +38,8 @@ sum_kept s words vs p f (suc n) j h l =
     cc (sum_kept s words vs p f n j (omega arith) l, sets-before words p vs (6 * n + j) (omega arith))
 
 -- Where the rows' words are the report's.
-module _ {s : List ℕ} (bytes : Bytes s) (a : Accepted s) (words : List ℕ) (rows : take (6 * rows_of s) words ≡ tab (report_word s) (6 * rows_of s)) where
+module _ {s : List ℕ} (bytes : Bytes s) (a : Accepted s) (words : List ℕ)
+    (rows : take (6 * rows_of s) words ≡ tab (report_word s) (6 * rows_of s)) where
   sum_is : (f : ℕ → Bool) (n j : ℕ) → n ≤ rows_of s → j < 6 → buffer_sum s words f n j ≡ subtotal s f n j
   unfolding buffer_sum subtotal
   sum_is f zero j h l = refl

@@ -20,7 +20,8 @@ module _ (s words : List ℕ) (first : take (6 * rows_of s + 24) words ≡ tab (
       first-at (report_word s) words _ k first (omega arith) ∙ ap (report_word s) place ∙ category-word-at s 3 j (omega arith) h
 
   -- "low and high of the grand total, each the sum of three"
-  pub three-words : (j k : ℕ) → j < 2 → k ≡ 6 * rows_of s + 18 + j → get_or words k 0 + get_or words (k + 2) 0 + get_or words (k + 4) 0 ≡ grand_total s j
+  pub three-words : (j k : ℕ) → j < 2 → k ≡ 6 * rows_of s + 18 + j
+      → get_or words k 0 + get_or words (k + 2) 0 + get_or words (k + 4) 0 ≡ grand_total s j
   unfolding grand_total
   three-words j k h e =
       omega (

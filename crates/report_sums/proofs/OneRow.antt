@@ -1,6 +1,7 @@
 -- One row's year and its six words, apart from the others, and the report around them.
 -- Assumes nothing.
-use Rattle.std.proofs.Common.{◌≡◌, ℕ, ◌+◌, ◌-◌, ◌*◌, ◌^◌, ◌<◌, ◌≤◌, List, [], ◌∷◌, ◌++◌, length, get_or, take, drop, sym, refl, ap, ◌∙◌, append-nil, arith, drop_of_length-le, length-take-le, get_or-take, ext_get_or}
+use Rattle.std.proofs.Common.{◌≡◌, ℕ, ◌+◌, ◌-◌, ◌*◌, ◌^◌, ◌<◌, ◌≤◌, List, [], ◌∷◌, ◌++◌, length, get_or, take, drop, sym, refl, ap, ◌∙◌, append-nil}
+use Rattle.std.proofs.Common.{arith, drop_of_length-le, length-take-le, get_or-take, ext_get_or}
 use native.Mathlib.Decide.{dec_le}
 use lib.Seq.{sets, length-sets, sets-eq}
 use Rattle.numbers.specs.Lists.{tab, at}

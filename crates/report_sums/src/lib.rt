@@ -1,4 +1,6 @@
 // The words of a report after those of the rows: sums by category, and the grand total.
+#![tactic(auto)]
+
 ghost use Rattle.std.specs.Prelude.{◌≡◌, ◌+◌, ◌*◌, ◌%◌, ◌^◌, ◌<◌, ◌≤◌, length};
 ghost use Rattle.sheet.specs.declared.Check.TheVariants.{Pass};
 ghost use Rattle.sheet.specs.Bytes.{rows_of, row_place, row_at};

@@ -6,7 +6,6 @@ use mathlib.Core.Path.{◌≡◌, refl, sym, ap, ap₂, ◌∙◌}
 use Prim.Native.Nat.{ℕ, suc, zero, ◌+◌, ◌*◌, ◌≤◌, ◌<◌}
 use native.Mathlib.Omega.{arith}
 use Rattle.numbers.specs.Lists.{at, sum}
-use Rattle.exact.specs.Masses.{diurnal, soak, running}
 use Rattle.sheet.specs.Bytes.{rows_of, cells_of, season_list, row_at}
 use Rattle.sheet.proofs.Accepted.{Bytes, Accepted}
 use Rattle.masses.specs.AnyCounts.{Every, InRange}
@@ -113,7 +112,8 @@ module _ {s words : List ℕ} (bytes : Bytes s) (a : Accepted s) (h : Holds s wo
   whole_word j l = h.word (6 * (rows_of s + 3) + j) (omega arith) ∙ category-word-at s 3 j (omega arith) l
 
   -- the grand total
-  grand-word : (j : ℕ) → j < 2 → category_word s words 4 j ≡ category_word s words 3 j + category_word s words 3 (j + 2) + category_word s words 3 (j + 4)
+  grand-word : (j : ℕ) → j < 2 → category_word s words 4 j
+      ≡ category_word s words 3 j + category_word s words 3 (j + 2) + category_word s words 3 (j + 4)
   unfolding grand_total
   grand-word j l =
       let place : 6 * (rows_of s + 4) + j ≡ 6 * rows_of s + 24 + j = omega arith in

@@ -40,7 +40,7 @@ use Rattle.parking.proofs.Passed.{passed_in-tab}
 use Rattle.parking.proofs.Tally.{mark_of-below, apart_of-below}
 use Rattle.parking.proofs.Weighted.{mean-ext, mean-below, cells-mean}
 use Rattle.breakthrough.specs.declared.curves.Curves.{Curves}
-use Rattle.breakthrough.specs.Curves.{FitReady, bases_of, growths_of, starts_by, CurvesBy, CurvesOf}
+use Rattle.breakthrough.specs.Curves.{FitReady, growths_of, starts_by, CurvesBy, CurvesOf}
 use Rattle.breakthrough.specs.Through.{CurvesReady, curve_at, through, raise_through}
 use Rattle.breakthrough.proofs.Fitted.{fit-ready, curves-of, curves-ready, through-is, through-none, through-alike}
 use Rattle.row_factors.specs.declared.season.AtSeason.{AtSeason}
@@ -132,7 +132,8 @@ module _ {season : Season} {row : Row} {c : Curves} (f : CurvesOf season row c) 
   -- from the end, or the start, of a cell's parking
   through-from : (ends : Bool) (cell rise : ℕ) → through (curve_at c (apart_of ends cell)) rise ≡ through_units season row (mark_of ends cell) rise
   through-from ends cell rise =
-      through-is l f (apart_of ends cell) rise (apart_of-below ends cell) ∙ through-alike season row (mark_of ends cell) rise (mark_of-below ends cell)
+      through-is l f (apart_of ends cell) rise (apart_of-below ends cell) ∙ through-alike season row (mark_of ends cell) rise
+      (mark_of-below ends cell)
 
   -- in a parking
   parking-escape : length cells ≡ 576

@@ -21,7 +21,7 @@ use fields::classes::halves;
 use parking::grid::SUM;
 
 // In a parking, over the lesser raise of a soak and of a trip, and over the greater.
-#[derive(Drop)]
+#[derive(Clone, Copy)]
 pub struct Escapes {
     pub parking: u64,
     pub soak: u64,

@@ -17,7 +17,7 @@ use parking::season_list::list_of;
 use parking::walk::{halved, rises, walk};
 
 // Means over the cells, in units of 2^-28.
-#[derive(Drop)]
+#[derive(Clone, Copy)]
 pub struct Means {
     // The rise of E(0.0716 T) in a parking.
     pub rise: u64,
@@ -36,7 +36,7 @@ pub struct Means {
 }
 
 // What the rows of a season read at its 25 temperatures, by distance from 14:00.
-#[derive(Drop)]
+#[derive(Clone, Copy)]
 pub struct Day {
     // a, and 2 b s of a large, a medium and a small canister, in units of 2^-44.
     pub base: [u64; 25],
@@ -53,7 +53,7 @@ pub struct Day {
 }
 
 // A season as the functions of its rows have it: its 48 temperatures with their exponential bounds, and what is derived from them.
-#[derive(Drop)]
+#[derive(Clone, Copy)]
 pub struct AtSeason {
     pub season: Season,
     pub marks: Marks,
@@ -62,7 +62,7 @@ pub struct AtSeason {
 }
 
 // With the list of the season's parkings, which is passed by reference.
-#[derive(Drop)]
+#[derive(Clone, Copy)]
 pub struct Prepared {
     pub list: [u64; 1732],
     pub at: AtSeason,

@@ -1,4 +1,6 @@
 // Each row: numbers 13 to 21, 25 and 26.
+#![tactic(auto)]
+
 ghost use Rattle.std.specs.Prelude.{◌≡◌, ◌+◌, ◌^◌, ◌<◌, ◌≤◌, length};
 ghost use Rattle.sheet.specs.Bytes.{rows_of, row_place};
 ghost use Rattle.sheet.specs.RunningSums.{vehicles_before};

@@ -1,4 +1,6 @@
 // Each season: numbers 10 to 12.
+#![tactic(auto)]
+
 ghost use Rattle.std.specs.Prelude.{◌≡◌, ◌+◌, ◌*◌, ◌<◌, ◌≤◌, length};
 ghost use Rattle.sheet.specs.Bytes.{seasons_of, season_place, row_place};
 ghost use Rattle.sheet.specs.RunningSums.{days_before};

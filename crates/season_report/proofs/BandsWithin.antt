@@ -10,13 +10,13 @@ use lib.ListN.{get_or}
 use Rattle.numbers.specs.Lists.{tab, at, sum}
 use Rattle.numbers.proofs.Lists.{tab-length, get_d-tab, sum-ext}
 use Rattle.sheet.specs.Bytes.{seasons_of, rows_of, row_at}
-use Rattle.report_words.specs.Categories.{report_length, counted, any_class, category}
+use Rattle.report_words.specs.Categories.{report_length, counted, category}
 use Rattle.report_words.specs.Report.{words_of, subtotal, grand_total, report}
 use Rattle.report_words.specs.Years.{season_figure}
 use Rattle.report_words.proofs.ReportPlaces.{row-word-at, category-word-at, total-at}
 use Rattle.report_words.proofs.YearWords.{word-from-year}
 use Rattle.report_sums.specs.Sums.{buffer_sum}
-use Rattle.season_report.specs.Seasons.{season_word, sums_of, total_of, with_sums, season_report}
+use Rattle.season_report.specs.Seasons.{season_word, sums_of, total_of, season_report}
 use Rattle.season_report.specs.Year.{seasons_sum, BandTheorem}
 use Rattle.season_report.proofs.BlockSums.{sums_at}
 use Rattle.season_report.proofs.SeasonBlocks.{word-from-season}

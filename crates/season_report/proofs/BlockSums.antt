@@ -9,8 +9,8 @@ use lib.ListN.{length, get_or, take, drop, length-append, length-drop, drop_of_l
 use lib.Seq.{sets, sets-eq, take_at, drop_at, drop-drop, get_or-take, get_or-append-add}
 use Rattle.numbers.specs.Lists.{tab, at}
 use Rattle.numbers.proofs.Lists.{tab-length, get_d-tab, tab-ext}
-use Rattle.sheet.specs.Bytes.{rows_of, row_at}
-use Rattle.report_words.specs.Categories.{counted, category}
+use Rattle.sheet.specs.Bytes.{rows_of}
+use Rattle.report_words.specs.Categories.{category}
 use Rattle.report_sums.specs.Sums.{buffer_sum, sum_word, summed, three_word, totalled, resummed}
 use Rattle.season_report.specs.Seasons.{sums_of, total_of, with_sums}
 

@@ -1,9 +1,9 @@
 -- The exact mass of the year is the sum of the exact masses of its seasons.
-use mathlib.Core.List.{List, [], ◌∷◌}
-use mathlib.Core.Path.{◌≡◌, refl}
+use mathlib.Core.List.{List}
+use mathlib.Core.Path.{◌≡◌}
 use Prim.Native.Nat.{ℕ, suc, zero, ◌+◌}
 use native.Mathlib.Omega.{arith}
-use Rattle.numbers.specs.Fraction.{Fraction, ◌≈ᶠ◌, ◌+ᶠ◌, whole}
+use Rattle.numbers.specs.Fraction.{◌≈ᶠ◌, ◌+ᶠ◌}
 use Rattle.numbers.proofs.Order.{≈-refl, ≈-sym, ≈-trans, +-cong, +_comm, +_assoc, +-zero}
 use Rattle.exact.specs.Masses.{Mechanism, mass}
 use Rattle.sheet.specs.Bytes.{seasons_of, cells_of, seasons_from, season_list, row_at}

@@ -9,7 +9,7 @@ use lib.ListN.{length, get_or}
 use lib.Seq.{ext_get_or}
 use Rattle.numbers.specs.Lists.{tab, at}
 use Rattle.numbers.proofs.Lists.{tab-length, get_d-tab, tab-ext}
-use Rattle.sheet.specs.Bytes.{seasons_of, rows_of, cells_of, seasons_from, season_list, row_at}
+use Rattle.sheet.specs.Bytes.{seasons_of, rows_of, seasons_from, season_list}
 use Rattle.report_words.specs.Categories.{report_length, category}
 use Rattle.report_words.specs.Report.{words_of, subtotal, grand_total, report}
 use Rattle.report_words.proofs.ReportPlaces.{report-length, row-word-at, category-word-at, total-at}

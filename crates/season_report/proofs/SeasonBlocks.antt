@@ -1,14 +1,12 @@
 -- The block of a season: what one season adds to words that are 0, in milligrams, with the sums; all fit 64 bits.
 use mathlib.Core.Bool.{Bool, true, false}
-use mathlib.Core.List.{List, [], ◌∷◌}
-use mathlib.Core.Path.{◌≡◌, refl, sym, ◌∙◌, ap}
+use mathlib.Core.List.{List}
+use mathlib.Core.Path.{◌≡◌, refl, ◌∙◌, ap}
 use Prim.Native.Nat.{ℕ, suc, zero, ◌+◌, ◌*◌, ◌-◌, ◌/◌, ◌%◌, ◌^◌, ◌≤◌, ◌<◌}
 use native.Mathlib.Omega.{arith}
 use lib.ListN.{length, get_or, take}
 use Rattle.numbers.specs.Lists.{tab, at, sum}
 use Rattle.numbers.proofs.Lists.{tab-length, get_d-tab, tab-ext}
-use Rattle.exact.specs.Masses.{diurnal, soak, running}
-use Rattle.sheet.specs.Limits.{days_limit}
 use Rattle.sheet.specs.Bytes.{seasons_of, rows_of, cells_of, season_at, row_at}
 use Rattle.sheet.specs.RunningSums.{vehicles_before}
 use Rattle.sheet.proofs.Fleet.{vehicles-most}
@@ -16,7 +14,7 @@ use Rattle.sheet.proofs.Accepted.{Bytes, Accepted}
 use Rattle.masses.specs.Figures.{year_figure, low_figure, high_figure, row_figures}
 use Rattle.masses.specs.Bands.{all_days}
 use Rattle.masses.specs.Day.{day_figures}
-use Rattle.masses.proofs.MassSizes.{vehicle_most, year_most, RowSized, word-most, year-fits}
+use Rattle.masses.proofs.MassSizes.{vehicle_most, RowSized, word-most, year-fits}
 use Rattle.sheet_factors.proofs.AcceptedRange.{row-shares, sized}
 use Rattle.report_words.specs.Categories.{counted}
 use Rattle.report_words.specs.Years.{season_figure, season_added, SeasonFits, in_milligrams, filled}
@@ -24,7 +22,7 @@ use Rattle.report_words.proofs.Filled.{filled-less, first-at}
 use Rattle.report_words.proofs.YearWords.{row-year-most}
 use Rattle.report_sums.specs.Sums.{buffer_sum, resummed}
 use Rattle.report_sums.proofs.SumSizes.{sums-fit}
-use Rattle.season_report.specs.Seasons.{alone, season_word, sums_of, total_of, with_sums, season_report}
+use Rattle.season_report.specs.Seasons.{alone, season_word, sums_of, season_report}
 use Rattle.season_report.proofs.BlockSums.{SumsFit, sums_at, resummed-whole}
 
 -- one season's figure of one vehicle, for all vehicles and in milligrams: a low rounded down, a high rounded up

@@ -9,14 +9,13 @@ use native.Mathlib.Omega.{arith}
 use lib.ListN.{length, get_or, drop, length-append, get_or-append}
 use lib.Seq.{get_or-append-add, get_or-drop}
 use Rattle.numbers.specs.Lists.{tab, at, sum}
-use Rattle.numbers.proofs.Lists.{tab-length, get_d-tab}
+use Rattle.numbers.proofs.Lists.{tab-length}
 use Rattle.blocks.specs.Blocks.{blocks}
 use Rattle.blocks.proofs.Blocks.{blocks-length, blocks_at, filled_blocks}
 use Rattle.exact.specs.Masses.{diurnal, soak, running}
 use Rattle.sheet.specs.declared.Check.{Check}
 use Rattle.sheet.specs.declared.Check.TheVariants.{Pass}
 use Rattle.sheet.specs.Bytes.{seasons_of, rows_of, cells_of, row_at}
-use Rattle.sheet.specs.Check.{number_of, place_of}
 use Rattle.sheet.specs.Sheet.{sheet_check}
 use Rattle.sheet.proofs.Checks.{Judges, judges-refuse, judges-then, ltb-tests, then-pass, says}
 use Rattle.sheet.proofs.Conditions.{sheet-judged, no_zero}
@@ -69,7 +68,8 @@ module _ (s rows : List ℕ) (long : length rows ≡ 6 * rows_of s) where
       two (suc (suc j)) l = absurd (omega arith)
 
   -- a category's word
-  pub category-word : (k c j : ℕ) → c < 4 → j < 6 → k ≡ 6 * (rows_of s + c) + j → at (with_sums s rows) k ≡ buffer_sum s rows (category c) (rows_of s) j
+  pub category-word : (k c j : ℕ) → c < 4 → j < 6 → k ≡ 6 * (rows_of s + c) + j
+      → at (with_sums s rows) k ≡ buffer_sum s rows (category c) (rows_of s) j
   category-word k c j h l e =
       let which : (6 * c + j) / 6 ≡ c = omega arith in
       let word : (6 * c + j) % 6 ≡ j = omega arith in

@@ -1,4 +1,6 @@
 // The report of each season of a sheet, one after another.
+#![tactic(auto)]
+
 ghost use Rattle.std.specs.Prelude.{◌≡◌, ◌+◌, ◌*◌, ◌≤◌, ◌<◌, length};
 ghost use Rattle.sheet.specs.declared.Check.TheVariants.{Pass};
 ghost use Rattle.sheet.specs.Bytes.{seasons_of, rows_of};

@@ -41,7 +41,8 @@ pub record Passed (s owners : List ℕ) (room who : ℕ) (call : Call) : Type 0 
   pub right : wrong (has_many_rows s) (counts_of s) call ≡ false
   pub within : WithinShare (vehicles_held s owners who (rows_of s)) call
 
-pub change-passed : (s owners : List ℕ) (room who : ℕ) (call : Call) → shared_change_check s owners room who call ≡ Pass → Passed s owners room who call
+pub change-passed : (s owners : List ℕ) (room who : ℕ) (call : Call) → shared_change_check s owners room who call ≡ Pass
+    → Passed s owners room who call
 unfolding shared_change_check
 change-passed s owners room who call h =
     let met = (change-judged s owners room who call).passes h in

@@ -113,13 +113,15 @@ change-says s owners room who call =
     (λ l. ⊎_elim (λ m. omega (arith, m.0)) (λ m. omega (arith, m.1.0)) l.1) r.1) u)
 
 pub row-says : (s owners : List ℕ) (room who i : ℕ)
-    → Says (shared_row_demands s owners room who i) (number_of (shared_row_check s owners room who i)) (place_of (shared_row_check s owners room who i))
+    → Says (shared_row_demands s owners room who i) (number_of (shared_row_check s owners room who i))
+    (place_of (shared_row_check s owners room who i))
 row-says s owners room who i =
     says (shared_row_check s owners room who i) (row-judged s owners room who i)
     (λ p u. ⊎_elim (never-zero s owners room p) (λ r. ⊎_elim (λ m. omega (arith, m.0)) (λ m. omega (arith, m.1.0)) r.1) u)
 
 pub totals-says : (s owners : List ℕ) (room who : ℕ)
-    → Says (shared_totals_demands s owners room who) (number_of (shared_totals_check s owners room who)) (place_of (shared_totals_check s owners room who))
+    → Says (shared_totals_demands s owners room who) (number_of (shared_totals_check s owners room who))
+    (place_of (shared_totals_check s owners room who))
 totals-says s owners room who =
     says (shared_totals_check s owners room who) (totals-judged s owners room who)
     (λ p u. ⊎_elim (never-zero s owners room p) (λ m. omega (arith, m.1.0)) u)

@@ -105,9 +105,9 @@ module _ (s owners w : List ℕ) (x : Ledger) (good : SharedInv s owners w x) wh
   six-long i = refl
 
   -- a row's words in the buffer are its own,
-  row_words : (i : ℕ) → i < rows_of x.sheet → words_from x.words (6 * i) 6 ≡ words_of x.sheet i
+  row_words_lem : (i : ℕ) → i < rows_of x.sheet → words_from x.words (6 * i) 6 ≡ words_of x.sheet i
   unfolding words_from
-  row_words i l =
+  row_words_lem i l =
       ext_get_or 0 _ (words_of x.sheet i) (tab-length _ 6 ∙ sym (six-long i))
       (λ m k.
       let inside : m < 6 = rw (tab-length (λ (j : ℕ). at x.words (6 * i + j)) 6) at k in
@@ -135,7 +135,7 @@ module _ (s owners w : List ℕ) (x : Ledger) (good : SharedInv s owners w x) wh
   pub row-shown : (who i : ℕ) → i < rows_of x.sheet → may_read x.sheet owners who i ≡ true
       → shared_row_answer x.sheet owners x.words who i ≡ row_told Pass (row_at x.sheet i).vehicles (words_of x.sheet i)
   unfolding shared_row_answer
-  row-shown who i l h = rw (row-passes who i l h, row_words i l) refl
+  row-shown who i l h = rw (row-passes who i l h, row_words_lem i l) refl
 
   row_read : (who i : ℕ) → i < rows_of s → may_read s owners who i ≡ true
       → reply owners x (read_row who i) ≡ of_row (row_told Pass (at (counts_of x.sheet) i) (words_of x.sheet i))

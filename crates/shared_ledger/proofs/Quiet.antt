@@ -42,7 +42,8 @@ quiet many fleet v (Departure row k) h = refl
 
 module _ (s owners : List ℕ) (room : ℕ) (h : shared_check s owners room ≡ Pass) where
   -- 29, where the row is there
-  pub wrong-is : (call : Call) → row_of call < rows_of s → wrong (has_many_rows s) (counts_of s) call ≡ past_row (row_at s (row_of call)).vehicles call
+  pub wrong-is : (call : Call) → row_of call < rows_of s
+      → wrong (has_many_rows s) (counts_of s) call ≡ past_row (row_at s (row_of call)).vehicles call
   unfolding wrong
   wrong-is call l =
       let there : leb (length (counts_of s)) (row_of call) ≡ false = lt-leb (length (counts_of s)) (row_of call) (omega (arith, counts-length s)) in

@@ -15,7 +15,8 @@ use Rattle.ledger.specs.Kept.{Kept}
 use Rattle.shared_ledger.specs.declared.RowAnswer.{RowAnswer}
 use Rattle.shared_ledger.specs.declared.TotalsAnswer.{TotalsAnswer}
 use Rattle.shared_ledger.specs.Opening.{vehicles_each, vehicles_held, shared_check}
-use Rattle.shared_ledger.specs.Calls.{owner_of, may_read, shared_change_check, words_from, row_told, shared_row_answer, totals_told, shared_totals_answer}
+use Rattle.shared_ledger.specs.Calls.{owner_of, may_read, shared_change_check, words_from, row_told, shared_row_answer, totals_told}
+use Rattle.shared_ledger.specs.Calls.{shared_totals_answer}
 
 -- who asks, and for what
 pub data Ask : Type 0 where

@@ -1,8 +1,10 @@
 // What a read of a shared ledger answers: its definitions and its theorems stand here, the code in shared_ledger_calls.
+#![tactic(auto)]
+
 use sheet::Check;
 
 // A read of a row: the check, and where it passes the row's count and six words, else zeros.
-#[derive(Drop)]
+#[derive(Clone, Copy)]
 pub struct RowAnswer {
     pub check: Check,
     pub count: u64,
@@ -10,7 +12,7 @@ pub struct RowAnswer {
 }
 
 // A read of the totals: the check, and where it passes the 26 words after the rows, else zeros.
-#[derive(Drop)]
+#[derive(Clone, Copy)]
 pub struct TotalsAnswer {
     pub check: Check,
     pub words: [u64; 26],

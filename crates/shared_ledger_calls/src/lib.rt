@@ -1,5 +1,7 @@
 // The calls on a ledger that eight participants and a marker share: who may touch which row. The caller lends the sheet, its owners, one byte a
 // row, and the words. Who calls is a number: 1 to 8 a participant, 0 the marker; anyone else has no right to anything.
+#![tactic(auto)]
+
 ghost use Rattle.std.specs.Prelude.{◌≡◌, ◌+◌, ◌≤◌, length};
 ghost use Rattle.sheet.specs.declared.Check.TheVariants.{Pass};
 ghost use Rattle.sheet.specs.Sheet.{sheet_check};

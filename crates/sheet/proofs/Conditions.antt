@@ -19,7 +19,8 @@ use Rattle.exact.specs.Canister.{size}
 use Rattle.sheet.specs.declared.Check.TheVariants.{Pass, Refused}
 use Rattle.sheet.specs.Bytes.{seasons_of, rows_of, season_at}
 use Rattle.sheet.specs.Sheet.{outside, letters_missing, mark_check, numbers_check, head_check, length_check, parking_check, temperatures_wrong}
-use Rattle.sheet.specs.Sheet.{season_check, is_absent, code_wrong, percent_wrong, load_wrong, exponent_above, saturation_above, some_season, no_canister}
+use Rattle.sheet.specs.Sheet.{season_check, is_absent, code_wrong, percent_wrong, load_wrong, exponent_above, saturation_above, some_season}
+use Rattle.sheet.specs.Sheet.{no_canister}
 use Rattle.sheet.specs.Sheet.{mileage_wrong, row_check, sheet_check}
 use Rattle.sheet.specs.Check.{number_of, place_of}
 use Rattle.sheet.specs.Demands.{Met, FirstUnmet, Says, mark_demands, numbers_demands, head_demands, length_demand, parking_demands, season_demands}

@@ -120,9 +120,9 @@ module _ (s : List ℕ) (i v : ℕ) (bits : v < 2 ^ 32) (there : row_place s i +
   }
 
   -- so it is the same record but for its count,
-  row_from : (j : ℕ) → row_from s' (row_place s j) ≡ with_vehicles (row_from s (row_place s j)) (u32_at s' (row_place s j + 8))
+  row_from_lem : (j : ℕ) → row_from s' (row_place s j) ≡ with_vehicles (row_from s (row_place s j)) (u32_at s' (row_place s j + 8))
   unfolding row_from
-  row_from j =
+  row_from_lem j =
       let p : ℕ = row_place s j in
       rw (
         equipment-same (front j) (omega arith),
@@ -142,7 +142,7 @@ module _ (s : List ℕ) (i v : ℕ) (bits : v < 2 ^ 32) (there : row_place s i +
   -- which in row i is the new one,
   pub row-changed : row_at (with_count s i v) i ≡ with_vehicles (row_at s i) v
   unfolding row_at
-  row-changed = rw (start same, seasons same) (row_from i ∙ ap (with_vehicles (row_from s (row_place s i))) stored)
+  row-changed = rw (start same, seasons same) (row_from_lem i ∙ ap (with_vehicles (row_from s (row_place s i))) stored)
 
   -- and in every other row the old one
   pub row_kept : (j : ℕ) → ¬ (j ≡ i) → row_at (with_count s i v) j ≡ row_at s j
@@ -156,7 +156,7 @@ module _ (s : List ℕ) (i v : ℕ) (bits : v < 2 ^ 32) (there : row_place s i +
             ];
       } in
       rw (start same, seasons same)
-      (row_from j ∙ rw (long-at other 0 (row_place s j + 8) (row_place s j + 8) (omega arith) (omega arith)
+      (row_from_lem j ∙ rw (long-at other 0 (row_place s j + 8) (row_place s j + 8) (omega arith) (omega arith)
       (omega arith)) refl)
 
   -- The vehicles up to row i are the same; from there on the new count stands for the old one.

@@ -99,7 +99,7 @@ joined : (xs ys : List ℕ) → Bytes xs → Bytes ys → Bytes (xs ++ ys)
 joined [] ys f g = g
 joined (x ∷ xs) ys f g =
     let rest : Bytes (xs ++ ys) = joined xs ys (record { byte = λ k. f.byte (suc k) }) g in
-    record { byte = λ k. elim k [ zero ↦ f.byte 0 | suc j ↦ rest.byte j ] }
+    record { byte = λ k. elim k as (λ i. get_or (x ∷ (xs ++ ys)) i 0 < 256) [ zero ↦ f.byte 0 | suc j ↦ rest.byte j ] }
 
 -- u16 counts are pairs of bytes
 pairs-bytes : (cs : List ℕ) → ((k : ℕ) → get_or cs k 0 < 65536) → Bytes (pairs cs)
@@ -108,7 +108,9 @@ pairs-bytes [] h = record { byte = λ k. omega arith }
 pairs-bytes (c ∷ cs) h =
     let low : c < 65536 = h 0 in
     let rest : Bytes (pairs cs) = pairs-bytes cs (λ k. h (suc k)) in
-    record { byte = λ k. elim k [ zero ↦ omega arith | suc j ↦ elim j [ zero ↦ omega arith | suc i ↦ rest.byte i ] ] }
+    let tail : (j : ℕ) → get_or (c / 256 ∷ pairs cs) j 0 < 256
+    = λ j. elim j as (λ i. get_or (c / 256 ∷ pairs cs) i 0 < 256) [ zero ↦ omega arith | suc i ↦ rest.byte i ] in
+    record { byte = λ k. elim k as (λ i. get_or (c % 256 ∷ (c / 256 ∷ pairs cs)) i 0 < 256) [ zero ↦ omega arith | suc j ↦ tail j ] }
 
 -- so where every product is a u16 it is a byte string
 pub made_bytes : (s : List ℕ) → Bytes s → ((k : ℕ) → get_or (products (duration_counts s) (hour_counts s)) k 0 < 65536) → Bytes (with_grid s)

@@ -12,7 +12,8 @@ use Rattle.exact.proofs.Products.{products_total}
 use Rattle.sheet.specs.declared.Check.TheVariants.{Pass}
 use Rattle.sheet.specs.Limits.{counts_limit, grid_limit}
 use Rattle.sheet.specs.Versions.{version_of, has_grid, seasons_start}
-use Rattle.sheet.specs.Bytes.{seasons_of, duration_counts, hour_counts, grid_counts, cells_of, row_place, season_at, seasons_from, season_list, row_at}
+use Rattle.sheet.specs.Bytes.{seasons_of, duration_counts, hour_counts, grid_counts, cells_of, row_place, season_at, seasons_from, season_list}
+use Rattle.sheet.specs.Bytes.{row_at}
 use Rattle.sheet.specs.Sheet.{sheet_check}
 use Rattle.sheet.specs.RunningSums.{days_before}
 use Rattle.sheet.specs.Demands.{Met, mark_demands, numbers_demands, season_demands, row_demands}
@@ -77,7 +78,7 @@ module _ {s t : List ℕ} (g : GridOf s t) where
   cells : cells_of t ≡ cells_of s
   cells = cells-grid t with-grid ∙ g.products-are ∙ sym (cells-lists s without-grid)
 
-  -- which sum to P-as-Q.
+  -- which sum to P·Q.
   grid-total : total (grid_counts t) ≡ total (duration_counts s) * total (hour_counts s)
   grid-total = rw g.products-are (products_total (duration_counts s) (hour_counts s))
 

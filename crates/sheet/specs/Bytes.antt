@@ -35,7 +35,7 @@ unfoldable pub grid_counts : List ℕ → List ℕ
 grid_counts s = counts_at s 8 576
 
 -- the counts of the 576 cells: with a grid its own, "a cell weighs count over sum"; else the products, "the cell of counts j and q
--- weighs j·q/(P-as-Q)"
+-- weighs j·q/(P·Q)"
 unfoldable pub cells_of : List ℕ → List ℕ
 cells_of s = elim (has_grid s) [ true ↦ grid_counts s | false ↦ products (duration_counts s) (hour_counts s) ]
 

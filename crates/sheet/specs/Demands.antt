@@ -13,7 +13,8 @@ use Rattle.sheet.specs.Limits.{version_limit, seasons_limit, counts_limit, grid_
 use Rattle.sheet.specs.Limits.{vp_least, vp_limit, percent_limit, tank_limit, vehicles_limit, fleet_limit, trips_limit, minutes_limit, mileage_limit}
 use Rattle.sheet.specs.Integers.{u8_at, u16_at}
 use Rattle.sheet.specs.Versions.{version_of, rows_most, seasons_start}
-use Rattle.sheet.specs.Bytes.{seasons_of, rows_of, duration_counts, hour_counts, grid_counts, season_place, row_place, season_at, row_at, equipment_at}
+use Rattle.sheet.specs.Bytes.{seasons_of, rows_of, duration_counts, hour_counts, grid_counts, season_place, row_place, season_at, row_at}
+use Rattle.sheet.specs.Bytes.{equipment_at}
 use Rattle.sheet.specs.RunningSums.{days_before, vehicles_before}
 
 -- Demands in their order: one with its number and place, one after another, and those on records 0, 1, .. n − 1.

@@ -34,7 +34,7 @@ unfolding sum
 part_none T = omega arith
 
 module _ (T : ℕ) where
-  -- T-as-C(i + 1) = T-as-C(i) + T·share
+  -- T·C(i + 1) = T·C(i) + T·share
   step : (i : ℕ) → T * cumulated (i + 1) ≡ T * cumulated i + T * share_at i
   step i = rw (cumulated-more i) (mul-add T (cumulated i) (share_at i))
 

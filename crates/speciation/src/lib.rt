@@ -1,4 +1,6 @@
 // A mass split among the species of the guidebook's Table 3-14.
+#![tactic(auto)]
+
 ghost use Rattle.std.specs.Prelude.{◌≡◌, ◌+◌, ◌-◌, ◌≤◌};
 ghost use Rattle.speciation.specs.Table.{shares};
 ghost use Rattle.speciation.specs.Split.{all_shares, part_of, species_masses, SpeciesPromise};

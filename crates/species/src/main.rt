@@ -1,5 +1,10 @@
-// The program `species`, by the kit's own start: it does what crates/species_run says. A `main` of the kit returns nothing, so
-// that this one's exit status is 0 in every case; c/programs makes the one whose status is what `evp_run` returns.
-fn main() {
-    species_run::evp_run();
+// The program `species`: it does what crates/species_run says, and its exit status is what that answers.
+#![tactic(auto)]
+
+use program::sources::OneSheet;
+use std::process::ExitCode;
+
+fn main(rt: HostRuntime) -> ExitCode {
+    let sheets = OneSheet::new(&rt, "species");
+    ExitCode::from(species_run::evp_run(&sheets, &mut rt.stdout(), &mut rt.stderr()))
 }

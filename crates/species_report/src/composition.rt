@@ -7,7 +7,7 @@ use sheet::Check;
 use speciation::split;
 
 // What the call answers.
-#[derive(Drop)]
+#[derive(Clone, Copy)]
 pub struct Composition {
     // What the checks of the report say.
     pub check: Check,

@@ -1,4 +1,6 @@
 // From the bytes of a sheet to the bytes that are printed for its species.
+#![tactic(auto)]
+
 ghost use Rattle.std.specs.Prelude.{◌≡◌, ◌≤◌, length};
 ghost use Rattle.sheet.specs.declared.Check.TheVariants.{Pass};
 ghost use Rattle.text.specs.Put.{Put};

@@ -11,7 +11,7 @@ use bounds::short::{line, short};
 use bounds::theta::theta;
 
 // A row's canister at one temperature.
-#[derive(Drop)]
+#[derive(Clone, Copy)]
 pub struct Balance {
     // a + 16 and 2 b s, in units of 2^-44.
     pub base: u64,

@@ -20,7 +20,8 @@ pub fields-more : (words : List ℕ) (k : ℕ) → k < length words → fields (
 unfolding fields
 fields-more words k h =
     rw (take_more words k h)
-    (fields-append (take k words) (get_or words k 0 ∷ []) ∙ ap (λ (text : List ℕ). fields (take k words) ++ text) (append-nil (field (get_or words k 0))))
+    (fields-append (take k words) (get_or words k 0 ∷ []) ∙ ap (λ (text : List ℕ). fields (take k words) ++ text)
+    (append-nil (field (get_or words k 0))))
 
 -- the end of the fields of the first words can be counted where that of all can
 pub room_fields : {at : ℕ} (words : List ℕ) (k : ℕ) → Room at (fields words) → Room at (fields (take k words))

@@ -19,12 +19,12 @@ use Rattle.thresholds.proofs.Threshold.{exponents, reached, beyond}
 
 -- The test, in whole numbers.
 
--- M-as-E(d) ≤ E(c) where it passes
+-- M·E(d) ≤ E(c) where it passes
 within-yes : (M c d : ℕ) → within M c d ≡ true → M * (exponential (16 * 10 ^ 14 + d) + near_error) ≤ get_or far c 0 * 2 ^ 10
 unfolding within
 within-yes M c d e = leb-true _ _ e
 
--- E(c) < M-as-E(d) where it fails
+-- E(c) < M·E(d) where it fails
 within-no : (M c d : ℕ) → within M c d ≡ false → get_or far c 0 * 2 ^ 10 < M * (exponential (16 * 10 ^ 14 + d) + near_error)
 unfolding within
 within-no M c d e = leb-false _ _ e

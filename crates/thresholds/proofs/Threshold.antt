@@ -55,7 +55,7 @@ product-≤ : (M x t : ℕ) → M * x ≤ t * 2 ^ 10 → whole M *ᶠ units x �
 unfolding whole ratio ◌*ᶠ◌
 product-≤ M x t h = omega (arith, h)
 
--- M-as-E(d) ≤ E(c) gives M ≤ E(c − d)
+-- M·E(d) ≤ E(c) gives M ≤ E(c − d)
 pub reached : (M c d y : ℕ) → c < 15 → d ≤ 2 ^ 47 → y + d ≡ c * 10 ^ 14
     → M * (exponential (16 * 10 ^ 14 + d) + near_error) ≤ get_or far c 0 * 2 ^ 10 → (n : ℕ) → 40 ≤ n → whole M ≤ᶠ E n (exponents y)
 reached M c d y c15 d47 e h n n40 =
@@ -71,12 +71,12 @@ whole-product : (M x t : ℕ) → whole M *ᶠ (units x *ᶠ (whole 1 +ᶠ expon
 unfolding whole ratio ◌+ᶠ◌ ◌*ᶠ◌
 whole-product M x t h = omega (arith, h.cross)
 
--- F < M-as-X and M·x·(1 + e) ≤ H do not go together where F and H are near, for X = x + w; u is 1 and v is 1 + e, in one unit
+-- F < M·X and M·x·(1 + e) ≤ H do not go together where F and H are near, for X = x + w; u is 1 and v is 1 + e, in one unit
 too_much : (u v w M x F H : ℕ) → 0 < v → M * x * v ≤ H * (2 ^ 10 * u) → F * 2 ^ 10 < M * (x + w) → M * 2 ^ 30 ≤ F
     → 2 ^ 40 * u * H + w * F * v ≤ 2 ^ 40 * v * F → ⊥
 too_much u v w M x F H v0 a b c d = omega (arith, a, mul-le-mul_right v b, mul-le-mul_right (w * v) c, d)
 
--- E(c) < M-as-E(d) gives E(c − d − e) < M
+-- E(c) < M·E(d) gives E(c − d − e) < M
 pub beyond : (M c d y : ℕ) → c < 15 → d ≤ 2 ^ 47 → y + (d + (margin - 1)) ≡ c * 10 ^ 14 → M * 2 ^ 30 ≤ get_or far c 0
     → get_or far c 0 * 2 ^ 10 < M * (exponential (16 * 10 ^ 14 + d) + near_error) → (n : ℕ) → 40 ≤ n → ¬ (whole M ≤ᶠ E n (exponents y))
 beyond M c d y c15 d47 s m h n n40 k =

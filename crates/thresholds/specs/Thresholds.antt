@@ -1,6 +1,6 @@
 -- Need not be believed: the exponent at which E reaches a whole number M of kilometres, as the program finds it.
 -- Exponents are in units of 10⁻¹⁴, E at whole exponents in units of 2⁻³⁰.
--- With c the first whole exponent where E is at least M, the exponent is c − d for the largest d with M-as-E(d) ≤ E(c).
+-- With c the first whole exponent where E is at least M, the exponent is c − d for the largest d with M·E(d) ≤ E(c).
 use Rattle.std.specs.Prelude.{Bool, cond, ℕ, suc, zero, ◌+◌, ◌*◌, ◌-◌, ◌^◌, leb, get_or}
 use Rattle.bounds.specs.Exponential.{exponential}
 use Rattle.bounds.specs.WholeExponents.{far}
@@ -9,7 +9,7 @@ use Rattle.bounds.specs.WholeExponents.{far}
 abbrev pub near_error : ℕ
 near_error = 35
 
--- M-as-E(d) is at most E(c), so that M is at most E(c − d)
+-- M·E(d) is at most E(c), so that M is at most E(c − d)
 unfoldable pub within : ℕ → ℕ → ℕ → Bool
 within M c d = leb (M * (exponential (16 * 10 ^ 14 + d) + near_error)) (get_or far c 0 * 2 ^ 10)
 

@@ -1,4 +1,6 @@
 // The exponent at which E reaches a mileage, in units of 10^-14: it is found downwards from a whole exponent c, by the binary digits of d = c - y.
+#![tactic(auto)]
+
 ghost use Rattle.std.specs.Prelude.{◌≡◌, ◌+◌, ◌*◌, ◌^◌, ◌<◌, ◌≤◌};
 ghost use Rattle.bounds.specs.Exponential.{entries};
 ghost use Rattle.bounds.specs.WholeExponents.{far};

@@ -1,7 +1,8 @@
 // The answer for a sheet: the number and the place where it stops, both 0 where it is accepted.
 use crate::print::{number, text};
+use std::io;
 
-#[derive(Drop)]
+#[derive(Clone, Copy)]
 pub struct Answer {
     pub number: u64,
     pub place: u64,
@@ -12,12 +13,11 @@ impl Answer {
         (self.number == other.number) & (self.place == other.place)
     }
 
-    pub fn print(self) {
+    pub fn print(self, rt: &impl Print) -> io::Result<()> {
         if self.number == 0 {
-            text(b"accepted");
-        } else {
-            number(b"refused ", self.number);
-            number(b" at ", self.place);
+            return text(rt, "accepted");
         }
+        number(rt, "refused ", self.number)?;
+        number(rt, " at ", self.place)
     }
 }

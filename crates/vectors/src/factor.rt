@@ -5,6 +5,7 @@ use crate::answer::Answer;
 use crate::input::u64_at;
 use crate::print::{band, text};
 use crate::tally::{Verdict, larger};
+use std::io;
 
 // The widest band that is right, in micrograms
 const WIDTH: u64 = 10;
@@ -13,7 +14,7 @@ const WIDTH: u64 = 10;
 const MOST: u64 = 4503599627370496;
 
 // The number and place of a refusal, both 0 where the call is accepted, and the ends of the factor's band
-#[derive(Drop)]
+#[derive(Clone, Copy)]
 pub struct Reply {
     pub number: u64,
     pub place: u64,
@@ -67,17 +68,16 @@ impl Reply {
     }
 
     // Words and the reply, its band in a unit
-    pub fn print(self, words: &[u8], unit: &[u8]) {
+    pub fn print(self, rt: &impl Print, words: &str, unit: &str) -> io::Result<()> {
         if self.number == 0 {
-            band(words, self.low, self.high);
-            text(unit);
-        } else {
-            let answer = Answer {
-                number: self.number,
-                place: self.place,
-            };
-            text(words);
-            answer.print();
+            band(rt, words, self.low, self.high)?;
+            return text(rt, unit);
         }
+        let answer = Answer {
+            number: self.number,
+            place: self.place,
+        };
+        text(rt, words)?;
+        answer.print(rt)
     }
 }

@@ -1,11 +1,14 @@
 // The input of a program: numbers with their lowest byte first, and records one behind the other.
-ghost use Rattle.std.specs.Prelude.{◌≡◌, ◌+◌, ◌^◌, ◌<◌, ◌≤◌, length};
+ghost use Rattle.std.specs.Prelude.{◌≡◌, ◌+◌, ◌^◌, ◌<◌, ◌≤◌, length, IfOk};
+
+use std::io;
+use std::io::Read;
 
 // The bytes of the count at the head of an input
 pub const COUNT: usize = 4;
 
 // A record: where its sheet starts, where the list behind the sheet starts, and where that ends
-#[derive(Drop)]
+#[derive(Clone, Copy)]
 pub struct Record {
     pub start: usize,
     pub list: usize,
@@ -17,6 +20,28 @@ pub fn buffer() -> [u8; 524288]
     ensures { 524288 ≡ length result }
 {
     [0; 524288]
+}
+
+// Reads until the buffer is full or the input ends, and answers how many bytes stand at the start of the buffer.
+fn read_full<R: Read>(reader: &mut R, buffer: &mut [u8]) -> io::Result<usize>
+    ensures { IfOk result (λ n. n ≤ length buffer.new) }
+{
+    let mut done: usize = 0;
+    while done < buffer.len() {
+        let n = reader.read(&mut buffer[done..])?;
+        if n == 0 {
+            break;
+        }
+        done += n;
+    }
+    Ok(done)
+}
+
+// The same of standard input
+pub fn read_input(rt: &impl Input, buffer: &mut [u8]) -> io::Result<usize>
+    ensures { IfOk result (λ n. n ≤ length buffer.new) }
+{
+    read_full(&mut rt.reader(), buffer)
 }
 
 fn wide(b: u8) -> u64

@@ -1,4 +1,6 @@
 // What the programs vectors_* share: the numbers of their input, a tally of what was tried, and the phrases that they print.
+#![tactic(auto)]
+
 pub mod answer;
 pub mod bytes;
 pub mod factor;

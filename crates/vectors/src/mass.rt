@@ -4,6 +4,7 @@ ghost use Rattle.std.specs.Prelude.{◌+◌, ◌≤◌, length};
 use crate::input::u64_at;
 use crate::print::{band, number, text};
 use crate::tally::Verdict;
+use std::io;
 
 // The bytes of a row that is expected: nine numbers, the category first
 pub const ROW: usize = 72;
@@ -23,7 +24,7 @@ const WIDE: u64 = 1099511627776;
 
 // For one of a row's three masses: vehicles times days, 0 where the row has no vehicles; how many times a factor counts in the mass, cut
 // to a whole number; and the whole milligrams below and above the exact mass
-#[derive(Drop)]
+#[derive(Clone, Copy)]
 pub struct Mass {
     pub days: u64,
     pub many: u64,
@@ -73,11 +74,19 @@ pub fn verdict_of(low: u64, high: u64, m: Mass) -> Verdict {
 }
 
 // A line for a mass whose band is not right; sheets and rows are counted from 1.
-pub fn print_other(sheet: u64, row: u64, mass: u64, m: Mass, low: u64, high: u64) {
-    number(b"sheet ", sheet);
-    number(b" row ", row);
-    number(b" mass ", mass);
-    band(b": expected ", m.below, m.above);
-    band(b" mg, found ", low, high);
-    text(b" mg\n");
+pub fn print_other(
+    rt: &impl Print,
+    sheet: u64,
+    row: u64,
+    mass: u64,
+    m: Mass,
+    low: u64,
+    high: u64,
+) -> io::Result<()> {
+    number(rt, "sheet ", sheet)?;
+    number(rt, " row ", row)?;
+    number(rt, " mass ", mass)?;
+    band(rt, ": expected ", m.below, m.above)?;
+    band(rt, " mg, found ", low, high)?;
+    text(rt, " mg\n")
 }

@@ -2,7 +2,7 @@
 ghost use Rattle.std.specs.Prelude.{◌≤◌};
 
 // Whether an answer is right; of a band its width, and how far off the exact value was
-#[derive(Drop)]
+#[derive(Clone, Copy)]
 pub struct Verdict {
     pub right: bool,
     pub width: u64,
@@ -11,7 +11,7 @@ pub struct Verdict {
 
 // How many were tried and how many were right; the widest band, and the farthest that an exact value was off. No input has 2^64 vectors,
 // so the counts wrap and ask for no bound.
-#[derive(Drop)]
+#[derive(Clone, Copy)]
 pub struct Tally {
     pub tried: u64,
     pub right: u64,

@@ -1,11 +1,13 @@
 // Holds the bounds of E and of T^2.5 against exact values that tools/vectors/bounds.py put into standard input: how many are enclosed, and how
 // far the largest lies above its lower bound, of how far it may.
+#![tactic(auto)]
+
 ghost use Rattle.std.specs.Prelude.{◌≡◌, ◌+◌, ◌^◌, ◌<◌, ◌≤◌, length};
 ghost use Rattle.bounds.specs.Exponential.{entries, exponent_limit};
 ghost use Rattle.bounds.specs.Power.{power_error};
 
 use bounds::exp::{ExpTables, ZERO};
-use libc::STDIN_FILENO;
+use std::io;
 use vectors::input::u64_at;
 use vectors::print::{number, text};
 use vectors::tally::{Tally, Verdict, larger};
@@ -38,7 +40,7 @@ const WARMEST: u64 = 950000000000;
 
 // An exponent or a temperature as the library holds it, and its exact value in the units of the bound, cut to a whole number, for n = 40
 // and for n = 60
-#[derive(Drop)]
+#[derive(Clone, Copy)]
 struct Vector {
     held: u64,
     at_40: u64,
@@ -133,60 +135,61 @@ fn powers(s: &[u8]) -> Tally {
     tally
 }
 
-fn print(name: &[u8], tally: Tally) {
-    number(name, tally.tried);
-    number(b" enclosed ", tally.right);
-    number(b" largest error ", tally.farthest);
-    number(b" of ", tally.widest);
-    text(b"\n");
+fn print(rt: &impl Print, name: &str, tally: Tally) -> io::Result<()> {
+    number(rt, name, tally.tried)?;
+    number(rt, " enclosed ", tally.right)?;
+    number(rt, " largest error ", tally.farthest)?;
+    number(rt, " of ", tally.widest)?;
+    text(rt, "\n")
 }
 
 // The line of a range of exponents
-fn print_range(name: &[u8], first: u64, limit: u64, s: &[u8])
+fn print_range(rt: &impl Print, name: &str, first: u64, limit: u64, s: &[u8]) -> io::Result<()>
     requires { limit ≤ exponent_limit }
 {
     let tables = bounds::exp::tables();
-    print(name, exponentials(&tables, first, limit, s));
+    print(rt, name, exponentials(&tables, first, limit, s))
 }
 
 // A line for each range, since the error follows the size of E. Below 1 / 4096 both table entries are 1 and the result is the quadratic;
 // below 1 / 16 the first is 1.
-fn print_ranges(s: &[u8]) {
-    print_range(b"exponentials from 0 below 1/4096: ", ZERO, FINE_STEP, s);
-    print_range(b"exponentials from 0 below 1/16: ", ZERO, COARSE_STEP, s);
-    print_range(b"exponentials up to 2.3: ", 0, PAST_2_3, s);
-    print_range(b"exponentials up to 3: ", 0, PAST_3, s);
-    print_range(b"exponentials up to 3.6: ", 0, PAST_3_6, s);
-    print_range(b"exponentials below 4.1: ", 0, LIMIT, s);
+fn print_ranges(rt: &impl Print, s: &[u8]) -> io::Result<()> {
+    print_range(rt, "exponentials from 0 below 1/4096: ", ZERO, FINE_STEP, s)?;
+    print_range(rt, "exponentials from 0 below 1/16: ", ZERO, COARSE_STEP, s)?;
+    print_range(rt, "exponentials up to 2.3: ", 0, PAST_2_3, s)?;
+    print_range(rt, "exponentials up to 3: ", 0, PAST_3, s)?;
+    print_range(rt, "exponentials up to 3.6: ", 0, PAST_3_6, s)?;
+    print_range(rt, "exponentials below 4.1: ", 0, LIMIT, s)
 }
 
 // The input's two parts, or false where it is not of the length that it says
-fn report(s: &[u8]) -> bool {
+fn report(rt: &impl Print, s: &[u8]) -> io::Result<bool> {
     if s.len() < HEAD {
-        return false;
+        return Ok(false);
     }
     let exponents = u64_at(s, 0);
     let temperatures = u64_at(s, 8);
     if MOST < exponents {
-        return false;
+        return Ok(false);
     }
     if MOST < temperatures {
-        return false;
+        return Ok(false);
     }
     let middle = HEAD + VECTOR * exponents as usize;
     let end = middle + VECTOR * temperatures as usize;
     if s.len() != end {
-        return false;
+        return Ok(false);
     }
-    print_ranges(&s[HEAD..middle]);
-    print(b"powers up to 65 degrees: ", powers(&s[middle..end]));
-    true
+    print_ranges(rt, &s[HEAD..middle])?;
+    print(rt, "powers up to 65 degrees: ", powers(&s[middle..end]))?;
+    Ok(true)
 }
 
-fn main() {
+fn main(rt: HostRuntime) -> io::Result<()> {
     let mut buffer = vectors::input::buffer();
-    let n = io::read_full(STDIN_FILENO, &mut buffer);
-    if !report(&buffer[..n]) {
-        text(b"the input is not of the length that it says\n");
+    let n = vectors::input::read_input(&rt, &mut buffer)?;
+    if !report(&rt, &buffer[..n])? {
+        text(&rt, "the input is not of the length that it says\n")?;
     }
+    Ok(())
 }

@@ -1,13 +1,15 @@
 // Holds the two calls for cells against the answers that tools/vectors/cells.py put into standard input, bit by bit: how many rows and sums of
 // each number are tried, and how many of them get that number, its place and those cells.
+#![tactic(auto)]
+
 ghost use Rattle.std.specs.Prelude.{◌≡◌, ◌+◌, ◌*◌, ◌≤◌, length};
 ghost use Rattle.std.specs.Float.{binary64};
 ghost use Rattle.std.specs.Float.Ieee.{nan_bits};
 
 use boundary::{EvpCell, EvpCellSum, EvpRowCells, EvpTravel};
 use evaporation::map::{evp_add_cells, evp_cells_of_row};
-use libc::STDIN_FILENO;
 use map_shares::{Mileages, Span, Speeds, Words};
+use std::io;
 use vectors::input::{u32_at, u64_at};
 use vectors::print::{number, text};
 use vectors::tally::{Tally, Verdict, next};
@@ -131,111 +133,129 @@ fn sum_is(r: EvpCellSum, s: &[u8], at: usize) -> bool
 }
 
 // A line for an answer that is another than the one expected; rows and sums are counted from 1, as tools/vectors/cells.py lists them.
-fn print_other(what: &[u8], position: u64, expected: u64, found: u64) {
-    number(what, position);
-    number(b": expected number ", expected);
-    number(b", found ", found);
-    text(b", or other cells\n");
+fn print_other(
+    rt: &impl Print,
+    what: &str,
+    position: u64,
+    expected: u64,
+    found: u64,
+) -> io::Result<()> {
+    number(rt, what, position)?;
+    number(rt, ": expected number ", expected)?;
+    number(rt, ", found ", found)?;
+    text(rt, ", or other cells\n")
 }
 
 // A tally with one row more, where its number is this one
-fn with_row(s: &[u8], at: usize, position: u64, n: u64, tally: Tally) -> Tally
+fn with_row(
+    rt: &impl Print,
+    s: &[u8],
+    at: usize,
+    position: u64,
+    n: u64,
+    tally: Tally,
+) -> io::Result<Tally>
     requires { at + 184 ≤ length s.now }
 {
     let expected = u64_at(s, at + ROW_ANSWER);
     if expected != n {
-        return tally;
+        return Ok(tally);
     }
     let found = evp_cells_of_row(words_at(s, at), travel_at(s, at + 48));
     let right = row_is(found, s, at + ROW_ANSWER);
     if !right {
-        print_other(b"row ", position, expected, found.number);
+        print_other(rt, "row ", position, expected, found.number)?;
     }
-    tally.with(Verdict::bare(right))
+    Ok(tally.with(Verdict::bare(right)))
 }
 
-fn with_sum(s: &[u8], at: usize, position: u64, n: u64, tally: Tally) -> Tally
+fn with_sum(
+    rt: &impl Print,
+    s: &[u8],
+    at: usize,
+    position: u64,
+    n: u64,
+    tally: Tally,
+) -> io::Result<Tally>
     requires { at + 88 ≤ length s.now }
 {
     let expected = u64_at(s, at + SUM_ANSWER);
     if expected != n {
-        return tally;
+        return Ok(tally);
     }
     let found = evp_add_cells(cell_at(s, at), cell_at(s, at + 24));
     let right = sum_is(found, s, at + SUM_ANSWER);
     if !right {
-        print_other(b"sum ", position, expected, found.number);
+        print_other(rt, "sum ", position, expected, found.number)?;
     }
-    tally.with(Verdict::bare(right))
+    Ok(tally.with(Verdict::bare(right)))
 }
 
 // The rows of one number
-fn tally_rows(s: &[u8], n: u64) -> Tally {
+fn tally_rows(rt: &impl Print, s: &[u8], n: u64) -> io::Result<Tally> {
     let mut tally = Tally::none();
     let mut i = 0;
     while i < s.len() / ROW {
-        tally = with_row(s, ROW * i, next(i as u64), n, tally);
+        tally = with_row(rt, s, ROW * i, next(i as u64), n, tally)?;
         i += 1;
     }
-    tally
+    Ok(tally)
 }
 
-fn tally_sums(s: &[u8], n: u64) -> Tally {
+fn tally_sums(rt: &impl Print, s: &[u8], n: u64) -> io::Result<Tally> {
     let mut tally = Tally::none();
     let mut i = 0;
     while i < s.len() / SUM {
-        tally = with_sum(s, SUM * i, next(i as u64), n, tally);
+        tally = with_sum(rt, s, SUM * i, next(i as u64), n, tally)?;
         i += 1;
     }
-    tally
+    Ok(tally)
 }
 
-fn print_tally(words: &[u8], tally: Tally) {
-    number(words, tally.tried);
-    number(b" agree ", tally.right);
-    text(b"\n");
+fn print_tally(rt: &impl Print, words: &str, tally: Tally) -> io::Result<()> {
+    number(rt, words, tally.tried)?;
+    number(rt, " agree ", tally.right)?;
+    text(rt, "\n")
 }
 
-fn report_rows(s: &[u8]) -> u64 {
-    let given = tally_rows(s, 0);
-    let wrong = tally_rows(s, 27);
-    let travel = tally_rows(s, 28);
-    print_tally(b"rows with cells ", given);
-    print_tally(b"rows refused 27: ", wrong);
-    print_tally(b"rows refused 28: ", travel);
+fn report_rows(rt: &impl Print, s: &[u8]) -> io::Result<u64> {
+    let given = tally_rows(rt, s, 0)?;
+    let wrong = tally_rows(rt, s, 27)?;
+    let travel = tally_rows(rt, s, 28)?;
+    print_tally(rt, "rows with cells ", given)?;
+    print_tally(rt, "rows refused 27: ", wrong)?;
+    print_tally(rt, "rows refused 28: ", travel)?;
     let some = given.plus(wrong);
     let all = some.plus(travel);
-    all.tried
+    Ok(all.tried)
 }
 
-fn report_sums(s: &[u8]) -> u64 {
-    let given = tally_sums(s, 0);
-    let wrong = tally_sums(s, 27);
-    print_tally(b"sums with a cell ", given);
-    print_tally(b"sums refused 27: ", wrong);
+fn report_sums(rt: &impl Print, s: &[u8]) -> io::Result<u64> {
+    let given = tally_sums(rt, s, 0)?;
+    let wrong = tally_sums(rt, s, 27)?;
+    print_tally(rt, "sums with a cell ", given)?;
+    print_tally(rt, "sums refused 27: ", wrong)?;
     let all = given.plus(wrong);
-    all.tried
+    Ok(all.tried)
 }
 
 // A row or a sum that is cut off, or whose number is none of these, is missing from the tallies; the counts that the input gives show it.
-fn report(s: &[u8]) {
+fn report(rt: &impl Print, s: &[u8]) -> io::Result<()> {
     if s.len() < HEAD {
-        vectors::print::no_count();
-        return;
+        return vectors::print::no_count(rt);
     }
     let rows = u32_at(s, 0);
     let sums = u32_at(s, 4);
     let split = HEAD + ROW * rows as usize;
     if s.len() < split {
-        vectors::print::count(0, rows, b" rows\n");
-        return;
+        return vectors::print::count(rt, 0, rows, " rows\n");
     }
-    vectors::print::count(report_rows(&s[HEAD..split]), rows, b" rows\n");
-    vectors::print::count(report_sums(&s[split..]), sums, b" sums\n");
+    vectors::print::count(rt, report_rows(rt, &s[HEAD..split])?, rows, " rows\n")?;
+    vectors::print::count(rt, report_sums(rt, &s[split..])?, sums, " sums\n")
 }
 
-fn main() {
+fn main(rt: HostRuntime) -> io::Result<()> {
     let mut buffer = vectors::input::buffer();
-    let n = io::read_full(STDIN_FILENO, &mut buffer);
-    report(&buffer[..n]);
+    let n = vectors::input::read_input(&rt, &mut buffer)?;
+    report(&rt, &buffer[..n])
 }

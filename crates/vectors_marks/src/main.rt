@@ -1,9 +1,11 @@
 // Holds the marks of filed figures against the verdicts that tools/vectors/marks.py put into standard input: how many
 // figures are to get each verdict, and how many of them get it and are off by as much.
+#![tactic(auto)]
+
 ghost use Rattle.std.specs.Prelude.{◌≤◌, length};
 
-use libc::STDIN_FILENO;
 use marking::{Filed, Unit, Verdict, mark};
+use std::io;
 use vectors::input::{COUNT, u32_at, u64_at};
 use vectors::print::{number, text};
 use vectors::tally::{Tally, next};
@@ -16,7 +18,7 @@ const VERDICTS: u64 = 5;
 
 // A verdict, from 0 agrees, fits, low, high and unreadable; and how many milligrams the figure is off, 0 where it has
 // no such distance
-#[derive(Drop)]
+#[derive(Clone, Copy)]
 pub struct Mark {
     pub verdict: u64,
     pub off: u64,
@@ -62,47 +64,47 @@ fn expected_at(s: &[u8]) -> Mark
     }
 }
 
-fn print_verdict(verdict: u64) {
+fn print_verdict(rt: &impl Print, verdict: u64) -> io::Result<()> {
     match verdict {
-        0 => text(b"agrees"),
-        1 => text(b"fits"),
-        2 => text(b"low"),
-        3 => text(b"high"),
-        _ => text(b"unreadable"),
+        0 => text(rt, "agrees"),
+        1 => text(rt, "fits"),
+        2 => text(rt, "low"),
+        3 => text(rt, "high"),
+        _ => text(rt, "unreadable"),
     }
 }
 
-fn print_mark(mark: Mark) {
-    print_verdict(mark.verdict);
-    number(b" by ", mark.off);
+fn print_mark(rt: &impl Print, mark: Mark) -> io::Result<()> {
+    print_verdict(rt, mark.verdict)?;
+    number(rt, " by ", mark.off)
 }
 
 // A line for a figure whose mark is another than the one expected; figures are counted from 1, as
 // tools/vectors/marks.py lists them.
-fn print_other(position: u64, expected: Mark, found: Mark) {
-    number(b"figure ", position);
-    text(b": expected ");
-    print_mark(expected);
-    text(b", found ");
-    print_mark(found);
-    text(b"\n");
+fn print_other(rt: &impl Print, position: u64, expected: Mark, found: Mark) -> io::Result<()> {
+    number(rt, "figure ", position)?;
+    text(rt, ": expected ")?;
+    print_mark(rt, expected)?;
+    text(rt, ", found ")?;
+    print_mark(rt, found)?;
+    text(rt, "\n")
 }
 
 // A tally with one figure more
-fn with_figure(s: &[u8], position: u64, tally: Tally) -> Tally
+fn with_figure(rt: &impl Print, s: &[u8], position: u64, tally: Tally) -> io::Result<Tally>
     requires { 56 ≤ length s.now }
 {
     let expected = expected_at(s);
     let found = found_at(s);
     let right = (found.verdict == expected.verdict) & (found.off == expected.off);
     if !right {
-        print_other(position, expected, found);
+        print_other(rt, position, expected, found)?;
     }
-    tally.with(vectors::tally::Verdict::bare(right))
+    Ok(tally.with(vectors::tally::Verdict::bare(right)))
 }
 
 // The figures of one verdict
-fn tally_of(s: &[u8], verdict: u64) -> Tally {
+fn tally_of(rt: &impl Print, s: &[u8], verdict: u64) -> io::Result<Tally> {
     let mut tally = Tally::none();
     let mut position: u64 = 0;
     let mut i: usize = 0;
@@ -112,48 +114,47 @@ fn tally_of(s: &[u8], verdict: u64) -> Tally {
         let figure = &s[from..to];
         position = next(position);
         if u64_at(figure, 40) == verdict {
-            tally = with_figure(figure, position, tally);
+            tally = with_figure(rt, figure, position, tally)?;
         }
         i += 1;
     }
-    tally
+    Ok(tally)
 }
 
-fn print_tally(tally: Tally) {
-    number(b" ", tally.tried);
-    number(b" as given ", tally.right);
-    text(b"\n");
+fn print_tally(rt: &impl Print, tally: Tally) -> io::Result<()> {
+    number(rt, " ", tally.tried)?;
+    number(rt, " as given ", tally.right)?;
+    text(rt, "\n")
 }
 
 // A line for each verdict, and the tally of all of them
-fn report_verdicts(s: &[u8]) -> Tally {
+fn report_verdicts(rt: &impl Print, s: &[u8]) -> io::Result<Tally> {
     let mut all = Tally::none();
     let mut verdict: u64 = 0;
     while verdict < VERDICTS {
-        let tally = tally_of(s, verdict);
-        print_verdict(verdict);
-        print_tally(tally);
+        let tally = tally_of(rt, s, verdict)?;
+        print_verdict(rt, verdict)?;
+        print_tally(rt, tally)?;
         all = all.plus(tally);
         verdict += 1;
     }
-    all
+    Ok(all)
 }
 
 // A figure that is cut off, or whose verdict is above the last, is missing from the tally; the count that the input
 // gives shows it.
-fn report(s: &[u8]) {
+fn report(rt: &impl Print, s: &[u8]) -> io::Result<()> {
     if s.len() < COUNT {
-        vectors::print::no_count();
-        return;
+        return vectors::print::no_count(rt);
     }
-    let all = report_verdicts(&s[COUNT..]);
-    text(b"figures");
-    print_tally(all);
-    vectors::print::count(all.tried, u32_at(s, 0), b"\n");
+    let all = report_verdicts(rt, &s[COUNT..])?;
+    text(rt, "figures")?;
+    print_tally(rt, all)?;
+    vectors::print::count(rt, all.tried, u32_at(s, 0), "\n")
 }
 
-fn main() {
+fn main(rt: HostRuntime) -> io::Result<()> {
     let mut buffer = vectors::input::buffer();
-    let n = io::read_full(STDIN_FILENO, &mut buffer);
-    report(&buffer[..n]);
+    let n = vectors::input::read_input(&rt, &mut buffer)?;
+    report(&rt, &buffer[..n])
 }

@@ -1,11 +1,13 @@
 // Holds pooling against the pairs of sheets that tools/vectors/pools.py put into standard input: how many are refused as expected, with the number,
 // the place and the sheet, and every byte of the buffer left as it was; how many pooled sheets are those expected, with the bytes beyond
 // them left as they were; and how many of their reports have both sheets' row words in their places and the sums of their sums.
+#![tactic(auto)]
+
 ghost use Rattle.std.specs.Prelude.{◌+◌, ◌≤◌, length};
 
 use crate::words::words_right;
-use libc::STDIN_FILENO;
 use pooling::PoolAnswer;
+use std::io;
 use vectors::input::{COUNT, record_at, u16_at, u32_at};
 use vectors::print::{number, text};
 use vectors::tally::{Tally, Verdict, next, smaller};
@@ -29,7 +31,7 @@ const SHEETS: usize = 1;
 const WORDS: usize = 2;
 
 // The bytes of a pair's buffer, as far as there are, and the answer that is expected
-#[derive(Drop)]
+#[derive(Clone, Copy)]
 struct Head {
     room: usize,
     number: u64,
@@ -110,12 +112,12 @@ fn is_right(a: &[u8], b: &[u8], expected: &[u8], head: Head, pass: usize) -> boo
 }
 
 // A tally with one pair more, and a line where it is not right
-fn with_verdict(right: bool, position: u64, tally: Tally) -> Tally {
+fn with_verdict(rt: &impl Print, right: bool, position: u64, tally: Tally) -> io::Result<Tally> {
     if !right {
-        number(b"pair ", position);
-        text(b" is answered otherwise\n");
+        number(rt, "pair ", position)?;
+        text(rt, " is answered otherwise\n")?;
     }
-    tally.with(Verdict::bare(right))
+    Ok(tally.with(Verdict::bare(right)))
 }
 
 // Whether a pass looks at the pairs with this number
@@ -128,7 +130,7 @@ fn looks_at(pass: usize, number: u64) -> bool {
 }
 
 // The pairs of one pass, up to the first that the end of the input cuts
-fn tally_of(s: &[u8], pass: usize) -> Tally {
+fn tally_of(rt: &impl Print, s: &[u8], pass: usize) -> io::Result<Tally> {
     let mut tally = Tally::none();
     let mut position: u64 = 0;
     let mut at = 0;
@@ -138,11 +140,11 @@ fn tally_of(s: &[u8], pass: usize) -> Tally {
         let second = record.list;
         let pooled = record.end;
         if s.len() < pooled {
-            return tally;
+            return Ok(tally);
         }
         let long = u16_at(s, at + 4) as usize;
         if s.len() - pooled < long {
-            return tally;
+            return Ok(tally);
         }
         let end = pooled + long;
         let expected = pooled + smaller(long, ROOM);
@@ -156,41 +158,41 @@ fn tally_of(s: &[u8], pass: usize) -> Tally {
                 head,
                 pass,
             );
-            tally = with_verdict(right, position, tally);
+            tally = with_verdict(rt, right, position, tally)?;
         }
         at = end;
     }
-    tally
+    Ok(tally)
 }
 
 // The line of one pass
-fn print_pass(s: &[u8], pass: usize, name: &[u8]) -> u64 {
-    let tally = tally_of(s, pass);
-    number(name, tally.tried);
-    number(b" right ", tally.right);
-    text(b"\n");
-    tally.tried
+fn print_pass(rt: &impl Print, s: &[u8], pass: usize, name: &str) -> io::Result<u64> {
+    let tally = tally_of(rt, s, pass)?;
+    number(rt, name, tally.tried)?;
+    number(rt, " right ", tally.right)?;
+    text(rt, "\n")?;
+    Ok(tally.tried)
 }
 
 // A pair that is cut off is missing from the tallies; the count that the input gives shows it.
-fn report(s: &[u8]) {
+fn report(rt: &impl Print, s: &[u8]) -> io::Result<()> {
     if s.len() < COUNT {
-        vectors::print::no_count();
-        return;
+        return vectors::print::no_count(rt);
     }
     let pairs = &s[COUNT..];
-    let refused = print_pass(pairs, REFUSALS, b"refused pairs ");
-    let accepted = print_pass(pairs, SHEETS, b"pooled sheets ");
-    print_pass(pairs, WORDS, b"pooled reports ");
+    let refused = print_pass(rt, pairs, REFUSALS, "refused pairs ")?;
+    let accepted = print_pass(rt, pairs, SHEETS, "pooled sheets ")?;
+    print_pass(rt, pairs, WORDS, "pooled reports ")?;
     vectors::print::count(
+        rt,
         std::num::wrapping_add_u64(refused, accepted),
         u32_at(s, 0),
-        b" pairs\n",
-    );
+        " pairs\n",
+    )
 }
 
-fn main() {
+fn main(rt: HostRuntime) -> io::Result<()> {
     let mut buffer = vectors::input::buffer();
-    let n = io::read_full(STDIN_FILENO, &mut buffer);
-    report(&buffer[..n]);
+    let n = vectors::input::read_input(&rt, &mut buffer)?;
+    report(&rt, &buffer[..n])
 }

@@ -1,10 +1,12 @@
 // Holds the report against the exact masses that tools/vectors/reports.py put into standard input: how many of the rows' bands enclose their
 // masses and are as narrow as they should be, how many sheets have subtotals and totals that are sums of their rows' words, and how
 // many are refused as expected with every word of the buffer left as it was.
+#![tactic(auto)]
+
 ghost use Rattle.std.specs.Prelude.{◌+◌, ◌/◌, ◌<◌, ◌≤◌, length};
 
-use libc::STDIN_FILENO;
 use sheet::Check;
+use std::io;
 use vectors::input::{COUNT, mileage_at, record_at, u16_at, u32_at};
 use vectors::mass::{ROW, mass_at, print_other, verdict_of};
 use vectors::print::{number, text};
@@ -27,7 +29,7 @@ const REFUSALS: usize = 4;
 const DRIVEN: usize = 5;
 
 // The words of a sheet's buffer, as far as there is room, and the answer that is expected
-#[derive(Drop)]
+#[derive(Clone, Copy)]
 struct Head {
     room: usize,
     number: u64,
@@ -47,13 +49,14 @@ fn head_at(s: &[u8], at: usize) -> Head
 
 // A tally with one band more
 fn with_band(
+    rt: &impl Print,
     words: &[u64; WORDS],
     rows: &[u8],
     row: usize,
     mass: usize,
     sheet: u64,
     tally: Tally,
-) -> Tally
+) -> io::Result<Tally>
     requires { (length rows.now ≤ 72000) × (row < length rows.now / 72) × (mass ≤ 2) }
 {
     let at = 6 * row + 2 * mass;
@@ -62,20 +65,21 @@ fn with_band(
     let m = mass_at(rows, ROW * row, mass);
     let verdict = verdict_of(low, high, m);
     if !verdict.right {
-        print_other(sheet, row as u64 + 1, mass as u64, m, low, high);
+        print_other(rt, sheet, row as u64 + 1, mass as u64, m, low, high)?;
     }
-    tally.with(verdict)
+    Ok(tally.with(verdict))
 }
 
 // The bands of one mass of a sheet's rows
 fn with_bands(
+    rt: &impl Print,
     s: &[u8],
     words: &[u64; WORDS],
     rows: &[u8],
     pass: usize,
     sheet: u64,
     before: Tally,
-) -> Tally
+) -> io::Result<Tally>
     requires { length rows.now ≤ 72000 }
 {
     let mass = pass % DRIVEN % 3;
@@ -83,20 +87,20 @@ fn with_bands(
     let mut row = 0;
     while row < rows.len() / ROW {
         if (pass < DRIVEN) | (mileage_at(s, row as u64) != 0) {
-            tally = with_band(words, rows, row, mass, sheet, tally);
+            tally = with_band(rt, words, rows, row, mass, sheet, tally)?;
         }
         row += 1;
     }
-    tally
+    Ok(tally)
 }
 
 // A tally with one sheet more, and a line where it is not right
-fn with_verdict(right: bool, sheet: u64, tally: Tally) -> Tally {
+fn with_verdict(rt: &impl Print, right: bool, sheet: u64, tally: Tally) -> io::Result<Tally> {
     if !right {
-        number(b"sheet ", sheet);
-        text(b" is answered otherwise\n");
+        number(rt, "sheet ", sheet)?;
+        text(rt, " is answered otherwise\n")?;
     }
-    tally.with(Verdict::bare(right))
+    Ok(tally.with(Verdict::bare(right)))
 }
 
 // The report into the first words of a buffer
@@ -115,19 +119,27 @@ fn answers(found: Check, head: Head) -> bool {
 }
 
 // A tally with one sheet more: all its bands of one mass, its sums or its refusal
-fn with_sheet(s: &[u8], rows: &[u8], head: Head, pass: usize, sheet: u64, tally: Tally) -> Tally
+fn with_sheet(
+    rt: &impl Print,
+    s: &[u8],
+    rows: &[u8],
+    head: Head,
+    pass: usize,
+    sheet: u64,
+    tally: Tally,
+) -> io::Result<Tally>
     requires { (head.room ≤ 6144) × (length rows.now ≤ 72000) }
 {
     let room = head.room;
     let mut words = [OLD; WORDS];
     let right = answers(report_into(s, room, &mut words), head);
     if pass == REFUSALS {
-        return with_verdict(right & kept(&words, 0), sheet, tally);
+        return with_verdict(rt, right & kept(&words, 0), sheet, tally);
     }
     if pass == SUMS {
-        return with_verdict(right & sums_right(&words, rows), sheet, tally);
+        return with_verdict(rt, right & sums_right(&words, rows), sheet, tally);
     }
-    with_bands(s, &words, rows, pass, sheet, tally)
+    with_bands(rt, s, &words, rows, pass, sheet, tally)
 }
 
 // Whether a pass looks at the sheets with this number
@@ -140,7 +152,7 @@ fn looks_at(pass: usize, number: u64) -> bool {
 }
 
 // The sheets of one pass, up to the first that the end of the input cuts
-fn tally_of(s: &[u8], pass: usize) -> Tally {
+fn tally_of(rt: &impl Print, s: &[u8], pass: usize) -> io::Result<Tally> {
     let mut tally = Tally::none();
     let mut sheet: u64 = 0;
     let mut at = 0;
@@ -150,64 +162,71 @@ fn tally_of(s: &[u8], pass: usize) -> Tally {
         let list = record.list;
         let end = record.end;
         if s.len() < end {
-            return tally;
+            return Ok(tally);
         }
         let rows = list + smaller(end - list, ROWS);
         sheet = next(sheet);
         let head = head_at(s, at);
         if looks_at(pass, head.number) {
-            tally = with_sheet(&s[start..list], &s[list..rows], head, pass, sheet, tally);
+            tally = with_sheet(
+                rt,
+                &s[start..list],
+                &s[list..rows],
+                head,
+                pass,
+                sheet,
+                tally,
+            )?;
         }
         at = end;
     }
-    tally
+    Ok(tally)
 }
 
-fn print(name: &[u8], tally: Tally) {
-    number(name, tally.tried);
-    number(b" right ", tally.right);
+fn print(rt: &impl Print, name: &str, tally: Tally) -> io::Result<()> {
+    number(rt, name, tally.tried)?;
+    number(rt, " right ", tally.right)
 }
 
 // The line of one mass, of all rows and of those with a mileage
-fn print_bands(s: &[u8], mass: usize, name: &[u8], unit: &[u8])
+fn print_bands(rt: &impl Print, s: &[u8], mass: usize, name: &str, unit: &str) -> io::Result<()>
     requires { mass ≤ 2 }
 {
-    let tally = tally_of(s, mass);
-    print(name, tally);
-    number(b" widest ", tally.widest);
-    text(unit);
-    let driven = tally_of(s, DRIVEN + mass);
-    print(b", with a mileage ", driven);
-    number(b" widest ", driven.widest);
-    text(b" ng\n");
+    let tally = tally_of(rt, s, mass)?;
+    print(rt, name, tally)?;
+    number(rt, " widest ", tally.widest)?;
+    text(rt, unit)?;
+    let driven = tally_of(rt, s, DRIVEN + mass)?;
+    print(rt, ", with a mileage ", driven)?;
+    number(rt, " widest ", driven.widest)?;
+    text(rt, " ng\n")
 }
 
 // A line for each pass, and how many sheets the last two looked at
-fn print_passes(s: &[u8]) -> u64 {
-    print_bands(s, 0, b"diurnal bands ", b" ng a vehicle and day");
-    print_bands(s, 1, b"soak bands ", b" ng a trip");
-    print_bands(s, 2, b"running bands ", b" ng a trip");
-    let sums = tally_of(s, SUMS);
-    print(b"sums of accepted sheets ", sums);
-    let refusals = tally_of(s, REFUSALS);
-    print(b"\nrefused sheets ", refusals);
-    text(b"\n");
+fn print_passes(rt: &impl Print, s: &[u8]) -> io::Result<u64> {
+    print_bands(rt, s, 0, "diurnal bands ", " ng a vehicle and day")?;
+    print_bands(rt, s, 1, "soak bands ", " ng a trip")?;
+    print_bands(rt, s, 2, "running bands ", " ng a trip")?;
+    let sums = tally_of(rt, s, SUMS)?;
+    print(rt, "sums of accepted sheets ", sums)?;
+    let refusals = tally_of(rt, s, REFUSALS)?;
+    print(rt, "\nrefused sheets ", refusals)?;
+    text(rt, "\n")?;
     let both = sums.plus(refusals);
-    both.tried
+    Ok(both.tried)
 }
 
 // A sheet that is cut off is missing from the tallies; the count that the input gives shows it.
-fn report(s: &[u8]) {
+fn report(rt: &impl Print, s: &[u8]) -> io::Result<()> {
     if s.len() < COUNT {
-        vectors::print::no_count();
-        return;
+        return vectors::print::no_count(rt);
     }
-    let tried = print_passes(&s[COUNT..]);
-    vectors::print::count(tried, u32_at(s, 0), b" sheets\n");
+    let tried = print_passes(rt, &s[COUNT..])?;
+    vectors::print::count(rt, tried, u32_at(s, 0), " sheets\n")
 }
 
-fn main() {
+fn main(rt: HostRuntime) -> io::Result<()> {
     let mut buffer = vectors::input::buffer();
-    let n = io::read_full(STDIN_FILENO, &mut buffer);
-    report(&buffer[..n]);
+    let n = vectors::input::read_input(&rt, &mut buffer)?;
+    report(&rt, &buffer[..n])
 }

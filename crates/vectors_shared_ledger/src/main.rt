@@ -2,10 +2,12 @@
 // and calls are answered as expected and, where they are refused, leave every byte of the sheet and every word of
 // the buffer as it was; how many ledgers end with the words of a fresh report; and how many participants are told
 // the same, answer by answer, by two lists on two ledgers that agree for them.
+#![tactic(auto)]
+
 ghost use Rattle.std.specs.Prelude.{◌≤◌, ◌<◌, length};
 
-use libc::STDIN_FILENO;
 use sheet::Check;
+use std::io;
 use vectors::bytes::{LONGEST, copy, room, same_bytes};
 use vectors::input::{COUNT, record_at, u16_at, u32_at};
 use vectors::print::{number, text};
@@ -43,21 +45,23 @@ fn tried(tallies: &mut [u64; 8], what: usize, right: bool)
 
 // The calls on a ledger, one after another
 fn with_calls(
+    rt: &impl Print,
     sheet: &mut [u8],
     owners: &[u8],
     words: &mut [u64],
     answers: &mut [u64],
     calls: &[u8],
     tallies: &mut [u64; 8],
-) {
+) -> io::Result<()> {
     let mut at: usize = 0;
     while CALL <= calls.len() - at {
         let end = at + CALL;
         let call = next(tallies[CALLS]);
-        let right = call_right(sheet, owners, words, answers, &calls[at..end], call);
+        let right = call_right(rt, sheet, owners, words, answers, &calls[at..end], call)?;
         tried(tallies, CALLS, right);
         at = end;
     }
+    Ok(())
 }
 
 // Whether opening is answered as expected, and every word is as it was where it is refused
@@ -127,6 +131,7 @@ fn with_end(
 
 // A ledger: its opening, its calls and its end. 25 answers of 28 numbers can be kept.
 fn with_sheet(
+    rt: &impl Print,
     s: &[u8],
     sheet: &mut [u8],
     owners: &[u8],
@@ -134,18 +139,26 @@ fn with_sheet(
     head: &[u8],
     before: &mut [u64],
     tallies: &mut [u64; 8],
-)
+) -> io::Result<()>
     requires { 12 ≤ length head.now }
 {
     let mut words = [OLD; 6144];
     let mut answers = [0u64; 700];
     with_opening(s, sheet, owners, &mut words, head, tallies);
-    with_calls(sheet, owners, &mut words, &mut answers, calls, tallies);
+    with_calls(rt, sheet, owners, &mut words, &mut answers, calls, tallies)?;
     with_end(sheet, &words, &answers, head, before, tallies);
+    Ok(())
 }
 
 // With a copy of the sheet that the calls may change; the owners stand behind it
-fn with_ledger(s: &[u8], calls: &[u8], head: &[u8], before: &mut [u64], tallies: &mut [u64; 8])
+fn with_ledger(
+    rt: &impl Print,
+    s: &[u8],
+    calls: &[u8],
+    head: &[u8],
+    before: &mut [u64],
+    tallies: &mut [u64; 8],
+) -> io::Result<()>
     requires { 12 ≤ length head.now }
 {
     let n = smaller(smaller(u16_at(head, 4) as usize, s.len()), LONGEST);
@@ -153,6 +166,7 @@ fn with_ledger(s: &[u8], calls: &[u8], head: &[u8], before: &mut [u64], tallies:
     let mut sheet = room();
     copy(&mut sheet, &s[0..n]);
     with_sheet(
+        rt,
         &s[0..n],
         &mut sheet[0..n],
         &s[n..end],
@@ -164,7 +178,12 @@ fn with_ledger(s: &[u8], calls: &[u8], head: &[u8], before: &mut [u64], tallies:
 }
 
 // The ledgers, up to the first that the end of the input cuts
-fn with_ledgers(s: &[u8], before: &mut [u64], tallies: &mut [u64; 8]) {
+fn with_ledgers(
+    rt: &impl Print,
+    s: &[u8],
+    before: &mut [u64],
+    tallies: &mut [u64; 8],
+) -> io::Result<()> {
     let mut at = 0;
     while HEAD <= s.len() - at {
         let record = record_at(s, at, HEAD, CALL);
@@ -172,49 +191,50 @@ fn with_ledgers(s: &[u8], before: &mut [u64], tallies: &mut [u64; 8]) {
         let list = record.list;
         let end = record.end;
         if s.len() < end {
-            return;
+            return Ok(());
         }
         with_ledger(
+            rt,
             &s[start..list],
             &s[list..end],
             &s[at..start],
             before,
             tallies,
-        );
+        )?;
         at = end;
     }
+    Ok(())
 }
 
-fn print(name: &[u8], tallies: &[u64; 8], what: usize)
+fn print(rt: &impl Print, name: &str, tallies: &[u64; 8], what: usize) -> io::Result<()>
     requires { what < 7 }
 {
-    number(name, tallies[what]);
-    number(b" right ", tallies[what + 1]);
-    text(b"\n");
+    number(rt, name, tallies[what])?;
+    number(rt, " right ", tallies[what + 1])?;
+    text(rt, "\n")
 }
 
-fn print_all(tallies: &[u64; 8]) {
-    print(b"openings ", tallies, OPENINGS);
-    print(b"calls ", tallies, CALLS);
-    print(b"words at the end ", tallies, ENDS);
-    print(b"pairs told the same ", tallies, PAIRS);
+fn print_all(rt: &impl Print, tallies: &[u64; 8]) -> io::Result<()> {
+    print(rt, "openings ", tallies, OPENINGS)?;
+    print(rt, "calls ", tallies, CALLS)?;
+    print(rt, "words at the end ", tallies, ENDS)?;
+    print(rt, "pairs told the same ", tallies, PAIRS)
 }
 
 // A ledger that is cut off is missing from the tallies; the count of calls that the input gives shows it.
-fn report(s: &[u8]) {
+fn report(rt: &impl Print, s: &[u8]) -> io::Result<()> {
     if s.len() < COUNT {
-        vectors::print::no_count();
-        return;
+        return vectors::print::no_count(rt);
     }
     let mut before = [0u64; 700];
     let mut tallies = [0u64; 8];
-    with_ledgers(&s[COUNT..], &mut before, &mut tallies);
-    print_all(&tallies);
-    vectors::print::count(tallies[CALLS], u32_at(s, 0), b" calls\n");
+    with_ledgers(rt, &s[COUNT..], &mut before, &mut tallies)?;
+    print_all(rt, &tallies)?;
+    vectors::print::count(rt, tallies[CALLS], u32_at(s, 0), " calls\n")
 }
 
-fn main() {
+fn main(rt: HostRuntime) -> io::Result<()> {
     let mut buffer = vectors::input::buffer();
-    let n = io::read_full(STDIN_FILENO, &mut buffer);
-    report(&buffer[..n]);
+    let n = vectors::input::read_input(&rt, &mut buffer)?;
+    report(&rt, &buffer[..n])
 }

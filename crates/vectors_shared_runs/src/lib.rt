@@ -1,8 +1,11 @@
 // One call of a list that tools/vectors/shared.py wrote, made on a shared ledger and held against what is expected, and its answer as numbers.
+#![tactic(auto)]
+
 ghost use Rattle.std.specs.Prelude.{◌≡◌, ◌≤◌, ◌<◌, length};
 
 use shared_ledger::{RowAnswer, TotalsAnswer};
 use sheet::Check;
+use std::io;
 use vectors::bytes::{LONGEST, copy, room, same_bytes};
 use vectors::input::{u8_at, u16_at, u32_at, u64_at};
 use vectors::print::{number, text};
@@ -147,11 +150,11 @@ fn keep(answers: &mut [u64], slot: usize, answer: &[u64])
 }
 
 // The line of a call that is answered otherwise
-fn print_call(call: u64, asked: u64, found: u64) {
-    number(b"call ", call);
-    number(b" asked ", asked);
-    number(b" is answered ", found);
-    text(b" or leaves something else\n");
+fn print_call(rt: &impl Print, call: u64, asked: u64, found: u64) -> io::Result<()> {
+    number(rt, "call ", call)?;
+    number(rt, " asked ", asked)?;
+    number(rt, " is answered ", found)?;
+    text(rt, " or leaves something else\n")
 }
 
 // Whether an answer is the one that is expected
@@ -164,20 +167,21 @@ fn is_expected(words: &[u64], answer: &[u64], c: &[u8]) -> bool
 
 // Makes a call and keeps its answer. Whether it is the one that is expected
 pub fn call_right(
+    rt: &impl Print,
     sheet: &mut [u8],
     owners: &[u8],
     words: &mut [u64],
     answers: &mut [u64],
     c: &[u8],
     call: u64,
-) -> bool
+) -> io::Result<bool>
     requires { 36 ≤ length c.now }
 {
     let answer = answer_of(sheet, owners, words, c);
     let right = is_expected(words, &answer, c);
     keep(answers, u16_at(c, 34) as usize, &answer);
     if !right {
-        print_call(call, u8_at(c, 0), answer[0]);
+        print_call(rt, call, u8_at(c, 0), answer[0])?;
     }
-    right
+    Ok(right)
 }

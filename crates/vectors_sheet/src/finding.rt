@@ -2,6 +2,7 @@
 ghost use Rattle.std.specs.Prelude.{◌≤◌, length};
 
 use findings::Finding;
+use std::io;
 use vectors::answer::Answer;
 use vectors::input::{u8_at, u16_at, u32_at};
 use vectors::print::number;
@@ -48,14 +49,14 @@ pub fn same(a: Finding, b: Finding) -> bool {
     same_reason(a, b) & same_field(a, b)
 }
 
-pub fn print(f: Finding) {
-    answer_in(f).print();
-    number(b" reason ", f.reason);
-    number(b" index ", f.index);
-    number(b" season ", f.season);
-    number(b" field ", f.at);
-    number(b" size ", f.bytes);
-    number(b" value ", f.value);
-    number(b" least ", f.least);
-    number(b" most ", f.most);
+pub fn print(rt: &impl Print, f: Finding) -> io::Result<()> {
+    answer_in(f).print(rt)?;
+    number(rt, " reason ", f.reason)?;
+    number(rt, " index ", f.index)?;
+    number(rt, " season ", f.season)?;
+    number(rt, " field ", f.at)?;
+    number(rt, " size ", f.bytes)?;
+    number(rt, " value ", f.value)?;
+    number(rt, " least ", f.least)?;
+    number(rt, " most ", f.most)
 }

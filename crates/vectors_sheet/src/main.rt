@@ -2,13 +2,15 @@
 // standard input: how many sheets are to be refused with each number, how many of them the check refuses with it and at
 // its place, and how many the explanation gives the whole finding. Number 0 stands for the sheets to be accepted, whose
 // findings are 0.
+#![tactic(auto)]
+
 ghost use Rattle.std.specs.Prelude.{◌+◌, ◌≤◌, length};
 
 use crate::finding::{answer_in, expected_of};
 use explanation::explain;
 use findings::Finding;
-use libc::STDIN_FILENO;
 use sheet::Check;
+use std::io;
 use vectors::answer::Answer;
 use vectors::input::{COUNT, record_at, u8_at, u16_at, u32_at};
 use vectors::print::{number, text};
@@ -30,7 +32,7 @@ const ROOM: usize = 25257;
 const LAST_NUMBER: u64 = 26;
 
 // How many sheets are checked as given, and how many explained
-#[derive(Drop)]
+#[derive(Clone, Copy)]
 struct Tallies {
     checked: Tally,
     explained: Tally,
@@ -59,33 +61,33 @@ fn answer_of(found: Check) -> Answer {
 
 // Whether the check of a sheet answers with the number and place expected, and a line where it does not; sheets are
 // counted from 1, as tools/vectors/sheets lists them.
-fn checked(sheet: &[u8], expected: Answer, position: u64) -> bool {
+fn checked(rt: &impl Print, sheet: &[u8], expected: Answer, position: u64) -> io::Result<bool> {
     let found = answer_of(checks::check_sheet(sheet));
     let right = found.same(expected);
     if !right {
-        number(b"check of sheet ", position);
-        text(b": expected ");
-        expected.print();
-        text(b", found ");
-        found.print();
-        text(b"\n");
+        number(rt, "check of sheet ", position)?;
+        text(rt, ": expected ")?;
+        expected.print(rt)?;
+        text(rt, ", found ")?;
+        found.print(rt)?;
+        text(rt, "\n")?;
     }
-    right
+    Ok(right)
 }
 
 // Whether the explanation of a sheet is the finding expected, and a line where it is not
-fn explained(sheet: &[u8], expected: Finding, position: u64) -> bool {
+fn explained(rt: &impl Print, sheet: &[u8], expected: Finding, position: u64) -> io::Result<bool> {
     let found = explain(sheet);
     let right = finding::same(found, expected);
     if !right {
-        number(b"explanation of sheet ", position);
-        text(b": expected ");
-        finding::print(expected);
-        text(b", found ");
-        finding::print(found);
-        text(b"\n");
+        number(rt, "explanation of sheet ", position)?;
+        text(rt, ": expected ")?;
+        finding::print(rt, expected)?;
+        text(rt, ", found ")?;
+        finding::print(rt, found)?;
+        text(rt, "\n")?;
     }
-    right
+    Ok(right)
 }
 
 impl Tallies {
@@ -104,28 +106,35 @@ impl Tallies {
     }
 
     // With one sheet more: the first so many of these bytes, with this head
-    fn with_sheet(self, s: &[u8], count: usize, head: &[u8], position: u64) -> Self
+    fn with_sheet(
+        self,
+        rt: &impl Print,
+        s: &[u8],
+        count: usize,
+        head: &[u8],
+        position: u64,
+    ) -> io::Result<Self>
         requires { (count ≤ length s.now) × (29 ≤ length head.now) }
     {
         let expected = expected_of(head);
-        let right = checked(&s[0..count], answer_in(expected), position);
-        let whole = explained(&s[0..count], expected, position);
-        Self {
+        let right = checked(rt, &s[0..count], answer_in(expected), position)?;
+        let whole = explained(rt, &s[0..count], expected, position)?;
+        Ok(Self {
             checked: self.checked.with(Verdict::bare(right)),
             explained: self.explained.with(Verdict::bare(whole)),
-        }
+        })
     }
 
-    fn print(self) {
-        number(b"sheets ", self.checked.tried);
-        number(b" checked as given ", self.checked.right);
-        number(b" explained as given ", self.explained.right);
-        text(b"\n");
+    fn print(self, rt: &impl Print) -> io::Result<()> {
+        number(rt, "sheets ", self.checked.tried)?;
+        number(rt, " checked as given ", self.checked.right)?;
+        number(rt, " explained as given ", self.explained.right)?;
+        text(rt, "\n")
     }
 }
 
 // The sheets of one number, up to the first that the end of the input cuts or that is too long
-fn tallies_of(s: &[u8], number: u64) -> Tallies {
+fn tallies_of(rt: &impl Print, s: &[u8], number: u64) -> io::Result<Tallies> {
     let mut sheet = [0; ROOM];
     let mut tallies = Tallies::none();
     let mut position: u64 = 0;
@@ -135,59 +144,58 @@ fn tallies_of(s: &[u8], number: u64) -> Tallies {
         let start = record.start;
         let end = record.end;
         if s.len() < end {
-            return tallies;
+            return Ok(tallies);
         }
         let from = u16_at(s, at + 2) as usize;
         let count = u16_at(s, at + 4) as usize;
         if ROOM < from + (end - start) {
-            return tallies;
+            return Ok(tallies);
         }
         if ROOM < count {
-            return tallies;
+            return Ok(tallies);
         }
         put(&mut sheet, from, &s[start..end]);
         position = next(position);
         if u8_at(s, at + NUMBER) == number {
-            tallies = tallies.with_sheet(&sheet, count, &s[at..start], position);
+            tallies = tallies.with_sheet(rt, &sheet, count, &s[at..start], position)?;
         }
         at = end;
     }
-    tallies
+    Ok(tallies)
 }
 
-fn print_number(n: u64, tallies: Tallies) {
-    number(b"number ", n);
-    text(b" ");
-    tallies.print();
+fn print_number(rt: &impl Print, n: u64, tallies: Tallies) -> io::Result<()> {
+    number(rt, "number ", n)?;
+    text(rt, " ")?;
+    tallies.print(rt)
 }
 
 // A line for each number, and the tallies of all of them
-fn report_numbers(s: &[u8]) -> Tallies {
+fn report_numbers(rt: &impl Print, s: &[u8]) -> io::Result<Tallies> {
     let mut all = Tallies::none();
     let mut n: u64 = 0;
     while n <= LAST_NUMBER {
-        let tallies = tallies_of(s, n);
-        print_number(n, tallies);
+        let tallies = tallies_of(rt, s, n)?;
+        print_number(rt, n, tallies)?;
         all = all.plus(tallies);
         n += 1;
     }
-    all
+    Ok(all)
 }
 
 // A sheet that is cut off, or whose number is above the last, is missing from the tallies; the count that the input
 // gives shows it.
-fn report(s: &[u8]) {
+fn report(rt: &impl Print, s: &[u8]) -> io::Result<()> {
     if s.len() < COUNT {
-        vectors::print::no_count();
-        return;
+        return vectors::print::no_count(rt);
     }
-    let all = report_numbers(&s[COUNT..]);
-    all.print();
-    vectors::print::count(all.checked.tried, u32_at(s, 0), b"\n");
+    let all = report_numbers(rt, &s[COUNT..])?;
+    all.print(rt)?;
+    vectors::print::count(rt, all.checked.tried, u32_at(s, 0), "\n")
 }
 
-fn main() {
+fn main(rt: HostRuntime) -> io::Result<()> {
     let mut buffer = vectors::input::buffer();
-    let n = io::read_full(STDIN_FILENO, &mut buffer);
-    report(&buffer[..n]);
+    let n = vectors::input::read_input(&rt, &mut buffer)?;
+    report(&rt, &buffer[..n])
 }

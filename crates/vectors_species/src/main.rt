@@ -1,8 +1,10 @@
 // Holds the split of a total among the species against masses that tools/vectors/species.py put into standard input.
+#![tactic(auto)]
+
 ghost use Rattle.std.specs.Prelude.{◌≤◌, length};
 
-use libc::STDIN_FILENO;
 use speciation::split;
+use std::io;
 use vectors::input::u64_at;
 use vectors::print::{number, text};
 use vectors::tally::{Tally, Verdict};
@@ -42,29 +44,30 @@ fn tried(s: &[u8]) -> Tally {
 }
 
 // False where the input is not of the length that it says
-fn report(s: &[u8]) -> bool {
+fn report(rt: &impl Print, s: &[u8]) -> io::Result<bool> {
     if s.len() < HEAD {
-        return false;
+        return Ok(false);
     }
     let count = u64_at(s, 0);
     if MOST < count {
-        return false;
+        return Ok(false);
     }
     let end = HEAD + VECTOR * count as usize;
     if s.len() != end {
-        return false;
+        return Ok(false);
     }
     let tally = tried(&s[HEAD..end]);
-    number(b"totals: ", tally.tried);
-    number(b" split as given ", tally.right);
-    text(b"\n");
-    true
+    number(rt, "totals: ", tally.tried)?;
+    number(rt, " split as given ", tally.right)?;
+    text(rt, "\n")?;
+    Ok(true)
 }
 
-fn main() {
+fn main(rt: HostRuntime) -> io::Result<()> {
     let mut buffer = vectors::input::buffer();
-    let n = io::read_full(STDIN_FILENO, &mut buffer);
-    if !report(&buffer[..n]) {
-        text(b"the input is not of the length that it says\n");
+    let n = vectors::input::read_input(&rt, &mut buffer)?;
+    if !report(&rt, &buffer[..n])? {
+        text(&rt, "the input is not of the length that it says\n")?;
     }
+    Ok(())
 }

@@ -49,7 +49,8 @@ MassTheorem = (s t : List ℕ) (j i n : ℕ) (m : Mechanism) → HigherPressure 
 -- "Its reported high is never below the other's low.": in the reports, as functions of the bytes, which are below 256,
 abbrev pub WordTheorem : Type 0
 WordTheorem = (s t : List ℕ) (j i : ℕ) (m : Mechanism) → ((k : ℕ) → u8_at s k < 256) → ((k : ℕ) → u8_at t k < 256)
-    → HigherPressure s t j → sheet_check s ≡ Pass → sheet_check t ≡ Pass → OpenRow s i → at (report s) (low_place i m) ≤ at (report t) (high_place i m)
+    → HigherPressure s t j → sheet_check s ≡ Pass → sheet_check t ≡ Pass → OpenRow s i
+    → at (report s) (low_place i m) ≤ at (report t) (high_place i m)
 
 -- and in the words that the report call leaves: some buffer held `old`, and the call answered number 0
 pub record Reported (s words : List ℕ) : Type 0 where

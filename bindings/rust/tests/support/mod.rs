@@ -76,7 +76,7 @@ pub fn damaged(of_each: usize) -> Vec<Sample> {
 pub fn printed(program: &str, sheet: &[u8]) -> String {
     let folders = [top().join("bin"), top().join("target/bin")];
     let path = folders.iter().map(|folder| folder.join(program)).find(|path| path.exists());
-    let path = path.unwrap_or_else(|| panic!("no program {program}; rt check {program} makes it"));
+    let path = path.unwrap_or_else(|| panic!("no program {program}; rt ci and bash c/programs make it"));
     let mut run = Command::new(path).stdin(Stdio::piped()).stdout(Stdio::piped()).spawn().expect("it starts");
     run.stdin.take().unwrap().write_all(sheet).expect("it reads the sheet");
     let done = run.wait_with_output().expect("it ends");

@@ -1,0 +1,6 @@
+-- `evaporation::registrations::evp_arrive` meets its contract: what holds of the answer holds of its numbers.
+use Rattle.boundary.proofs.ChangeNumbers.{change-numbers}
+use Rattle.evaporation.proofs.registrations.evp_arrive.Goals as goal
+
+pub returns : goal.returns
+returns c = change-numbers c.arrive.ensures c.check_numbers.ensures

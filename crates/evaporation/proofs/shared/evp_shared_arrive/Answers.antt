@@ -1,0 +1,7 @@
+-- `evaporation::shared::evp_shared_arrive` meets its contract: what holds of the answer holds of its numbers.
+-- Assumes nothing.
+use Rattle.boundary.proofs.SharedNumbers.{shared-numbers}
+use Rattle.evaporation.proofs.shared.evp_shared_arrive.Goals as goal
+
+pub returns : goal.returns
+returns c = shared-numbers c.arrive.ensures c.check_numbers.ensures

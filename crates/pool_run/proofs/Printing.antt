@@ -1,0 +1,157 @@
+-- What the program prints where what it reads and writes is known: told of all bytes of its two sources, though of each it reads only one more than
+-- the longest sheet has.
+-- Assumes nothing.
+use Rattle.std.proofs.Common.{◌≡◌, ℕ, ◌<◌, Bool, true, false, leb, List, [], Option, None, Some, IfSome}
+use Rattle.std.proofs.Common.{refl, ap, sym, ◌∙◌, length, take, take_all, arith, subst}
+use Rattle.std.specs.Io.KnownBytes.{Keeps}
+use Rattle.std.proofs.KnownBytes.{Keeps-refl, Keeps-trans}
+use Rattle.std.proofs.lemmas.Bool.{leb-true, leb-false}
+use Rattle.sheet.specs.declared.Check.{Check}
+use Rattle.sheet.specs.declared.Check.TheVariants.{Pass, Refused}
+use Rattle.sheet.specs.Limits.{longest}
+use Rattle.sheet.specs.Sheet.{sheet_check}
+use Rattle.sheet.proofs.Checks.{then-pass}
+use Rattle.pooling.specs.declared.PoolAnswer.TheVariants.{Accepted}
+use Rattle.pooling.specs.Pool.{pool, region_check, pair_check}
+use Rattle.pooling.specs.PoolCall.{pool_answered, pool_answer}
+use Rattle.program.specs.Printed.{Wrote}
+use Rattle.program.proofs.Overlong.{BothRefused, overlong}
+use Rattle.pool_run.specs.Refusal.{refusal_text, status_of}
+use Rattle.pool_run.specs.Ran.{RefusalPrinted, refusal-printed, refusal-cut}
+use Rattle.pool_run.specs.Ran.{PoolPrinted, pool-printed, pool-cut, refused-printed, none-printed, PoolPrints}
+
+-- ---- after a write
+
+-- of another name for the text, and of whether all of it was taken
+wrote-as : (old new : Option (List ℕ)) (text text' : List ℕ) (all all' : Bool) → text ≡ text' → all ≡ all' → Wrote old new text all
+    → Wrote old new text' all'
+wrote-as old new text text' all all' t e w = subst (λ x. Wrote old new x all') t (subst (λ x. Wrote old new text x) e w)
+
+module _ (a b text : List ℕ) (old new : Option (List ℕ)) (all : Bool) (w : Wrote old new text all) where
+  module _ (asked : (pool_answer a b longest ≡ Accepted) × (text ≡ pool a b)) where
+    pub pool-whole : (err : Option (List ℕ)) → all ≡ true → PoolPrinted a b old new err err 0
+    pool-whole err e = pool-printed asked.0 (wrote-as old new text (pool a b) all true asked.1 e w) (Keeps-refl err)
+
+    pub pool-part : (err err' : Option (List ℕ)) → all ≡ false → PoolPrinted a b old new err err' 2
+    pool-part err err' e = pool-cut asked.0 (wrote-as old new text (pool a b) all false asked.1 e w)
+
+  module _ (asked : (status_of (pool_answer a b longest) ≡ 1) × (text ≡ refusal_text (pool_answer a b longest))) where
+    pub refusal-whole : all ≡ true → RefusalPrinted a b old new 1
+    refusal-whole e = refusal-printed asked.0 (wrote-as old new text _ all true asked.1 e w)
+
+    pub refusal-part : all ≡ false → RefusalPrinted a b old new 2
+    refusal-part e = refusal-cut asked.0 (wrote-as old new text _ all false asked.1 e w)
+
+-- nothing on standard output
+pub refused_only : {a b : List ℕ} {err err' : Option (List ℕ)} {status : ℕ} (out : Option (List ℕ)) → RefusalPrinted a b err err' status
+    → PoolPrinted a b out out err err' status
+refused_only out r = refused-printed _ (Keeps-refl out) r
+
+-- ---- of a writer that kept its bytes before
+
+from_kept : (a b c : Option (List ℕ)) (text : List ℕ) (all : Bool) → Keeps a b → Wrote b c text all → Wrote a c text all
+from_kept None b c text true k w = tt
+from_kept None b c text false k w = (0, tt)
+from_kept (Some x) None c text all k w = absurd k
+from_kept (Some x) (Some y) c text all k w = subst (λ z. Wrote (Some z) c text all) k w
+
+module _ {a b : List ℕ} {e e' e'' : Option (List ℕ)} (k : Keeps e e') where
+  refusal-from_kept : {status : ℕ} → RefusalPrinted a b e' e'' status → RefusalPrinted a b e e'' status
+  refusal-from_kept (refusal-printed s w) = refusal-printed s (from_kept e e' e'' _ true k w)
+  refusal-from_kept (refusal-cut s w) = refusal-cut s (from_kept e e' e'' _ false k w)
+
+  pub printed-from_kept : {o o' : Option (List ℕ)} {status : ℕ} → PoolPrinted a b o o' e' e'' status → PoolPrinted a b o o' e e'' status
+  printed-from_kept (pool-printed p w l) = pool-printed p w (Keeps-trans e e' e'' k l)
+  printed-from_kept (pool-cut p w) = pool-cut p w
+  printed-from_kept (refused-printed s l r) = refused-printed s l (refusal-from_kept r)
+  printed-from_kept (none-printed l) = none-printed l
+
+-- ---- of sheets and of what was read of them
+
+-- t is s, or both are refused alike
+record Front (s t : List ℕ) : Type 0 where
+  region : region_check t ≡ region_check s
+  same : region_check s ≡ Pass → t ≡ s
+
+whole : (s : List ℕ) → Front s s
+whole s = record { region = refl; same = λ e. refl }
+
+too_long : (s t : List ℕ) → BothRefused s t → Front s t
+unfolding region_check
+too_long s t b = record {
+  region = rw (b.mark, b.version, b.first, b.second) refl;
+  same = λ e. let passed : sheet_check s ≡ Pass = (then-pass _ _ (then-pass _ _ e).1).1 in let f = b.first in cc;
+}
+
+-- at most n bytes of a source, where n is more than the longest sheet has
+front : (s : List ℕ) (n : ℕ) → longest < n → Front s (take n s)
+front s n l = go (leb n (length s)) refl
+  where
+    go : (b : Bool) → leb n (length s) ≡ b → Front s (take n s)
+    go true h = too_long s (take n s) (overlong s n l (leb-true n (length s) h))
+    go false h = subst (Front s) (sym (take_all n s (omega (arith, leb-false n (length s) h)))) (whole s)
+
+-- the answers are the same, and where the pool is accepted it is the same
+record SamePool (a b a' b' : List ℕ) : Type 0 where
+  answer : pool_answer a' b' longest ≡ pool_answer a b longest
+  pooled : pool_answer a b longest ≡ Accepted → pool a' b' ≡ pool a b
+
+-- by what is known of the two sheets
+answered-same : (c d : Check) {e e' : Check} → (c ≡ Pass → d ≡ Pass → e' ≡ e) → pool_answered c d e' ≡ pool_answered c d e
+unfolding pool_answered
+answered-same (Refused n p) d h = refl
+answered-same Pass (Refused n p) h = refl
+answered-same Pass Pass h = ap (pool_answered Pass Pass) (h refl refl)
+
+accepted-passes : (c d e : Check) → pool_answered c d e ≡ Accepted → (c ≡ Pass) × (d ≡ Pass)
+unfolding pool_answered
+accepted-passes (Refused n p) d e h = cc
+accepted-passes Pass (Refused n p) e h = cc
+accepted-passes Pass Pass e h = (refl, refl)
+
+same_pool : {a b a' b' : List ℕ} → Front a a' → Front b b' → SamePool a b a' b'
+unfolding pool_answer
+same_pool {a} {b} {a'} {b'} f g = record {
+  answer = rw (f.region, g.region) (answered-same (region_check a) (region_check b) (λ p q. rw (f.same p, g.same q) refl));
+  pooled = λ e. let (p, q) = accepted-passes (region_check a) (region_check b) (pair_check a b longest) e in rw (f.same p, g.same q) refl;
+}
+
+module _ {a b a' b' : List ℕ} (s : SamePool a b a' b') where
+  refusal-same : {old new : Option (List ℕ)} {status : ℕ} → RefusalPrinted a' b' old new status → RefusalPrinted a b old new status
+  refusal-same {old} {new} (refusal-printed e w) =
+      refusal-printed (ap status_of (sym s.answer) ∙ e) (subst (λ x. Wrote old new (refusal_text x) true) s.answer w)
+  refusal-same {old} {new} (refusal-cut e w) =
+      refusal-cut (ap status_of (sym s.answer) ∙ e) (subst (λ x. Wrote old new (refusal_text x) false) s.answer w)
+
+  printed-same : {o o' e e' : Option (List ℕ)} {status : ℕ} → PoolPrinted a' b' o o' e e' status → PoolPrinted a b o o' e e' status
+  printed-same {o} {o'} (pool-printed p w k) =
+      let q = sym s.answer ∙ p in
+      pool-printed q (subst (λ x. Wrote o o' x true) (s.pooled q) w) k
+  printed-same {o} {o'} (pool-cut p w) = let q = sym s.answer ∙ p in pool-cut q (subst (λ x. Wrote o o' x false) (s.pooled q) w)
+  printed-same (refused-printed status k r) = refused-printed status k (refusal-same r)
+  printed-same (none-printed k) = none-printed k
+
+-- what was read of a source whose bytes may be known
+read-of : (source : Option (List ℕ)) (t : List ℕ) → IfSome source (λ bytes. t ≡ take 25257 bytes)
+    → (s : List ℕ) × IfSome source (λ bytes. s ≡ bytes) × Front s t
+read-of None t h = (t, tt, whole t)
+read-of (Some bytes) t h = (bytes, refl, subst (Front bytes) (sym h) (front bytes 25257 (omega arith)))
+
+-- after both were read and answered
+pub prints : (first second : Option (List ℕ)) {a b : List ℕ} {o o' e e' : Option (List ℕ)} {status : ℕ} → IfSome first (λ bytes. a ≡ take 25257 bytes)
+    → IfSome second (λ bytes. b ≡ take 25257 bytes) → PoolPrinted a b o o' e e' status → PoolPrints first second o o' e e' status
+prints first second {a} {b} h g p =
+    let (s, is, f) = read-of first a h in
+    let (t, it, k) = read-of second b g in
+    (s, t, is, it, printed-same (same_pool f k) p)
+
+-- after one could not be read
+known : (source : Option (List ℕ)) → (s : List ℕ) × IfSome source (λ bytes. s ≡ bytes)
+known None = ([], tt)
+known (Some bytes) = (bytes, refl)
+
+pub unread_prints : (first second : Option (List ℕ)) {o e e' : Option (List ℕ)} → PoolPrints first second o o e e' 2
+unread_prints first second {o} =
+    let (s, is) = known first in
+    let (t, it) = known second in
+    (s, t, is, it, none-printed (Keeps-refl o))

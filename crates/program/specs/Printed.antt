@@ -1,0 +1,26 @@
+-- What is known of the bytes that a program reads and writes where a reader's or a writer's bytes are known. Definitions only.
+--
+-- A program is proved for every reader and every writer. Of the system's own streams no contract says what bytes they have: for these see
+-- `Reads` and `Writes`. Of a reader or a writer over memory it does, and what holds of each such one is what is meant of those.
+use Rattle.std.specs.Prelude.{Bool, true, false, List, ◌≡◌, ℕ, length, take, IfSome, ◌⊎◌, Option}
+use Rattle.std.specs.Io.KnownBytes.{Appends}
+use Rattle.program.specs.Ends.{sheet_status}
+
+-- the n bytes at the front of the buffer are those of the source, all of them, or as many as the buffer holds
+abbrev pub Takes : List ℕ → List ℕ → List ℕ → ℕ → Type 0
+Takes source before buffer n = take n buffer ≡ take (length before) source
+
+-- a writer has more than before: all of a text, or a front of it
+abbrev pub Wrote : Option (List ℕ) → Option (List ℕ) → List ℕ → Bool → Type 0
+Wrote old new text true = Appends old new text
+Wrote old new text false = (k : ℕ) × Appends old new (take k text)
+
+-- After a sheet was answered with a text: the writer has more just this text, all of it and once, and the exit status is that of the sheet; or
+-- it has a front of the text, and the status is 2.
+abbrev pub SheetPrinted : List ℕ → List ℕ → Option (List ℕ) → Option (List ℕ) → ℕ → Type 0
+SheetPrinted s text old new status = ((status ≡ sheet_status s) × Wrote old new text true) ⊎ ((status ≡ 2) × Wrote old new text false)
+
+-- After a program that answers one sheet, of all bytes of its source.
+abbrev pub Prints : (List ℕ → List ℕ) → Option (List ℕ) → Option (List ℕ) → Option (List ℕ) → ℕ → Type 0
+Prints text_of source old new status =
+    (s : List ℕ) × IfSome source (λ bytes. s ≡ bytes) × SheetPrinted s (text_of s) old new status

@@ -1,0 +1,18 @@
+-- `row_factors::escapes::car` meets its contract: without canister, each escape is the vapour of a mean rise.
+use native.Mathlib.Omega.{arith}
+use Rattle.row_factors.proofs.Escaping.{open-needs, open-car}
+use Rattle.row_factors.proofs.escapes.car.Goals as goal
+
+pub open_escapes-requires : goal.open_escapes-requires
+open_escapes-requires c =
+    let r = c.requires in
+    let m = r.lent.means-are in
+    open-needs r c.gain-vapour.ensures.0 45 60 10 50 (omega arith) (omega arith) (omega arith) (omega arith)
+    m.start45-is m.start60-is m.end10-is m.end50-is
+
+pub returns-then-halves-eq0 : goal.returns-then-halves-eq0
+returns-then-halves-eq0 c =
+    open-car c.requires c.gain-vapour.ensures.0 (omega (arith, c.if-halves-eq0.true, c.halves.ensures.0)) c.open_escapes.ensures
+
+pub gain-vapour-requires : goal.gain-vapour-requires
+gain-vapour-requires c = let r = c.requires in (r.lent.tables-are, r.lent.day-ready.season-in, r.row_in)

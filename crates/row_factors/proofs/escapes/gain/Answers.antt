@@ -1,0 +1,43 @@
+-- `row_factors::escapes::gain` meets its contract: the product of 150,000 and an exponential fits.
+use mathlib.Core.Path.{◌≡◌, ◌∙◌, ap}
+use Prim.Native.Nat.{ℕ, ◌+◌, ◌*◌, ◌-◌, ◌/◌, ◌^◌, ◌≤◌}
+use native.Mathlib.Omega.{arith}
+use native.Mathlib.Nat.{mul-le-mul, le_of_lt}
+use Rattle.sheet.specs.Limits.{percent_limit, tank_limit}
+use Rattle.bounds.specs.Exponential.{exponential}
+use Rattle.factors.specs.Units.{gain}
+use Rattle.factors.proofs.Gain.{gain-most}
+use Rattle.row_factors.proofs.escapes.gain.Goals as goal
+
+-- times E(0.0205·vp)
+product : (c : goal.After-exponential)
+    → (100 - c.args.row.fill) * c.args.row.tank *
+    c.exponential.result ≤ 150000 * 2 ^ 46
+product c =
+    let share : (100 - c.args.row.fill) * c.args.row.tank ≤ percent_limit * tank_limit =
+    mul-le-mul {n₂ = percent_limit} {m₂ = tank_limit} (omega arith) c.requires.2.tank-most in
+    mul-le-mul {n₂ = 150000} {m₂ = 2 ^ 46} share (le_of_lt c.exponential.ensures.1)
+
+-- the result is the gain
+same : (c : goal.After-exponential)
+    → (100 - c.args.row.fill) * c.args.row.tank *
+    c.exponential.result / 40000 ≡ gain c.args.season
+    c.args.row
+unfolding gain
+same c =
+    let a = c.args in
+    ap (λ (e : ℕ). (100 - a.row.fill) * a.row.tank * e / 40000)
+    (c.exponential.ensures.0 ∙ ap exponential {y = 205 * a.season.vp * 10 ^ 9 + 16 * 10 ^ 14} (omega arith))
+
+pub returns : goal.returns
+returns c =
+    (same c, rw (same c) (gain-most c.requires.1 c.requires.2))
+
+pub overflow_mul-result : goal.overflow_mul-result
+overflow_mul-result c =
+    let share : (100 - c.args.row.fill) * c.args.row.tank ≤ percent_limit * tank_limit =
+    mul-le-mul {n₂ = percent_limit} {m₂ = tank_limit} (omega arith) c.requires.2.tank-most in
+    omega (arith, share)
+
+pub overflow_mul-result-2 : goal.overflow_mul-result-2
+overflow_mul-result-2 c = omega (arith, product c)

@@ -1,0 +1,7 @@
+-- `vectors_map::nan_pattern` meets its contract.
+use lib.Ieee.{nan_bits}
+use Rattle.vectors_map.proofs.nan_pattern.Goals as goal
+
+pub returns : goal.returns
+unfolding nan_bits
+returns c = cc
