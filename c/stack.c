@@ -1,6 +1,6 @@
 /* How much of its stack a call takes. Every call is made on the largest sheets of each version, each in a thread whose
  * stack has EVP_STACK_BYTES and no byte more, filled with a pattern before; what the pattern lost is printed. The exit
- * status is 0 only where each call is answered and has left an eighth of the stack untouched. */
+ * status is 0 only where each call is answered and has left a quarter of the stack untouched. */
 #include <inttypes.h>
 #include <pthread.h>
 #include <stdio.h>
@@ -52,7 +52,7 @@ static size_t most_of(unsigned version, int *failures) {
     for (size_t i = 0; i < CALLS; i++) {
         const size_t taken = stack_of(i);
         printf("version %u %-20s %6zu bytes of stack, answer %" PRIu64 "\n", version, calls[i].name, taken, number);
-        *failures += number != 0 || taken > EVP_STACK_BYTES / 8 * 7;
+        *failures += number != 0 || taken > EVP_STACK_BYTES / 4 * 3;
         most = taken > most ? taken : most;
     }
     return most;

@@ -11,7 +11,7 @@ use crate::bands::put_bands;
 use bounds::exp::{ExpTables, tables};
 use checks::check_sheet;
 use fields::{row_at, rows_of, season_at, seasons_of};
-use row_factors::season::prepare;
+use row_factors::season::at_season;
 use row_factors::units::row_units;
 use sheet::Check;
 use sheet_factors::kept::rows_kept;
@@ -33,12 +33,12 @@ fn season_factors(
         × RowsKept s.now kept.now }
     ensures { words.new ≡ season_factors s.now j }
 {
-    let prepared = prepare(tables, grid, season_at(s, j), true);
-    let at = prepared.at;
+    let mut list = [0u64; 1732];
+    let at = at_season(tables, grid, season_at(s, j), true, &mut list);
     let rows = rows_of(s);
     let mut i: usize = 0;
     while i < rows {
-        let units = row_units(tables, grid, &prepared.list, at, row_at(s, i), kept[i]);
+        let units = row_units(tables, grid, &list, at, row_at(s, i), kept[i]);
         put_bands(words, BAND_WORDS * i, units);
         i += 1;
     }

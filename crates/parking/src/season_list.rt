@@ -71,29 +71,29 @@ fn entry_part(
     if k < LENGTH { counts[k - COUNTS] } else { len }
 }
 
-// The parts one after another.
-fn entries_joined(
+// The parts are written one after another.
+fn join_entries(
     starts: &[u64; 577],
     rises: &[u64; 577],
     counts: &[u64; 577],
     len: u64,
-) -> [u64; 1732]
+    out: &mut [u64; 1732],
+)
     requires { (length starts.now ≡ 577) × (length rises.now ≡ 577) × (length counts.now ≡ 577) }
-    ensures { result ≡ starts.now ++ (rises.now ++ (counts.now ++ (len ∷ []))) }
+    ensures { out.new ≡ starts.now ++ (rises.now ++ (counts.now ++ (len ∷ []))) }
 {
-    let mut out = [0u64; 1732];
     let mut k: usize = 0;
     while k < 1732 {
         out[k] = entry_part(starts, rises, counts, len, k);
         k += 1;
     }
-    out
 }
 
-// The list of a season, from the grid and the rises of its parkings. `last` says where to look for an entry; nothing has to be known of it.
-pub fn list_of(grid: &[u64; 627], rises: &[u64; 576]) -> [u64; 1732]
+// The list of a season, from the grid and the rises of its parkings, is written where it is wanted. `last` says where to look for an
+// entry; nothing has to be known of it.
+pub fn write_list(grid: &[u64; 627], rises: &[u64; 576], out: &mut [u64; 1732])
     requires { GridReady grid.now }
-    ensures { ListReady (cells_in grid.now) rises.now result }
+    ensures { ListReady (cells_in grid.now) rises.now out.new }
 {
     let mut starts = [0u64; 577];
     let mut values = [0u64; 577];
@@ -116,5 +116,15 @@ pub fn list_of(grid: &[u64; 627], rises: &[u64; 576]) -> [u64; 1732]
         len = grown(place, len);
         cell += 1;
     }
-    entries_joined(&starts, &values, &counts, len as u64)
+    join_entries(&starts, &values, &counts, len as u64, out);
+}
+
+// The same list as a value.
+pub fn list_of(grid: &[u64; 627], rises: &[u64; 576]) -> [u64; 1732]
+    requires { GridReady grid.now }
+    ensures { ListReady (cells_in grid.now) rises.now result }
+{
+    let mut out = [0u64; 1732];
+    write_list(grid, rises, &mut out);
+    out
 }

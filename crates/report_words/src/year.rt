@@ -11,7 +11,7 @@ ghost use Rattle.report_words.specs.Years.{RowsHold, SumsFit, SeasonFits, days_a
 use bounds::exp::{ExpTables, tables};
 use fields::{row_at, rows_of, season_at, seasons_of};
 use masses::figures::row_figures;
-use row_factors::season::prepare;
+use row_factors::season::at_season;
 use sheet_factors::kept::rows_kept;
 use sheet_factors::parkings::sheet_grid;
 
@@ -53,13 +53,13 @@ pub fn add_season(
     ensures { words.new ≡ filled (season_added s.now (season_at s.now j) words.old)
         (6 * rows_of s.now) words.old }
 {
-    let prepared = prepare(tables, grid, season_at(s, j), true);
-    let at = prepared.at;
+    let mut list = [0u64; 1732];
+    let at = at_season(tables, grid, season_at(s, j), true, &mut list);
     let season = at.season;
     let rows = rows_of(s);
     let mut i: usize = 0;
     while i < rows {
-        let figures = row_figures(tables, grid, &prepared.list, at, row_at(s, i), kept[i]);
+        let figures = row_figures(tables, grid, &list, at, row_at(s, i), kept[i]);
         add_days(words, 6 * i, season.days, figures);
         i += 1;
     }

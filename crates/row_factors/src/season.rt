@@ -13,7 +13,7 @@ use breakthrough::curves::{bases, growths};
 use exact::Season;
 use marks::{MarkValues, Marks, at_marks, by_distance};
 use parking::means::{mean_by_cell, mean_by_mark};
-use parking::season_list::list_of;
+use parking::season_list::write_list;
 use parking::walk::{halved, rises, walk};
 
 // Means over the cells, in units of 2^-28.
@@ -119,34 +119,49 @@ fn means_of(grid: &[u64; 627], rises: &[u64; 576], season: Season, values: MarkV
     }
 }
 
-// The list of a season's parkings where a row with a canister is to read it. Without one nothing does, and none is made.
-fn list_where(grid: &[u64; 627], rises: &[u64; 576], read: bool) -> [u64; 1732]
+// The list of a season's parkings where a row with a canister is to read it. Without one nothing does, and none is written.
+fn list_where(grid: &[u64; 627], rises: &[u64; 576], read: bool, list: &mut [u64; 1732])
     requires { GridReady grid.now }
-    ensures { read ≡ true → ListReady (cells_in grid.now) rises.now result }
+    ensures { read ≡ true → ListReady (cells_in grid.now) rises.now list.new }
 {
     if read {
-        return list_of(grid, rises);
+        write_list(grid, rises, list);
     }
-    [0u64; 1732]
 }
 
-// All that the rows of a season share, made once.
+// A season as the functions of its rows have it, made once for all of them; the list of its parkings is written where it is wanted.
+pub fn at_season(
+    tables: &ExpTables,
+    grid: &[u64; 627],
+    season: Season,
+    canisters: bool,
+    list: &mut [u64; 1732],
+) -> AtSeason
+    requires { (tables.now ≡ entries) × GridReady grid.now × SeasonInRange season }
+    ensures { (result.season ≡ season) × Lent tables.now grid.now result
+        × (canisters ≡ true → ListReady (cells_in grid.now) (rises_of season) list.new) }
+{
+    let values = at_marks(tables, season);
+    let rises = rises(&values.step);
+    list_where(grid, &rises, canisters, list);
+    let day = day_of(season, values);
+    let means = means_of(grid, &rises, season, values);
+    let marks = values.marks;
+    AtSeason {
+        season,
+        marks,
+        day,
+        means,
+    }
+}
+
+// The same with its list as one value.
 pub fn prepare(tables: &ExpTables, grid: &[u64; 627], season: Season, canisters: bool) -> Prepared
     requires { (tables.now ≡ entries) × GridReady grid.now × SeasonInRange season }
     ensures { (result.at.season ≡ season) × Lent tables.now grid.now result.at
         × (canisters ≡ true → ListReady (cells_in grid.now) (rises_of season) result.list) }
 {
-    let values = at_marks(tables, season);
-    let rises = rises(&values.step);
-    let list = list_where(grid, &rises, canisters);
-    let day = day_of(season, values);
-    let means = means_of(grid, &rises, season, values);
-    let marks = values.marks;
-    let at = AtSeason {
-        season,
-        marks,
-        day,
-        means,
-    };
+    let mut list = [0u64; 1732];
+    let at = at_season(tables, grid, season, canisters, &mut list);
     Prepared { list, at }
 }

@@ -13,7 +13,7 @@ use crate::parkings::sheet_grid;
 use bounds::exp::{ExpTables, tables};
 use fields::classes::halves;
 use fields::{row_at, season_at};
-use row_factors::season::prepare;
+use row_factors::season::at_season;
 use row_factors::units::row_units;
 
 // With the tables, the grid and what the row's canister keeps of its load, in units of 2^-28 g.
@@ -31,8 +31,10 @@ pub fn units_with(
 {
     let row = row_at(s, row);
     let canister = row.canister;
-    let prepared = prepare(tables, grid, season_at(s, season), 0 < halves(canister));
-    row_units(tables, grid, &prepared.list, prepared.at, row, kept)
+    let mut list = [0u64; 1732];
+    let breathes = 0 < halves(canister);
+    let at = at_season(tables, grid, season_at(s, season), breathes, &mut list);
+    row_units(tables, grid, &list, at, row, kept)
 }
 
 // The same from the sheet alone.

@@ -20,16 +20,16 @@ row_units-units-requires c =
     -- each element of the sheet is a byte
     let bytes : Bytes c.args.s.now = record { byte = λ k. (c.type_inv.s k).fits } in
     -- it is season j, prepared for the rows of the sheet
-    let season-is : let x = c.args in c.prepare-prepared.result.at.season ≡ season_at x.s.now x.j =
-    rw c.season_at.ensures.0 at c.prepare-prepared.ensures.0 in
-    let ready : let x = c.args in SeasonLent x.s.now x.tables.now x.grid.now c.prepare-prepared.result.at = let p = c.requires in
-    season-lent bytes p.0 p.1 season-is c.prepare-prepared.ensures.1 in
+    let season-is : let x = c.args in c.at_season-at.result.season ≡ season_at x.s.now x.j =
+    rw c.season_at.ensures.0 at c.at_season-at.ensures.0 in
+    let ready : let x = c.args in SeasonLent x.s.now x.tables.now x.grid.now c.at_season-at.result = let p = c.requires in
+    season-lent bytes p.0 p.1 season-is c.at_season-at.ensures.1 in
     -- it is a row of the sheet
     let there : c.loop-i.i < rows_of c.args.s.now = omega (arith, c.loop-i-test.true, c.rows_of-rows.ensures.0) in
     rw c.row_at.ensures.0 (
       ready.lent,
       ready.rows_in _ there,
-      record { ready = λ h. rw c.prepare-prepared.ensures.0 (c.prepare-prepared.ensures.2 refl) },
+      record { ready = λ h. rw c.at_season-at.ensures.0 (c.at_season-at.ensures.2 refl) },
       c.requires.3.kept_of _ there,
     )
 
@@ -38,10 +38,10 @@ put_bands-requires c =
     -- each element of the sheet is a byte
     let bytes : Bytes c.args.s.now = record { byte = λ k. (c.type_inv.s k).fits } in
     -- it is season j, prepared for the rows of the sheet
-    let season-is : let x = c.args in c.prepare-prepared.result.at.season ≡ season_at x.s.now x.j =
-    rw c.season_at.ensures.0 at c.prepare-prepared.ensures.0 in
-    let ready : let x = c.args in SeasonLent x.s.now x.tables.now x.grid.now c.prepare-prepared.result.at = let p = c.requires in
-    season-lent bytes p.0 p.1 season-is c.prepare-prepared.ensures.1 in
+    let season-is : let x = c.args in c.at_season-at.result.season ≡ season_at x.s.now x.j =
+    rw c.season_at.ensures.0 at c.at_season-at.ensures.0 in
+    let ready : let x = c.args in SeasonLent x.s.now x.tables.now x.grid.now c.at_season-at.result = let p = c.requires in
+    season-lent bytes p.0 p.1 season-is c.at_season-at.ensures.1 in
     -- it is a row of the sheet
     let there : c.loop-i.i < rows_of c.args.s.now = omega (arith, c.loop-i-test.true, c.rows_of-rows.ensures.0) in (
       omega (arith, there, c.loop-i.invariant.1, c.requires.2),
@@ -52,8 +52,8 @@ put_bands-requires c =
 pub loop-i-preserved : goal.loop-i-preserved
 loop-i-preserved c =
     -- it is season j, prepared for the rows of the sheet
-    let season-is : let x = c.args in c.prepare-prepared.result.at.season ≡ season_at x.s.now x.j =
-    rw c.season_at.ensures.0 at c.prepare-prepared.ensures.0 in
+    let season-is : let x = c.args in c.at_season-at.result.season ≡ season_at x.s.now x.j =
+    rw c.season_at.ensures.0 at c.at_season-at.ensures.0 in
     -- it is a row of the sheet
     let there : c.loop-i.i < rows_of c.args.s.now = omega (arith, c.loop-i-test.true, c.rows_of-rows.ensures.0) in
     -- the factors of row i
@@ -77,8 +77,8 @@ returns c =
 pub season_at-requires : goal.season_at-requires
 season_at-requires c = let p = c.requires in season-there _ p.0.passes p.1
 
-pub prepare-prepared-requires : goal.prepare-prepared-requires
-prepare-prepared-requires c =
+pub at_season-at-requires : goal.at_season-at-requires
+at_season-at-requires c =
     -- each element of the sheet is a byte
     let bytes : Bytes c.args.s.now = record { byte = λ k. (c.type_inv.s k).fits } in
     let in-range : SeasonInRange c.season_at.result =

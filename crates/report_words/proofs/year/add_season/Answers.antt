@@ -33,10 +33,10 @@ same-fits e h = rw e h
 pub row_figures-figures-requires : goal.row_figures-figures-requires
 row_figures-figures-requires c =
     let bytes : Bytes c.args.s.now = record { byte = λ k. (c.shared_slice_known-1.given k).fits } in
-    let season-is : let x = c.args in c.prepare-prepared.result.at.season ≡ season_at x.s.now x.j =
-    rw c.season_at.ensures.0 at c.prepare-prepared.ensures.0 in
-    let ready : let x = c.args in SeasonLent x.s.now x.tables.now x.grid.now c.prepare-prepared.result.at = let p = c.requires in
-    season-lent bytes p.0 p.1 season-is c.prepare-prepared.ensures.1 in
+    let season-is : let x = c.args in c.at_season-at.result.season ≡ season_at x.s.now x.j =
+    rw c.season_at.ensures.0 at c.at_season-at.ensures.0 in
+    let ready : let x = c.args in SeasonLent x.s.now x.tables.now x.grid.now c.at_season-at.result = let p = c.requires in
+    season-lent bytes p.0 p.1 season-is c.at_season-at.ensures.1 in
     let there = c.loop-i-test.true in
     let a = accepted c.args.s.now c.requires.0.passes in
     rw c.row_at.ensures.0 (
@@ -44,7 +44,7 @@ row_figures-figures-requires c =
       ready.rows_in _ (omega (arith, there, c.rows_of-rows.ensures.0)),
       use-in-range a (omega (arith, there, c.rows_of-rows.ensures.0)),
       record {
-        ready = λ h. rw c.prepare-prepared.ensures.0 (c.prepare-prepared.ensures.2 refl);
+        ready = λ h. rw c.at_season-at.ensures.0 (c.at_season-at.ensures.2 refl);
       },
       c.requires.4.kept_of _ (omega (arith, there, c.rows_of-rows.ensures.0)),
     )
@@ -52,10 +52,10 @@ row_figures-figures-requires c =
 -- the words of all rows fit with it
 pub add_days-requires : goal.add_days-requires
 add_days-requires c =
-    let season-is : let x = c.args in c.prepare-prepared.result.at.season ≡ season_at x.s.now x.j =
-    rw c.season_at.ensures.0 at c.prepare-prepared.ensures.0 in
+    let season-is : let x = c.args in c.at_season-at.result.season ≡ season_at x.s.now x.j =
+    rw c.season_at.ensures.0 at c.at_season-at.ensures.0 in
     let figures : let x = c.args in
-    c.row_figures-figures.result ≡ day_figures (cells_of x.s.now) c.prepare-prepared.result.at.season (row_at x.s.now c.loop-i.i) =
+    c.row_figures-figures.result ≡ day_figures (cells_of x.s.now) c.at_season-at.result.season (row_at x.s.now c.loop-i.i) =
     c.row_figures-figures.ensures ∙ alike _ c.row_at.ensures.0 c.requires.0.cells_are in
     let l = c.loop-i in
     let x = c.args in
@@ -69,7 +69,7 @@ add_days-requires c =
 pub loop-i-preserved : goal.loop-i-preserved
 loop-i-preserved c =
     let figures : let x = c.args in
-    c.row_figures-figures.result ≡ day_figures (cells_of x.s.now) c.prepare-prepared.result.at.season (row_at x.s.now c.loop-i.i) =
+    c.row_figures-figures.result ≡ day_figures (cells_of x.s.now) c.at_season-at.result.season (row_at x.s.now c.loop-i.i) =
     c.row_figures-figures.ensures ∙ alike _ c.row_at.ensures.0 c.requires.0.cells_are in
     let l = c.loop-i in
     let x = c.args in
@@ -82,8 +82,8 @@ loop-i-preserved c =
 
 pub returns : goal.returns
 returns c =
-    let season-is : let x = c.args in c.prepare-prepared.result.at.season ≡ season_at x.s.now x.j =
-    rw c.season_at.ensures.0 at c.prepare-prepared.ensures.0 in
+    let season-is : let x = c.args in c.at_season-at.result.season ≡ season_at x.s.now x.j =
+    rw c.season_at.ensures.0 at c.at_season-at.ensures.0 in
     let l = c.loop-i in
     let x = c.args in
     l.invariant.2 ∙ filled-all _ _ _ _ (omega (arith, c.rows_of-rows.ensures.0)) (omega (arith, c.rows_of-rows.ensures.0)) ∙
@@ -92,8 +92,8 @@ returns c =
 pub season_at-requires : goal.season_at-requires
 season_at-requires c = let p = c.requires in season-there _ p.0.passes p.1
 
-pub prepare-prepared-requires : goal.prepare-prepared-requires
-prepare-prepared-requires c =
+pub at_season-at-requires : goal.at_season-at-requires
+at_season-at-requires c =
     let bytes : Bytes c.args.s.now = record { byte = λ k. (c.shared_slice_known-1.given k).fits } in
     let in-range : SeasonInRange c.season_at.result =
     rw c.season_at.ensures.0 (((accepted c.args.s.now c.requires.0.passes).season _ c.requires.1).in-range bytes) in

@@ -4,7 +4,7 @@ use mathlib.Core.Path.{sym, ◌∙◌}
 use Rattle.row_factors.proofs.season.list_where.Goals as goal
 
 pub returns-then-read : goal.returns-then-read
-returns-then-read c = λ read. c.list_of.ensures
+returns-then-read c = λ read. c.write_list.ensures
 
-pub returns : goal.returns
-returns c = λ read. absurd (true≢false (sym read ∙ c.if-read.false))
+pub returns-else-read : goal.returns-else-read
+returns-else-read c = λ read. absurd (true≢false (sym read ∙ c.if-read.false))

@@ -14,17 +14,17 @@ use Rattle.sheet_factors.proofs.factors_at.units_with.Goals as goal
 pub row_units-requires : goal.row_units-requires
 row_units-requires c =
     let bytes : Bytes c.args.s.now = record { byte = λ k. (c.shared_slice_known-1.given k).fits } in
-    let ready : let x = c.args in SeasonLent x.s.now x.tables.now x.grid.now c.prepare-prepared.result.at = let p = c.requires in
-    let same = rw c.season_at.ensures.0 at c.prepare-prepared.ensures.0 in
-    season-lent bytes p.0 p.1 same c.prepare-prepared.ensures.1 in
+    let ready : let x = c.args in SeasonLent x.s.now x.tables.now x.grid.now c.at_season-at.result = let p = c.requires in
+    let same = rw c.season_at.ensures.0 at c.at_season-at.ensures.0 in
+    season-lent bytes p.0 p.1 same c.at_season-at.ensures.1 in
     let p = c.requires in
     let same = c.row_at-row.ensures.0 in (
       ready.lent,
       rw same (ready.rows_in _ p.2),
       record {
         ready = λ some.
-            let fitted : 0 < c.halves.result = omega (arith, some, c.halves.ensures) in
-            rw c.prepare-prepared.ensures.0 (c.prepare-prepared.ensures.2 (lt-ltb 0 _ fitted));
+            let fitted : 0 < c.halves-breathes.result = omega (arith, some, c.halves-breathes.ensures) in
+            rw c.at_season-at.ensures.0 (c.at_season-at.ensures.2 (lt-ltb 0 _ fitted));
       },
       rw same p.3,
     )
@@ -32,13 +32,13 @@ row_units-requires c =
 pub returns : goal.returns
 returns c =
     let bytes : Bytes c.args.s.now = record { byte = λ k. (c.shared_slice_known-1.given k).fits } in
-    let ready : let x = c.args in SeasonLent x.s.now x.tables.now x.grid.now c.prepare-prepared.result.at = let p = c.requires in
-    let same = rw c.season_at.ensures.0 at c.prepare-prepared.ensures.0 in
-    season-lent bytes p.0 p.1 same c.prepare-prepared.ensures.1 in
+    let ready : let x = c.args in SeasonLent x.s.now x.tables.now x.grid.now c.at_season-at.result = let p = c.requires in
+    let same = rw c.season_at.ensures.0 at c.at_season-at.ensures.0 in
+    season-lent bytes p.0 p.1 same c.at_season-at.ensures.1 in
     let p = c.requires in
     let found = c.row_at-row.ensures.0 in
     let e = c.row_units.ensures in
-    let same = e ∙ alike (c.prepare-prepared.ensures.0 ∙ c.season_at.ensures.0) found p.0.cells_are in
+    let same = e ∙ alike (c.at_season-at.ensures.0 ∙ c.season_at.ensures.0) found p.0.cells_are in
     (same, rw e (units-in-range ready.lent.day-ready.season-in (rw found (ready.rows_in _ p.2)) _))
 
 pub row_at-row-requires : goal.row_at-row-requires
@@ -47,8 +47,8 @@ row_at-row-requires c = row-there _ c.requires.0.passes c.requires.2
 pub season_at-requires : goal.season_at-requires
 season_at-requires c = let p = c.requires in season-there _ p.0.passes p.1
 
-pub prepare-prepared-requires : goal.prepare-prepared-requires
-prepare-prepared-requires c =
+pub at_season-at-requires : goal.at_season-at-requires
+at_season-at-requires c =
     let bytes : Bytes c.args.s.now = record { byte = λ k. (c.shared_slice_known-1.given k).fits } in
     let in-range : SeasonInRange c.season_at.result =
     rw c.season_at.ensures.0 (((accepted c.args.s.now c.requires.0.passes).season _ c.requires.1).in-range bytes) in

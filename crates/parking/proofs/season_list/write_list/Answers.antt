@@ -1,4 +1,4 @@
--- `parking::season_list::list_of` meets its contract: the first cells are counted.
+-- `parking::season_list::write_list` meets its contract: the first cells are counted.
 use mathlib.Core.Bool.{false}
 use mathlib.Core.Path.{◌≡◌, sym, ◌∙◌, ap}
 use Prim.Native.Nat.{ℕ, ◌≤◌, ◌<◌}
@@ -12,7 +12,7 @@ use Rattle.parking.proofs.Tally.{cell-is}
 use Rattle.parking.proofs.Counted.{same, slot, blank-most, set-most}
 use Rattle.parking.proofs.Counted.{counted_none, counted_next, place-most, counted-most, counted-all}
 use Rattle.parking.proofs.CountedRises.{counted_rises, counted_rises-at, counted_ready}
-use Rattle.parking.proofs.season_list.list_of.Goals as goal
+use Rattle.parking.proofs.season_list.write_list.Goals as goal
 
 -- the sum fits
 pub overflow_add-counts : goal.overflow_add-counts
@@ -202,10 +202,10 @@ pub grown-len-requires : goal.grown-len-requires
 grown-len-requires c =
     omega (arith, c.loop-cell.invariant.1.few, c.loop-cell-test.true)
 
-pub entries_joined-requires : goal.entries_joined-requires
-entries_joined-requires c = let i = c.loop-cell.invariant.1 in (i.long-starts, i.long-values, i.long-counts)
+pub join_entries-requires : goal.join_entries-requires
+join_entries-requires c = let i = c.loop-cell.invariant.1 in (i.long-starts, i.long-values, i.long-counts)
 
 pub returns : goal.returns
 returns c =
     let e : c.loop-cell.cell ≡ 576 = omega (arith, c.loop-cell.invariant.0, c.loop-cell-test.false) in
-    counted_ready (counted-all c.loop-cell.invariant.1 e c.requires.cells-in c.entries_joined.ensures)
+    counted_ready (counted-all c.loop-cell.invariant.1 e c.requires.cells-in c.join_entries.ensures)

@@ -1,8 +1,8 @@
--- `row_factors::season::prepare` meets its contract: the marks, the rises, the list and the day are those of its season.
+-- `row_factors::season::at_season` meets its contract: the marks, the rises, the list and the day are those of its season.
 use mathlib.Core.Path.{◌≡◌, refl}
 use Rattle.row_factors.specs.Season.{MarksReady, rises_of}
 use Rattle.row_factors.proofs.Prepared.{steps-most, rises-are}
-use Rattle.row_factors.proofs.season.prepare.Goals as goal
+use Rattle.row_factors.proofs.season.at_season.Goals as goal
 
 pub returns : goal.returns
 returns c =
@@ -16,7 +16,7 @@ returns c =
         day-ready = c.day_of-day.ensures;
         means-are = c.means_of-means.ensures;
       },
-      λ wanted. rw (← rises-ready) (c.list_where-list.ensures wanted),
+      λ wanted. rw (← rises-ready) (c.list_where.ensures wanted),
     )
 
 pub at_marks-values-requires : goal.at_marks-values-requires
@@ -25,8 +25,8 @@ at_marks-values-requires c = (c.requires.0, c.requires.2)
 pub rises-rises-requires : goal.rises-rises-requires
 rises-rises-requires c = steps-most c.requires.2 c.at_marks-values.ensures
 
-pub list_where-list-requires : goal.list_where-list-requires
-list_where-list-requires c = c.requires.1
+pub list_where-requires : goal.list_where-requires
+list_where-requires c = c.requires.1
 
 pub day_of-day-requires : goal.day_of-day-requires
 day_of-day-requires c =

@@ -1,9 +1,9 @@
--- `parking::season_list::entries_joined` meets its contract: the first k places hold their parts.
+-- `parking::season_list::join_entries` meets its contract: the first k places hold their parts.
 use mathlib.Core.List.{[], ◌∷◌, ◌++◌}
 use Prim.Native.Nat.{◌-◌}
 use Rattle.numbers.specs.Lists.{at}
 use Rattle.numbers.proofs.Lists.{Filled}
-use Rattle.parking.proofs.season_list.entries_joined.Given as goal
+use Rattle.parking.proofs.season_list.join_entries.Given as goal
 
 abbrev pub invariant-loop-k : goal.invariant-loop-k
 invariant-loop-k l = Filled (at (l.starts ++ (l.rises ++ (l.counts ++ (l.len ∷ []))))) 1732 l.k l.out
