@@ -11,15 +11,11 @@ import textwrap
 from collections.abc import Callable
 
 from evp import commands
-from evp.analysis import command as analysis_command
-from evp.desk import command as desk_command
 from evp.desk.ending import INTERRUPTED, drop
 from evp.files import InputError, failed
 from evp.library import MissingCall
 from evp.masses import UNITS
-from evp.pages import command as page_command
 from evp.wording import MOST_SHOWN, printable, quoted, shortened
-from evp.years import command as years_command
 
 TAKES_NO_MORE = (errno.ENOSPC, errno.EDQUOT, errno.EFBIG, errno.EIO)  # what a disk that is full answers, or broken
 STATUS = "Exit status 0 fine, 1 refused or a figure wrong,\n2 not readable or not understood, 130 stopped by Ctrl-C."
@@ -67,7 +63,8 @@ def _add(subparsers, name: str, run, about: str, example: str, *options: str) ->
     return parser
 
 
-def parser() -> Parser:
+def parser(words: list[str]) -> Parser:
+    """The parser of a call; it has all commands but where the call names one of this module."""
     top = Parser(
         prog="evp", description="The desk of the evaporation workbook: sheets written, checked, explained,\n"
         "shown and marked. - stands for standard input.",
@@ -76,11 +73,9 @@ def parser() -> Parser:
     _add_sheet_commands(add)
     _add_table_commands(add)
     _add_report_commands(add)
-    analysis_command.add_parser(_add, add)
-    page_command.add_parser(_add, add)
-    desk_command.add_parser(_add, add)
-    years_command.add_parser(_add, add)
     top.commands = add.choices
+    if not words or words[0] not in top.commands:
+        _add_other_commands(add)
     return top
 
 
@@ -164,16 +159,27 @@ def _add_report_commands(add):
     cells.add_argument("sheet", metavar="SHEET")
     cells.add_argument("--travel", required=True, metavar="FILE", help="csv: where the vehicles of the rows drive")
     cells.add_argument("-o", dest="output", metavar="FILE", help="csv; printed where none is given")
+
+
+def _add_other_commands(add):
+    """Those of other modules, which take as long to load as all that the commands above need."""
+    from evp.analysis import command as analysis_command
+    from evp.desk import command as desk_command
+    from evp.pages import command as page_command
+    from evp.years import command as years_command
     pool = _add(add, "pool", analysis_command.run_pool,
                 "pools sheets of version 4 with the same seasons and parking; evp sum adds up others",
                 "evp pool north.evp south.evp west.evp -o country.evp", "force")
     pool.add_argument("sheets", nargs="+", metavar="SHEET", help="two sheets or more")
     pool.add_argument("-o", dest="output", metavar="SHEET", required=True)
+    for command in (analysis_command, page_command, desk_command, years_command):
+        command.add_parser(_add, add)
 
 
 def _no_command(top: Parser, words: list[str]) -> int | None:
     """What to say where no command is named, or none that there is; the exit status."""
     if not words:
+        from evp.desk import command as desk_command
         _complain("a command is wanted: %s\nevp --help says what each does, evp COMMAND --help how" % (
             ", ".join(name for name in top.commands if name != desk_command.ALIAS)))
         return 2
@@ -206,7 +212,8 @@ def main(words: list[str] | None = None) -> int:
     for stream in (sys.stdout, sys.stderr):
         if isinstance(stream, io.TextIOWrapper):  # a terminal may not know a sign
             stream.reconfigure(errors="replace")
-    top, words = parser(), sys.argv[1:] if words is None else words
+    words = sys.argv[1:] if words is None else words
+    top = parser(words)
     status = _no_command(top, words)
     return _run(top, words) if status is None else status
 
@@ -214,7 +221,10 @@ def main(words: list[str] | None = None) -> int:
 def _run(top: Parser, words: list[str]) -> int:
     """The exit status of a command."""
     try:
-        given = top.parse_args(page_command.with_kind(words))
+        if words[0] == "page":
+            from evp.pages.command import with_kind
+            words = with_kind(words)
+        given = top.parse_args(words)
         status = given.run(given)
         sys.stdout.flush()
         return status

@@ -1,6 +1,7 @@
 """What the commands do. Each gives its exit status, 0 fine or 1 where a sheet is refused or a figure wrong;
 SheetRefused is 1 too, InputError 2."""
 
+import gc
 import json
 import os
 import sys
@@ -326,6 +327,15 @@ class Progress:
 
 
 def mark(given: Namespace) -> int:
+    """Marks a class. Its many figures stand in no cycle of objects, so that none is looked for meanwhile."""
+    gc.disable()
+    try:
+        return _mark(given)
+    finally:
+        gc.enable()
+
+
+def _mark(given: Namespace) -> int:
     _check_outputs(given)
     library = get_library()
     of_class = read_class(library, given.folder, given.filed, Progress())

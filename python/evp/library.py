@@ -117,6 +117,9 @@ class Outcome(IntEnum):
     UNREADABLE = 4
 
 
+OUTCOMES = tuple(Outcome)
+
+
 class Refusal(Exception):
     """A refused call. `sheet` is 1, 2 or 3 for the first, the second and the pooled sheet of a pool call, else 0."""
 
@@ -435,8 +438,11 @@ class Library:
         return bytes(pooled)[:answer.bytes]
 
     def mark(self, filed: Filed, band: Band) -> Verdict:
-        answer = self._call("mark", _Filed(*map(_word, filed)), band.low, band.high)
-        return Verdict(Outcome(answer.verdict), answer.off)
+        numbers = (*filed, *band)
+        for number in (min(numbers), max(numbers)):  # not each of them: a class has some 30,000 figures
+            _word(number)
+        answer = self.calls["evp_mark"](_Filed(*filed), *band)
+        return Verdict(OUTCOMES[answer.verdict], answer.off)
 
     def explain(self, sheet: bytes) -> Finding:
         answer = self._call("explain", sheet)
