@@ -64,7 +64,7 @@ def _add(subparsers, name: str, run, about: str, example: str, *options: str) ->
 
 
 def parser(words: list[str]) -> Parser:
-    """The parser of a call; it has all commands but where the call names one of this module."""
+    """The parser of a call. Where the call names a command of this module it has these alone, else all."""
     top = Parser(
         prog="evp", description="The desk of the evaporation workbook: sheets written, checked, explained,\n"
         "shown and marked. - stands for standard input.",

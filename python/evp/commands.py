@@ -1,7 +1,6 @@
 """What the commands do. Each gives its exit status, 0 fine or 1 where a sheet is refused or a figure wrong;
 SheetRefused is 1 too, InputError 2."""
 
-import gc
 import json
 import os
 import sys
@@ -12,8 +11,6 @@ from typing import NamedTuple
 
 from evp import diagnosis, letters, marking, show
 from evp import library as calls
-from evp.analysis import telling
-from evp.analysis.changes import changes_of
 from evp.cells import cells_csv, cells_of, read_travel
 from evp.convert import converted
 from evp.doubting import doubt_lines
@@ -327,15 +324,6 @@ class Progress:
 
 
 def mark(given: Namespace) -> int:
-    """Marks a class. Its many figures stand in no cycle of objects, so that none is looked for meanwhile."""
-    gc.disable()
-    try:
-        return _mark(given)
-    finally:
-        gc.enable()
-
-
-def _mark(given: Namespace) -> int:
     _check_outputs(given)
     library = get_library()
     of_class = read_class(library, given.folder, given.filed, Progress())
@@ -459,6 +447,8 @@ def _files_made(given: Namespace, marks: list[Mark]) -> Iterator[str]:
 
 
 def compare(given: Namespace) -> int:
+    from evp.analysis import telling
+    from evp.analysis.changes import changes_of
     library = get_library()
     sheets = [read_report(library, name) for name in (given.a, given.b)]
     reports = [report for _, report in sheets]

@@ -117,9 +117,6 @@ class Outcome(IntEnum):
     UNREADABLE = 4
 
 
-OUTCOMES = tuple(Outcome)
-
-
 class Refusal(Exception):
     """A refused call. `sheet` is 1, 2 or 3 for the first, the second and the pooled sheet of a pool call, else 0."""
 
@@ -438,11 +435,13 @@ class Library:
         return bytes(pooled)[:answer.bytes]
 
     def mark(self, filed: Filed, band: Band) -> Verdict:
-        numbers = (*filed, *band)
-        for number in (min(numbers), max(numbers)):  # not each of them: a class has some 30,000 figures
-            _word(number)
-        answer = self.calls["evp_mark"](_Filed(*filed), *band)
-        return Verdict(OUTCOMES[answer.verdict], answer.off)
+        digits, places, unit = filed
+        low, high = band
+        if (digits | places | unit | low | high) >> 64:  # all at once, since a class has some 30,000 figures
+            for number in (*filed, *band):
+                _word(number)
+        answer = self.calls["evp_mark"](_Filed(digits, places, unit), low, high)
+        return Verdict(Outcome(answer.verdict), answer.off)
 
     def explain(self, sheet: bytes) -> Finding:
         answer = self._call("explain", sheet)

@@ -6,6 +6,7 @@ from collections.abc import Iterable, Iterator
 from fractions import Fraction
 from typing import NamedTuple
 
+from evp.collecting import no_collection
 from evp.explain import explain
 from evp.figures import Figure, bands
 from evp.layout import row_count
@@ -78,9 +79,10 @@ def marked(library: Library, data: bytes, digest: str = "") -> Marked:
 def marks_of(library: Library, sheets: dict[str, Marked], filings: Iterable[Filing]) -> list[Mark]:
     """The marks of all filed masses, and of the sheets that nobody filed for."""
     marks, filed_for = [], set()
-    for filing in filings:
-        filed_for.add(filing.sheet)
-        marks.append(_mark(library, sheets, filing))
+    with no_collection():
+        for filing in filings:
+            filed_for.add(filing.sheet)
+            marks.append(_mark(library, sheets, filing))
     for name, sheet in sheets.items():
         if name not in filed_for:
             note = "nobody filed for this sheet" + (": " + sheet.unread if sheet.unread else "")

@@ -330,7 +330,11 @@ class OtherCallsTest(unittest.TestCase):
         for call, *given in ((LIBRARY.cells_of_row, Masses(band, band, band), travel),
                              (LIBRARY.cells_of_row, Masses(*[Band(0, 1)] * 3), travel._replace(town=2 ** 64)),
                              (LIBRARY.add_cells, Cell(2 ** 64, 0.0, 0.0), Cell(Kind.EMPTY, 0.0, 0.0)),
-                             (LIBRARY.factor, sample("table-3-5"), 2 ** 64, 0, 1)):
+                             (LIBRARY.factor, sample("table-3-5"), 2 ** 64, 0, 1),
+                             (LIBRARY.mark, Filed(1, 0, Unit.MG), band),
+                             (LIBRARY.mark, Filed(1, 0, Unit.MG), Band(-1, 1)),
+                             (LIBRARY.mark, Filed(1, 2 ** 64, Unit.MG), Band(0, 1)),
+                             (LIBRARY.mark, Filed(-1, 0, Unit.MG), Band(0, 1))):
             with self.assertRaises(OverflowError):
                 call(*given)
 

@@ -7,6 +7,7 @@ import os
 import resource
 import shutil
 import subprocess
+import sys
 import unittest
 from fractions import Fraction
 from importlib.util import find_spec
@@ -401,8 +402,9 @@ class SpeedTest(DeskTestCase):
             lines += [(name, *figure, band.low, "mg") for figure, band in bands(LIBRARY.report(bytes(changed))).items()]
         filed = self.put("filed.csv", table_text(HEADER.strip().split(","), lines))
         before = resource.getrusage(resource.RUSAGE_CHILDREN)
-        found = subprocess.run([TOP / "evp", "mark", self.folder, "--filed", filed, "-o", self.folder / "m.csv"],
-                               capture_output=True, text=True)
+        found = subprocess.run(
+            [sys.executable, TOP / "evp", "mark", self.folder, "--filed", filed, "-o", self.folder / "m.csv"],
+            capture_output=True, text=True)
         after = resource.getrusage(resource.RUSAGE_CHILDREN)
         self.assertLess(after.ru_utime + after.ru_stime - before.ru_utime - before.ru_stime, 2)
         self.assertTrue(found.stdout.startswith("30 sheets, 27,390 figures: "), found)

@@ -136,9 +136,9 @@ class RefusalTest(unittest.TestCase):
                  "`2` (the constructor's) and `1` (the expected type's) this `unread` lands at index `2`")
         today = ("./proofs/evp_run/Answers.antt:9:41: error: `returns-then-not-input-clause-ran`: this `unread` "
                  "lands at index `2` (position 1) but the expected type `goal.the-as")
-        for text in (error, today):
+        for text, what in ((error, "indices"), (today, "types")):
             shown = self.shown(LOG % text)
-            self.assertTrue(shown.said.startswith("refused by a fact, "), shown)
+            self.assertEqual(shown.said.partition(": ")[0], "refused by a fact, two %s that differ" % what)
             self.assertEqual(shown.fault, "")
 
     def test_a_computed_test(self):

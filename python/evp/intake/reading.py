@@ -7,6 +7,7 @@ from dataclasses import dataclass, field
 from itertools import islice
 from typing import Any, NamedTuple, cast
 
+from evp.collecting import no_collection
 from evp.figures import TOTAL, Figure
 from evp.files import InputError
 from evp.intake import layout as layouts
@@ -215,13 +216,8 @@ class _Reader:
     def read(self) -> None:
         self._check_sheet()
         self._remark_layout()
-        for number, cells in self.table.lines():
-            if number > self.layout.header:
-                if self.most is not None and self.read_lines >= self.most:
-                    raise InputError("%s: more than %s at once; evp mark takes any number" % (
-                        self.table.label, counted(self.most, "line")))
-                self.read_lines += 1
-                self._line(number, cells)
+        with no_collection():
+            self._lines()
         if self.unread > MOST_UNREAD:
             many = counted(self.unread - MOST_UNREAD, "line")
             self.taken.filings.append(Filing(
@@ -230,6 +226,16 @@ class _Reader:
             self.taken.unread.append("%s: %s cannot be read" % (self.label, counted(self.unread, "line")))
         if self.passed:
             self._remark("%s without a figure passed over" % counted(self.passed, "line"))
+
+    def _lines(self) -> None:
+        for number, cells in self.table.lines():
+            if number > self.layout.header:
+                if self.most is not None and self.read_lines >= self.most:
+                    raise InputError("%s: more than %s at once; evp mark takes any number" % (
+                        self.table.label, counted(self.most, "line")))
+                self.read_lines += 1
+                if len(cells) < 2 or not self._plain_line(number, cells):
+                    self._line(number, cells)
 
     def _check_sheet(self) -> None:
         """That a table says which sheet it is for: in a column, by a title, by its name, or in lines of their own."""
@@ -279,21 +285,22 @@ class _Reader:
         if sheet not in self.sheets.names or unit is None or not self.points or not _PLAIN.fullmatch(mass):
             return False
         key = cells[row_at], cells[mechanism_at]
-        figure = self.figures.get(key) or _plain_figure(*key)
+        figure = self.figures.get(key)
         if figure is None:
-            return False
-        self.figures[key] = figure
+            figure = _plain_figure(*key)
+            if figure is None:
+                return False
+            self.figures[key] = figure
         self.last_sheet, self.last_row = sheet, key[0]
         whole, _, places = mass.partition(".")
         digits = (whole + places).lstrip("0")
-        value = int(digits or "0") if len(digits) <= 19 else MOST_WORD
+        value = int(digits or "0") if len(digits) <= 19 else MOST_WORD  # 19 digits are a word
         self.taken.filings.append(Filing(sheet, figure, mass, cells[unit_at], Filed(
-            min(value, MOST_WORD), len(places), _UNIT_BY_POWER[unit]), "", 0, "%s, line %d" % (self.label, number)))
+            value, len(places), _UNIT_BY_POWER[unit]), "", 0, "%s, line %d" % (self.label, number)))
         return True
 
     def _line(self, number: int, cells: list[str]) -> None:
-        if len(cells) > 1 and self._plain_line(number, cells):
-            return
+        """Reads a line that is not plain."""
         if self.unread + self.passed > MOST_UNREAD:
             self.unread += 1
             return
