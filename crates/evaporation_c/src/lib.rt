@@ -50,7 +50,7 @@ pub extern "C" fn evp_report(sheet: &[u8], words: &mut [u64]) -> EvpCheck
     evaporation::evp_report(sheet, words)
 }
 
-// The report as a text. It answers whether the text is a report, and its length; it is written only where it fits.
+// The report as a text. It returns whether the text is a report, and its length; the text is written only where it fits.
 #[unsafe(no_mangle)]
 pub extern "C" fn evp_text(sheet: &[u8], words: &mut [u64], text: &mut [u8]) -> EvpText
     ensures { TextNumbers sheet.now words.old words.new text.old text.new result }
@@ -239,7 +239,7 @@ pub extern "C" fn evp_species(total: u64, milligrams: &mut [u64]) -> EvpCheck
     evaporation::species::evp_species(total, milligrams)
 }
 
-// The species of a sheet's high total, with the refusals of its report, for which the words are lent.
+// The species of a sheet's high total, with the refusals of its report; the words are a buffer for that report.
 #[unsafe(no_mangle)]
 pub extern "C" fn evp_species_of(sheet: &[u8], words: &mut [u64]) -> EvpComposition
     ensures { CompositionNumbers sheet.now words.old words.new result }

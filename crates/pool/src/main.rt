@@ -1,4 +1,4 @@
-// The program `pool`: it does what crates/pool_run says, and its exit status is what that answers.
+// The program `pool`: what it does is crates/pool_run, which returns its exit status.
 #![tactic(auto)]
 
 use program::sources::TwoSheets;

@@ -1,5 +1,5 @@
--- What a program prints is told of all bytes of its source, though it reads only one more than the longest sheet has; and where its sheet could not
--- be read, nothing is printed.
+-- What a program prints is stated for all bytes of its source, though it reads only one more than the longest sheet has; and where its sheet
+-- could not be read, nothing is printed.
 -- Assumes nothing.
 use Rattle.std.proofs.Common.{◌≡◌, ℕ, ◌<◌, Bool, true, false, leb, List, [], Option, None, Some, IfSome, refl, ap, ◌∙◌, length, take, take_all}
 use Rattle.std.proofs.Common.{arith, inl, inr, subst}

@@ -87,7 +87,7 @@ fn sheet_status(s: &[u8]) -> u8
     check_status(report_check(s, WORDS))
 }
 
-// Writes the text of a sheet to standard output, in one piece, and answers the exit status. Where not all of it is taken
+// Writes the text of a sheet to standard output, in one piece, and returns the exit status. Where not all of it is taken
 // that is said on standard error, where else nothing is written.
 pub fn write_answer<W: Write, E: Write>(
     name: &str,

@@ -36,7 +36,7 @@ pub trait Sources {
         ensures silent { result.read ≡ true → Keeps (E.contents err.old) (E.contents err.new) };
 }
 
-// Reads source i until the buffer is full or the input ends, and answers how many bytes stand at the start of the buffer.
+// Reads source i until the buffer is full or the input ends, and returns how many bytes the buffer then begins with.
 fn read<R: Read>(source: &mut R, i: usize, buffer: &mut [u8]) -> io::Result<usize>
     ensures taken { IfOk result (λ n. Taken i n buffer.new) }
     ensures unread { OnErr result (Unread i) }

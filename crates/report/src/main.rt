@@ -1,4 +1,4 @@
-// The program `report`: it does what crates/report_run says, and its exit status is what that answers.
+// The program `report`: what it does is crates/report_run, which returns its exit status.
 #![tactic(auto)]
 
 use program::sources::OneSheet;

@@ -1,4 +1,4 @@
-// The program `species`: it does what crates/species_run says, and its exit status is what that answers.
+// The program `species`: what it does is crates/species_run, which returns its exit status.
 #![tactic(auto)]
 
 use program::sources::OneSheet;

@@ -22,7 +22,7 @@ pub fn buffer() -> [u8; 524288]
     [0; 524288]
 }
 
-// Reads until the buffer is full or the input ends, and answers how many bytes stand at the start of the buffer.
+// Reads until the buffer is full or the input ends, and returns how many bytes the buffer then begins with.
 fn read_full<R: Read>(reader: &mut R, buffer: &mut [u8]) -> io::Result<usize>
     ensures { IfOk result (λ n. n ≤ length buffer.new) }
 {
