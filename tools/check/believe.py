@@ -29,8 +29,9 @@ READING = "docs/READING.md"
 # itself these are the functions that take number, place, low and high from an answer.
 DEMANDS: dict[str, dict[str, str]] = {
     "1": {
-        "inventory": "report_demands factor_demands written answer_number answer_place",
-        "sheet": "Says number_of place_of",
+        "inventory": "report_demands factor_demands written",
+        "sheet": "Says",
+        "refusals": "number_of place_of",
     },
     "2": {"inventory": "FactorBand answer_low answer_high", "sheet": "Written"},
     "3": {"report_words": "ReportPromise"},

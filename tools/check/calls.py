@@ -38,7 +38,7 @@ LAW = re.compile(r"(?:(?<![\w'.-])|\b[A-Z]\w*\.)(%s)(?![\w'-])" % "|".join(LAWS)
 LABEL = re.compile(r"\b((?:requires|ensures)\*?) \w+ \{")  # a clause with its name
 USE = re.compile(r"\buse Rattle\.program((?:\.\w+)*)(\.\{)?")
 WHOLE = (".specs.Reads", ".specs.Writes")
-OUT = re.compile(r"\bprogram::(?:write_answer|write_out)\(")
+OUT = re.compile(r"\bprogram::(?:one_sheet::print_sheet|write_out)\(")
 ERROR = re.compile(r"\bprogram::write_error\(")
 # What reads or writes by itself; a program's code has the trait Write for its bounds, and reads by Sources.
 TRAITS = re.compile(r"^use std::io::Write;$", re.M)
@@ -56,6 +56,7 @@ fn main(rt: HostRuntime) -> ExitCode {
 }
 """
 FUNCTION = re.compile(r"^(?P<head>(?:pub )?(?:extern \"C\" )?)fn (?P<name>\w+)(?P<rest>.*?)(?:^\{| \{$)", re.M | re.S)
+IMPL = re.compile(r"^impl\b[^{]*", re.M)
 LOOP = re.compile(r"\b(?:while|for|loop)\b")
 
 
@@ -139,7 +140,7 @@ def program_faults(name: str, text: str) -> Iterator[str]:
             yield "%s: an answer is written to %s in %d places; one is wanted" % (name, stream, count)
     if OWN.search(TRAITS.sub("", code)):
         yield "%s: it reads or writes by itself; crates/program does that" % name
-    if LOOP.search(code):
+    if LOOP.search(IMPL.sub("", code)):
         yield "%s: it has a loop, in which it could write twice" % name
     for function in sorted(writing(bodies(code)) | {START}):
         count = calls_of(function, code)
@@ -172,6 +173,9 @@ def shared_faults(text: str) -> Iterator[str]:
         yield "program: something is printed elsewhere than on standard error"
     if calls_of("write_out", code) != 1 or calls_of("write_out", found["write_answer"]) != 1:
         yield "program: `write_out` is called elsewhere than once in `write_answer`"
+    for function, caller in (("write_answer", "answer"), ("answer", "print_sheet")):
+        if calls_of(function, code) != 1 or calls_of(function, found[caller]) != 1 or LOOP.search(found[caller]):
+            yield "program: `%s` is called elsewhere than once in `%s`, which has no loop" % (function, caller)
 
 
 def shared() -> str:

@@ -3,8 +3,8 @@
 A claim is a piece of a sentence with the names of facts in braces. It must
 stand in some document, and wherever it stands the figures must be those of the
 facts; spaces and line ends count alike. A figure beside one of NOUNS that no
-claim holds is reported too. docs/changes, docs/PORT.md and docs/TIMES.md tell how
-things were, and are not read.
+claim holds is reported too. docs/changes, docs/PORT.md, docs/DESIGN-PASS.md and
+docs/TIMES.md tell how things were, and are not read.
 """
 
 import re
@@ -14,6 +14,7 @@ from typing import NamedTuple
 from tools import crates
 from tools.check import inputs
 from tools.check.edits import find as find_edits
+from tools.check.names import HISTORY
 from tools.check.pressures import PRESSURES
 from tools.command import SAMPLES, TOP
 from tools.make import times
@@ -255,7 +256,7 @@ def facts() -> dict[str, str]:
 
 
 def documents() -> list[Text]:
-    pages = sorted(set((TOP / "docs").glob("*.md")) - {TOP / times.PAGE, TOP / "docs/PORT.md"})
+    pages = sorted(set((TOP / "docs").glob("*.md")) - {TOP / times.PAGE, *(TOP / page for page in HISTORY)})
     paths = [TOP / "README.md", TOP / "CONTRIBUTING.md", *pages]
     return [Text(str(path.relative_to(TOP)), " ".join(path.read_text(encoding="utf-8").split())) for path in paths]
 

@@ -3,7 +3,8 @@
 Three kinds of line of Markdown may be longer, since nothing can wrap them: a row
 of a table, a line of code or of output (indented or fenced), and one with no
 place to break, such as a heading or a long link. Python and shell files have no
-such line. Files of Rattle are laid out by `rt fmt`, which wraps nothing; one of
+such line. Files of Rattle are laid out by `rt fmt`, which wraps nothing and puts the
+lemmas of a function's `#[tactic(..)]` on one line, however long that is; one of
 them, of computed values, is written by a program and has longer lines. Files
 under target/ are not read.
 
@@ -20,6 +21,7 @@ from tools.command import OUT, TOP
 LIMIT = 120
 RATTLE, RATTLE_LIMIT = (".rt", ".antt"), 150
 MADE = TOP / "crates/exact/proofs/Values.antt"  # fractions of a hundred digits
+TACTIC = "#[tactic("
 SKIPPED = {"target", OUT, ".git", "__pycache__"}
 
 ITEM = re.compile(r"( *)([-*+]|\d+[.)]) +")
@@ -112,7 +114,8 @@ def long_lines(text: str, suffix: str) -> Iterator[int]:
     """The lines of a text that are too long; in Markdown those that could be shorter."""
     if suffix != ".md":
         limit = RATTLE_LIMIT if suffix in RATTLE else LIMIT
-        yield from (number for number, line in enumerate(text.splitlines(), 1) if len(line) > limit)
+        yield from (number for number, line in enumerate(text.splitlines(), 1)
+                    if len(line) > limit and not (suffix == ".rt" and line.startswith(TACTIC)))
         return
     for block in blocks(text):
         for number, line in enumerate(block.lines, block.first):

@@ -7,8 +7,8 @@ constant or a definition of that file; several names may stand before one `in`. 
 path NAME, X, * and {..} stand for any name. `law` in crate/proofs/File must stand in that file; so must, in the
 tables of docs/READING.md, the definitions beside crate: File, and that page must
 speak of every file of definitions. Whatever else stands as one name in `..` must be
-a name of some source file. docs/changes and docs/PORT.md tell how things were: of
-these the links alone are looked at.
+a name of some source file. docs/changes, docs/PORT.md and docs/DESIGN-PASS.md tell how
+things were: of these the links alone are looked at.
 """
 
 import re
@@ -20,7 +20,7 @@ from tools.check.promises import has_word
 from tools.command import OUT, TOP
 
 READING = "docs/READING.md"
-PORT = "docs/PORT.md"
+HISTORY = ("docs/PORT.md", "docs/DESIGN-PASS.md")
 FOLDERS = ("crates", "tools", "docs", "python", "bench", "include", "samples", "c")
 PATH = re.compile(r"(?<![\w/.:-])((?:%s)/[\w./*-]*\w[\w*/]*)" % "|".join(FOLDERS))
 ANY = re.compile(r"\*|\bNAME\b|\bX\b|\.\.|\{")
@@ -35,7 +35,8 @@ SOURCES = (".rt", ".antt", ".py", ".h", ".c", ".cc", ".rs", ".edit", ".txt", "")
 
 
 def pages() -> list[Path]:
-    return [TOP / "README.md", TOP / "CONTRIBUTING.md", *sorted(set((TOP / "docs").glob("*.md")) - {TOP / PORT})]
+    history = {TOP / page for page in HISTORY}
+    return [TOP / "README.md", TOP / "CONTRIBUTING.md", *sorted(set((TOP / "docs").glob("*.md")) - history)]
 
 
 def words_of(path: Path) -> str:
@@ -160,5 +161,5 @@ def faults() -> Iterator[str]:
             yield "%s: %s" % (path.relative_to(TOP), fault)
     reading = (TOP / READING).read_text(encoding="utf-8")
     yield from ("%s: %s" % (READING, fault) for fault in (*spec_faults(reading), *unread_faults(reading)))
-    for path in (TOP / PORT, *sorted((TOP / "docs" / "changes").glob("*.md"))):
+    for path in (*(TOP / page for page in HISTORY), *sorted((TOP / "docs" / "changes").glob("*.md"))):
         yield from ("%s: %s" % (path.relative_to(TOP), fault) for fault in link_faults(path))

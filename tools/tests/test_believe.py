@@ -174,7 +174,8 @@ class Closure(unittest.TestCase):
 
     def test_no_demand_rests_on_the_method(self):
         crates = {key.crate for key in believe.demanded()}
-        self.assertEqual(crates, {"numbers", "bounds", "exact", "sheet", "masses", "report_words", "inventory"})
+        below = {"numbers", "bounds", "refusals", "exact", "sheet"}
+        self.assertEqual(crates, below | {"masses", "report_words", "inventory"})
         bounds = {key.file for key in believe.demanded() if key.crate == "bounds"}
         self.assertEqual(bounds, {"Series", "Weights"})
 

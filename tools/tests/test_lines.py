@@ -43,6 +43,9 @@ class LinesTest(unittest.TestCase):
         self.assertEqual(list(lines.long_lines(text, ".sh")), [2, 3, 4])
         self.assertEqual(list(lines.long_lines(text, ".rt")), [4])
         self.assertEqual(list(lines.long_lines(text, ".antt")), [4])
+        tactic = "#[tactic(%s)]" % ("x" * 150)
+        self.assertEqual(list(lines.long_lines(tactic, ".rt")), [], "rt fmt puts it on one line")
+        self.assertEqual(list(lines.long_lines(tactic, ".antt")), [1])
 
     def test_wrapped(self):
         made = lines.rewrapped(TEXT)

@@ -22,10 +22,8 @@ fn total(tables: &ExpTables, xs: &[u64]) -> u64
     ensures { result ≡ total xs.now }
 {
     let mut sum: u64 = 0;
-    let mut i = 0;
-    while i < xs.len() {
-        sum = std::num::wrapping_add_u64(sum, served(tables, xs[i]));
-        i += 1;
+    for &x in xs {
+        sum = sum.wrapping_add(served(tables, x));
     }
     sum
 }

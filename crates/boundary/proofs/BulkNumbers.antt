@@ -1,13 +1,12 @@
 -- What holds of the answers in bulk holds of the numbers that leave the library.
+use Rattle.std.proofs.Common.{Ok, Err}
 use mathlib.Core.List.{List}
 use mathlib.Core.Path.{◌≡◌, refl, sym, ◌∙◌, ap}
 use Prim.Native.Nat.{ℕ, ◌≤◌}
 use native.Mathlib.Omega.{arith}
 use lib.ListN.{get_or-replicate}
 use Rattle.numbers.specs.Lists.{at}
-use Rattle.sheet.specs.declared.Check.{Check}
-use Rattle.sheet.specs.declared.Check.TheVariants.{Pass, Refused}
-use Rattle.sheet.specs.Check.{number_of, place_of}
+use Rattle.refusals.specs.Check.{Check, Pass, Refused, number_of, place_of}
 use Rattle.factor_table.specs.declared.RowFactors.{RowFactors}
 use Rattle.factor_table.specs.RowFactors.{band_words, low_place, high_place, row_check, row_answered, row_answer, one_of, RowFactorsCall}
 use Rattle.factor_table.specs.Factors.{FactorsCall}
@@ -23,8 +22,8 @@ one-numbers : (c : Check) (w : List ℕ) {a : RowFactors} (k : ℕ) → 1 ≤ k 
     → factor_numbers (one_of a.check (at a.bands (low_place k)) (at a.bands (high_place k)))
     ≡ record { number = number_of a.check; place = place_of a.check; low = at a.bands (low_place k); high = at a.bands (high_place k) }
 unfolding row_answered one_of factor_numbers number_of place_of
-one-numbers Pass w k l m e = rw e refl
-one-numbers (Refused number place) w k l m e =
+one-numbers (Ok _) w k l m e = rw e refl
+one-numbers (Err refusal) w k l m e =
     let low = get_or-replicate {A = ℕ} 14 (low_place k) 0 0 (omega arith) in
     let high = get_or-replicate {A = ℕ} 14 (high_place k) 0 0 (omega arith) in
     rw (e, low, high) refl

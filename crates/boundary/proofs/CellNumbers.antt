@@ -1,4 +1,5 @@
 -- The cells that pass the boundary, as the program meets them.
+use Rattle.std.proofs.Common.{Option, Some, None}
 use mathlib.Core.Logic.{◌⊎◌, inl, inr}
 use mathlib.Core.Path.{◌≡◌, refl}
 use mathlib.Core.Bool.{true, false, true≢false}
@@ -27,10 +28,6 @@ use Rattle.map_rows.specs.declared.RowCellsAnswer.TheVariants as row
 use Rattle.boundary.specs.declared.EvpCell.{EvpCell}
 use Rattle.boundary.specs.declared.EvpRowCells.{EvpRowCells}
 use Rattle.boundary.specs.declared.EvpTravel.{EvpTravel}
-use Rattle.boundary.specs.declared.TravelHanded.{TravelHanded}
-use Rattle.boundary.specs.declared.TravelHanded.TheVariants.{Told, NoTravel}
-use Rattle.boundary.specs.declared.Handed.{Handed}
-use Rattle.boundary.specs.declared.Handed.TheVariants.{Given, NoCell}
 use Rattle.boundary.specs.Cells.{cell_numbers, no_cell, row_numbers, sum_numbers, exact_handed, cell_handed, handed_sum}
 use Rattle.boundary.specs.Cells.{travel_handed, handed_row, RowCellsNone, RowCellsGiven, RowCellsNumbers}
 use Rattle.boundary.specs.Cells.{CellSumNumbers}
@@ -56,63 +53,63 @@ module _ {a : CellAnswer} {u : EvpCell} where
   sum-refused n p e f = rw (e, f)
 
 module _ (low high : Float) where
-  pub both_equal : eq low high ≡ true → Given (Exact low) ≡ exact_handed low high
+  pub both_equal : eq low high ≡ true → Some (Exact low) ≡ exact_handed low high
   unfolding exact_handed
   both_equal e = rw e
 
-  pub both-differ : eq low high ≡ false → NoCell ≡ exact_handed low high
+  pub both-differ : eq low high ≡ false → None ≡ exact_handed low high
   unfolding exact_handed
   both-differ e = rw e
 
 -- by the kind: 0, 1, 2, or any other
 module _ (c : EvpCell) where
-  pub kind-empty : c.kind ≡ 0 → Given Empty ≡ cell_handed c
+  pub kind-empty : c.kind ≡ 0 → Some Empty ≡ cell_handed c
   unfolding cell_handed
   kind-empty e = rw (eq-eqb c.kind 0 e)
 
   module _ (n0 : c.kind ≡ 0 → ⊥) where
-    pub kind-exact : {r : Handed} → c.kind ≡ 1 → r ≡ exact_handed c.low c.high → r ≡ cell_handed c
+    pub kind-exact : {r : Option Cell} → c.kind ≡ 1 → r ≡ exact_handed c.low c.high → r ≡ cell_handed c
     unfolding cell_handed
     kind-exact e f = rw (ne_eqb c.kind 0 n0, eq-eqb c.kind 1 e) f
 
     module _ (n1 : c.kind ≡ 1 → ⊥) where
-      pub kind-band : c.kind ≡ 2 → Given (Band c.low c.high) ≡ cell_handed c
+      pub kind-band : c.kind ≡ 2 → Some (Band c.low c.high) ≡ cell_handed c
       unfolding cell_handed
       kind-band e = rw (ne_eqb c.kind 0 n0, ne_eqb c.kind 1 n1, eq-eqb c.kind 2 e)
 
-      pub kind-other : (c.kind ≡ 2 → ⊥) → NoCell ≡ cell_handed c
+      pub kind-other : (c.kind ≡ 2 → ⊥) → None ≡ cell_handed c
       unfolding cell_handed
       kind-other n2 = rw (ne_eqb c.kind 0 n0, ne_eqb c.kind 1 n1, ne_eqb c.kind 2 n2)
 
-pub first-none : {a : Handed} (b : Handed) → a ≡ NoCell → sum.Refused 27 0 ≡ handed_sum a b
+pub first-none : {a : Option Cell} (b : Option Cell) → a ≡ None → sum.Refused 27 0 ≡ handed_sum a b
 unfolding handed_sum
 first-none b e = rw e
 
-module _ {a b : Handed} (x : Cell) (e : a ≡ Given x) where
-  pub second_none : b ≡ NoCell → sum.Refused 27 0 ≡ handed_sum a b
+module _ {a b : Option Cell} (x : Cell) (e : a ≡ Some x) where
+  pub second_none : b ≡ None → sum.Refused 27 0 ≡ handed_sum a b
   unfolding handed_sum
   second_none f = rw (e, f)
 
-  pub both-given : {r : CellAnswer} (y : Cell) → b ≡ Given y → r ≡ cell_sum x y → r ≡ handed_sum a b
+  pub both-given : {r : CellAnswer} (y : Cell) → b ≡ Some y → r ≡ cell_sum x y → r ≡ handed_sum a b
   unfolding handed_sum
   both-given y f g = rw (e, f) g
 
 -- by the number of town: 0 and 1, or any other
 module _ (t : EvpTravel) where
-  pub town-none : 1 < t.town → NoTravel ≡ travel_handed t
+  pub town-none : 1 < t.town → None ≡ travel_handed t
   unfolding travel_handed
   town-none h = rw (lt-ltb 1 t.town h)
 
-  pub town-told : t.town ≤ 1 → Told (record { town = eqb t.town 1; mileage = t.mileage; speed = t.speed }) ≡ travel_handed t
+  pub town-told : t.town ≤ 1 → Some (record { town = eqb t.town 1; mileage = t.mileage; speed = t.speed }) ≡ travel_handed t
   unfolding travel_handed
   town-told h = rw (le-ltb 1 t.town h)
 
-module _ {t : TravelHanded} (w : Words) where
-  pub row-untold : t ≡ NoTravel → row.Refused 28 0 ≡ handed_row w t
+module _ {t : Option Travel} (w : Words) where
+  pub row-untold : t ≡ None → row.Refused 28 0 ≡ handed_row w t
   unfolding handed_row
   row-untold e = rw e
 
-  pub row_told : {r : RowCellsAnswer} (x : Travel) → t ≡ Told x → r ≡ row_cells_answer w x → r ≡ handed_row w t
+  pub row_told : {r : RowCellsAnswer} (x : Travel) → t ≡ Some x → r ≡ row_cells_answer w x → r ≡ handed_row w t
   unfolding handed_row
   row_told x e f = rw e f
 
@@ -130,14 +127,14 @@ plus-same (fin false m e) p = rw (eqb-true-refl (m * up e * down e))
     eqb-true-refl n = eq-eqb n n refl
 
 -- a cell that is given back may be handed in, and is then the same
-handed-back : (c : Cell) → NoMinus c → cell_handed (cell_numbers c) ≡ Given c
+handed-back : (c : Cell) → NoMinus c → cell_handed (cell_numbers c) ≡ Some c
 unfolding cell_handed cell_numbers NoMinus exact_handed
 handed-back Empty p = refl
 handed-back (Exact m) p = rw (plus-same m p)
 handed-back (Band low high) p = refl
 
 -- no cell is none
-none-handed : cell_handed no_cell ≡ NoCell
+none-handed : cell_handed no_cell ≡ None
 unfolding cell_handed no_cell
 none-handed = refl
 
@@ -156,14 +153,14 @@ row-given a p v e =
       highway = handed-back v.highway q.highway.no_minus;
     })
 
-handed-row-promise : (w : Words) (t : TravelHanded) (x : Travel) → t ≡ Told x → RowCellsPromise w x (handed_row w t)
+handed-row-promise : (w : Words) (t : Option Travel) (x : Travel) → t ≡ Some x → RowCellsPromise w x (handed_row w t)
 unfolding handed_row
 handed-row-promise w t x e = rw e (rows.promised w x _ refl)
 
-row_back : (w : Words) (t : TravelHanded) (v : RowCells) → handed_row w t ≡ row.Cells v → RowCellsGiven v (row_numbers (handed_row w t))
+row_back : (w : Words) (t : Option Travel) (v : RowCells) → handed_row w t ≡ row.Cells v → RowCellsGiven v (row_numbers (handed_row w t))
 unfolding handed_row
-row_back w (Told x) v e = row-given (row_cells_answer w x) (rows.promised w x _ refl) v e
-row_back w NoTravel v e = let z : ◌≡◌ {A = ℕ} 0 1 = cc in absurd (omega arith)
+row_back w (Some x) v e = row-given (row_cells_answer w x) (rows.promised w x _ refl) v e
+row_back w None v e = let z : ◌≡◌ {A = ℕ} 0 1 = cc in absurd (omega arith)
 
 untold-numbers : (w : Words) (t : EvpTravel) → 1 < t.town
     → ((row_numbers (handed_row w (travel_handed t))).number ≡ 28) × ((row_numbers (handed_row w (travel_handed t))).place ≡ 0)
@@ -181,26 +178,26 @@ row-numbers-kept w t e =
       given = λ v f. row_back w (travel_handed t) v f;
     })
 
-handed-promise : (a b : Handed) (x y : Cell) → a ≡ Given x → b ≡ Given y → SumPromise x y (handed_sum a b)
+handed-promise : (a b : Option Cell) (x y : Cell) → a ≡ Some x → b ≡ Some y → SumPromise x y (handed_sum a b)
 unfolding handed_sum
 handed-promise a b x y e f = rw (e, f) (promised x y refl)
 
-handed-none : (a b : Handed) → (a ≡ NoCell) ⊎ (b ≡ NoCell) → handed_sum a b ≡ sum.Refused 27 0
+handed-none : (a b : Option Cell) → (a ≡ None) ⊎ (b ≡ None) → handed_sum a b ≡ sum.Refused 27 0
 unfolding handed_sum
 handed-none a b (inl e) = rw e
-handed-none (Given x) b (inr e) = rw e
-handed-none NoCell b (inr e) = refl
+handed-none (Some x) b (inr e) = rw e
+handed-none None b (inr e) = refl
 
-sum-none : (a : CellAnswer) → ¬ ((sum_numbers a).number ≡ 0) → cell_handed (sum_numbers a).cell ≡ NoCell
+sum-none : (a : CellAnswer) → ¬ ((sum_numbers a).number ≡ 0) → cell_handed (sum_numbers a).cell ≡ None
 unfolding sum_numbers
 sum-none (sum.Sum c) n = absurd (n refl)
 sum-none (sum.Refused number place) n = none-handed
 
-sum_back : (a b : Handed) (c : Cell) → handed_sum a b ≡ sum.Sum c → NoMinus c
+sum_back : (a b : Option Cell) (c : Cell) → handed_sum a b ≡ sum.Sum c → NoMinus c
 unfolding handed_sum
-sum_back (Given x) (Given y) c e = ((promised x y refl).cell c e).no_minus
-sum_back (Given x) NoCell c e = let z : ◌≡◌ {A = ℕ} 0 1 = cc in absurd (omega arith)
-sum_back NoCell b c e = let z : ◌≡◌ {A = ℕ} 0 1 = cc in absurd (omega arith)
+sum_back (Some x) (Some y) c e = ((promised x y refl).cell c e).no_minus
+sum_back (Some x) None c e = let z : ◌≡◌ {A = ℕ} 0 1 = cc in absurd (omega arith)
+sum_back None b c e = let z : ◌≡◌ {A = ℕ} 0 1 = cc in absurd (omega arith)
 
 pub sum-numbers-kept : (a b : EvpCell) {r : EvpCellSum} → r ≡ sum_numbers (handed_sum (cell_handed a) (cell_handed b)) → CellSumNumbers a b r
 unfolding sum_numbers

@@ -3,7 +3,7 @@
 use mathlib.Core.List.{List}
 use mathlib.Core.Path.{◌≡◌, ◌∙◌, ap}
 use Prim.Native.Nat.{ℕ}
-use Rattle.sheet.specs.declared.Check.{Check}
+use Rattle.refusals.specs.Check.{Check}
 use Rattle.ledger.specs.declared.Call.{Call}
 use Rattle.ledger.specs.Ledger.{ChangeCall}
 use Rattle.boundary.specs.declared.EvpCheck.{EvpCheck}

@@ -7,10 +7,10 @@ use native.Mathlib.Omega.{arith}
 use borrow.Author.Tests.{lt-ltb, le-ltb}
 use lib.ListN.{length}
 use Rattle.numbers.specs.Lists.{at}
-use Rattle.numbers.proofs.Lists.{tab-length, get_d-tab, sum-ext}
-use Rattle.sheet.specs.declared.Check.TheVariants.{Pass, Refused}
-use Rattle.sheet.specs.Check.{refuse}
-use Rattle.report_words.specs.Years.{filled}
+use Rattle.numbers.proofs.Lists.{tab-length, sum-ext}
+use Rattle.refusals.specs.declared.Rule.TheVariants as rule
+use Rattle.refusals.specs.Rule.{number}
+use Rattle.refusals.specs.Check.{Pass, Refused, refuse}
 use Rattle.inventory.specs.ReportCall.{written}
 use Rattle.inventory.proofs.Written.{written-first}
 use Rattle.speciation.specs.Split.{species_mass, species_masses, SpeciesPromise}
@@ -18,19 +18,10 @@ use Rattle.speciation.proofs.Promised.{promised}
 use Rattle.boundary.specs.Export.{check_numbers}
 use Rattle.boundary.specs.SpeciesCall.{species_check, SpeciesNumbers}
 
-masses-length : (total : ℕ) → length (species_masses total) ≡ 29
+-- there are 29 of them
+pub masses-length : (total : ℕ) → length (species_masses total) ≡ 29
 unfolding species_masses
 masses-length total = tab-length (species_mass total) 29
-
--- what stands at i in the masses that the split gave
-pub mass-at : {masses : List ℕ} (total i : ℕ) → masses ≡ species_masses total → i < 29 → at masses i ≡ species_mass total i
-unfolding species_masses
-mass-at total i e h = rw e (get_d-tab (species_mass total) 29 i h)
-
--- all 29 replaced
-pub masses-written : (total : ℕ) (old : List ℕ) → filled (species_mass total) 29 old ≡ written Pass (species_masses total) old
-unfolding written species_masses
-masses-written total old = rw (tab-length (species_mass total) 29)
 
 -- what is promised of the masses holds of the first words of the buffer
 first-words : (total : ℕ) (old : List ℕ) → SpeciesPromise total (written Pass (species_masses total) old)
@@ -49,9 +40,9 @@ first-words total old =
 -- Each outcome of the code is the answer.
 module _ (total : ℕ) (old : List ℕ) where
   pub short : length old < 29 → SpeciesNumbers total old old (record { number = 22; place = 0 })
-  unfolding species_check refuse check_numbers written
+  unfolding species_check refuse check_numbers written number
   short h =
-      let refused : species_check (length old) ≡ Refused 22 0 = rw (lt-ltb (length old) 29 h) in
+      let refused : species_check (length old) ≡ Refused rule.Room 0 = rw (lt-ltb (length old) 29 h) in
       record { answer-is = rw refused; masses-are = rw refused; promise = λ zero. absurd (omega (arith, zero)) }
 
   pub written_out : {new : List ℕ} → 29 ≤ length old → new ≡ written Pass (species_masses total) old

@@ -1,31 +1,31 @@
 -- The numbers of the pool call that leave the library are those of its answer's definition.
+use Rattle.std.proofs.Common.{Ok, Err}
 use mathlib.Core.List.{List}
 use mathlib.Core.Path.{◌≡◌, refl, ap, ◌∙◌}
-use Rattle.sheet.specs.Check.{number_of, place_of}
+use Rattle.refusals.specs.Check.{number_of, place_of}
 use Prim.Native.Nat.{ℕ}
 use lib.ListN.{length}
-use Rattle.pooling.specs.declared.PoolAnswer.{PoolAnswer}
-use Rattle.pooling.specs.declared.PoolAnswer.TheVariants.{Accepted, First, Second, Pooled}
+use Rattle.pooling.specs.declared.PoolRefusal.TheVariants.{First, Second, Pooled}
 use Rattle.pooling.specs.Pool.{pool}
 use Rattle.pooling.specs.Late.{Regions}
-use Rattle.pooling.specs.PoolCall.{pool_answer, check_of, PoolCall}
+use Rattle.pooling.specs.PoolCall.{PoolAnswer, Accepted, pool_answer, refusal_of, check_of, PoolCall}
 use Rattle.pooling.proofs.PoolWritten.{answer-passes}
 use Rattle.boundary.specs.declared.EvpPool.{EvpPool}
 use Rattle.boundary.specs.PoolExport.{pool_numbers, PoolNumbers}
 
 number_is : (r : PoolAnswer) (bytes : ℕ) → (pool_numbers r bytes).number ≡ number_of (check_of r)
-unfolding pool_numbers check_of number_of
-number_is Accepted bytes = refl
-number_is (First number place) bytes = refl
-number_is (Second number place) bytes = refl
-number_is (Pooled number place) bytes = refl
+unfolding pool_numbers check_of refusal_of number_of
+number_is (Ok _) bytes = refl
+number_is (Err (First refusal)) bytes = refl
+number_is (Err (Second refusal)) bytes = refl
+number_is (Err (Pooled refusal)) bytes = refl
 
 place_is : (r : PoolAnswer) (bytes : ℕ) → (pool_numbers r bytes).place ≡ place_of (check_of r)
-unfolding pool_numbers check_of place_of
-place_is Accepted bytes = refl
-place_is (First number place) bytes = refl
-place_is (Second number place) bytes = refl
-place_is (Pooled number place) bytes = refl
+unfolding pool_numbers check_of refusal_of place_of
+place_is (Ok _) bytes = refl
+place_is (Err (First refusal)) bytes = refl
+place_is (Err (Second refusal)) bytes = refl
+place_is (Err (Pooled refusal)) bytes = refl
 
 -- what holds of the answer holds of its numbers
 pub pool-numbers : {a b old out : List ℕ} {r : PoolAnswer} {n : EvpPool} → PoolCall a b old out r → n ≡ pool_numbers r (length (pool a b))

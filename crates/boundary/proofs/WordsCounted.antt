@@ -1,14 +1,15 @@
 -- The words of a report, counted from the sheet alone.
 -- Assumes nothing.
+use Rattle.std.proofs.Common.{Err}
 use mathlib.Core.List.{List}
 use mathlib.Core.Path.{◌≡◌, refl}
 use Prim.Native.Nat.{ℕ, ◌+◌, ◌*◌, ◌≤◌}
 use native.Mathlib.Omega.{arith}
 use borrow.Author.Tests.{le-ltb}
 use lib.ListN.{length}
-use Rattle.sheet.specs.declared.Check.TheVariants.{Pass, Refused}
+use Rattle.refusals.specs.declared.Refusal.{Refusal}
+use Rattle.refusals.specs.Check.{Pass, Refused, refuse, ◌then◌}
 use Rattle.sheet.specs.Bytes.{rows_of}
-use Rattle.sheet.specs.Check.{refuse, ◌then◌}
 use Rattle.sheet.specs.Sheet.{sheet_check}
 use Rattle.sheet.proofs.Accepted.{accepted}
 use Rattle.sheet.proofs.Versions.{rows-limit, start_between}
@@ -20,7 +21,7 @@ use Rattle.boundary.specs.SheetExport.{words_of, report_words, WordsCounted}
 
 module _ (s : List ℕ) where
   -- a refused sheet has none
-  pub none-counted : {number place : ℕ} → sheet_check s ≡ Refused number place → WordsCounted s 0
+  pub none-counted : {refusal : Refusal} → sheet_check s ≡ Err refusal → WordsCounted s 0
   unfolding report_words words_of
   none-counted e = record {
     count-is = rw e refl;

@@ -3,7 +3,7 @@
 use Rattle.std.specs.Prelude.{List, ◌≡◌, ℕ, ◌+◌, ◌*◌, ◌≤◌, ◌<◌, length, drop}
 use Rattle.numbers.specs.Lists.{at}
 use Rattle.sheet.specs.Bytes.{seasons_of, rows_of}
-use Rattle.sheet.specs.Check.{number_of, place_of}
+use Rattle.refusals.specs.Check.{number_of, place_of}
 use Rattle.sheet.specs.Demands.{Says}
 use Rattle.report_words.specs.Categories.{report_length}
 use Rattle.inventory.specs.FactorAnswers.{factor_answer}

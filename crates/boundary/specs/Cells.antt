@@ -1,5 +1,5 @@
 -- Cells for a program in another language: numbers and doubles. Definitions only.
-use Rattle.std.specs.Prelude.{cond, false, ◌⊎◌, ◌≡◌, ◌<◌, eqb, ltb, pos, Float}
+use Rattle.std.specs.Prelude.{Option, Some, None, cond, false, ◌⊎◌, ◌≡◌, ◌<◌, eqb, ltb, pos, Float}
 use Rattle.std.specs.Float.{fin}
 use Rattle.std.specs.Float.Ieee.{eq}
 use Rattle.map_cells.specs.declared.Cell.{Cell}
@@ -18,11 +18,7 @@ use Rattle.map_rows.specs.Rows.{row_cells_answer}
 use Rattle.boundary.specs.declared.EvpCell.{EvpCell}
 use Rattle.boundary.specs.declared.EvpRowCells.{EvpRowCells}
 use Rattle.boundary.specs.declared.EvpCellSum.{EvpCellSum}
-use Rattle.boundary.specs.declared.Handed.{Handed}
-use Rattle.boundary.specs.declared.Handed.TheVariants.{Given, NoCell}
 use Rattle.boundary.specs.declared.EvpTravel.{EvpTravel}
-use Rattle.boundary.specs.declared.TravelHanded.{TravelHanded}
-use Rattle.boundary.specs.declared.TravelHanded.TheVariants.{Told, NoTravel}
 
 -- kind 0 empty, with 0 in both doubles; 1 one mass, in both; 2 a low and a high
 unfoldable pub cell_numbers : Cell → EvpCell
@@ -50,48 +46,48 @@ sum_numbers (sum.Sum c) = record { number = 0; place = 0; cell = cell_numbers c 
 sum_numbers (sum.Refused number place) = record { number = number; place = place; cell = no_cell }
 
 -- one mass has it in both doubles
-unfoldable pub exact_handed : Float → Float → Handed
-exact_handed low high = cond (eq low high) (Given (Exact low)) NoCell
+unfoldable pub exact_handed : Float → Float → Option Cell
+exact_handed low high = cond (eq low high) (Some (Exact low)) None
 
 -- a cell handed in, by its kind; the doubles of an empty one are not read, and any other kind is no cell
-unfoldable pub cell_handed : EvpCell → Handed
+unfoldable pub cell_handed : EvpCell → Option Cell
 cell_handed c =
-    cond (eqb c.kind 0) (Given Empty)
+    cond (eqb c.kind 0) (Some Empty)
     (cond (eqb c.kind 1) (exact_handed c.low c.high)
-    (cond (eqb c.kind 2) (Given (Band c.low c.high)) NoCell))
+    (cond (eqb c.kind 2) (Some (Band c.low c.high)) None))
 
 -- "27 .. a cell handed in that is none of these"
-unfoldable pub handed_sum : Handed → Handed → CellAnswer
-handed_sum (Given a) (Given b) = cell_sum a b
-handed_sum (Given a) NoCell = sum.Refused 27 0
-handed_sum NoCell b = sum.Refused 27 0
+unfoldable pub handed_sum : Option Cell → Option Cell → CellAnswer
+handed_sum (Some a) (Some b) = cell_sum a b
+handed_sum (Some a) None = sum.Refused 27 0
+handed_sum None b = sum.Refused 27 0
 
 -- where a row's vehicles drive: town 1 is in town, 0 is not, and any other number tells nothing
-unfoldable pub travel_handed : EvpTravel → TravelHanded
-travel_handed t = cond (ltb 1 t.town) NoTravel (Told (record { town = eqb t.town 1; mileage = t.mileage; speed = t.speed }))
+unfoldable pub travel_handed : EvpTravel → Option Travel
+travel_handed t = cond (ltb 1 t.town) None (Some (record { town = eqb t.town 1; mileage = t.mileage; speed = t.speed }))
 
 -- it is then refused as a mileage or a speed out of its range is: 28, before all else
-unfoldable pub handed_row : Words → TravelHanded → RowCellsAnswer
-handed_row w (Told t) = row_cells_answer w t
-handed_row w NoTravel = row.Refused 28 0
+unfoldable pub handed_row : Words → Option Travel → RowCellsAnswer
+handed_row w (Some t) = row_cells_answer w t
+handed_row w None = row.Refused 28 0
 
 -- "Neither writes a cell": what comes with a refusal cannot be handed in
 pub record RowCellsNone (r : EvpRowCells) : Type 0 where
-  pub urban : cell_handed r.urban ≡ NoCell
-  pub rural : cell_handed r.rural ≡ NoCell
-  pub highway : cell_handed r.highway ≡ NoCell
+  pub urban : cell_handed r.urban ≡ None
+  pub rural : cell_handed r.rural ≡ None
+  pub highway : cell_handed r.highway ≡ None
 
 -- what is given may be handed in, and is then the same cell
 pub record RowCellsGiven (v : RowCells) (r : EvpRowCells) : Type 0 where
-  pub urban : cell_handed r.urban ≡ Given v.urban
-  pub rural : cell_handed r.rural ≡ Given v.rural
-  pub highway : cell_handed r.highway ≡ Given v.highway
+  pub urban : cell_handed r.urban ≡ Some v.urban
+  pub rural : cell_handed r.rural ≡ Some v.rural
+  pub highway : cell_handed r.highway ≡ Some v.highway
 
 -- what holds after the call for a row, as `cells_of_row` has it in Rattle: the numbers are those of an answer that keeps the promise, and where
 -- town is neither 0 nor 1 they are 28 and place 0
 pub record RowCellsNumbers (w : Words) (t : EvpTravel) (r : EvpRowCells) : Type 0 where
   pub answer-is : r ≡ row_numbers (handed_row w (travel_handed t))
-  pub promise : (x : Travel) → travel_handed t ≡ Told x → RowCellsPromise w x (handed_row w (travel_handed t))
+  pub promise : (x : Travel) → travel_handed t ≡ Some x → RowCellsPromise w x (handed_row w (travel_handed t))
   pub no-town : 1 < t.town → (r.number ≡ 28) × (r.place ≡ 0)
   pub refused : ¬ (r.number ≡ 0) → RowCellsNone r
   pub given : (v : RowCells) → handed_row w (travel_handed t) ≡ row.Cells v → RowCellsGiven v r
@@ -100,7 +96,7 @@ pub record RowCellsNumbers (w : Words) (t : EvpTravel) (r : EvpRowCells) : Type 
 -- and anything else is number 27; a refusal has no cell, and a cell that is given may be handed in again
 pub record CellSumNumbers (a b : EvpCell) (r : EvpCellSum) : Type 0 where
   pub answer-is : r ≡ sum_numbers (handed_sum (cell_handed a) (cell_handed b))
-  pub promise : (x y : Cell) → cell_handed a ≡ Given x → cell_handed b ≡ Given y → SumPromise x y (handed_sum (cell_handed a) (cell_handed b))
-  pub none : (cell_handed a ≡ NoCell) ⊎ (cell_handed b ≡ NoCell) → (r.number ≡ 27) × (r.place ≡ 0)
-  pub refused : ¬ (r.number ≡ 0) → cell_handed r.cell ≡ NoCell
-  pub given : (c : Cell) → handed_sum (cell_handed a) (cell_handed b) ≡ sum.Sum c → cell_handed r.cell ≡ Given c
+  pub promise : (x y : Cell) → cell_handed a ≡ Some x → cell_handed b ≡ Some y → SumPromise x y (handed_sum (cell_handed a) (cell_handed b))
+  pub none : (cell_handed a ≡ None) ⊎ (cell_handed b ≡ None) → (r.number ≡ 27) × (r.place ≡ 0)
+  pub refused : ¬ (r.number ≡ 0) → cell_handed r.cell ≡ None
+  pub given : (c : Cell) → handed_sum (cell_handed a) (cell_handed b) ≡ sum.Sum c → cell_handed r.cell ≡ Some c

@@ -1,14 +1,12 @@
 -- What a program in another language gets: numbers alone. Definitions only.
-use Rattle.std.specs.Prelude.{List, ◌≡◌, ℕ, length}
-use Rattle.sheet.specs.declared.Check.{Check}
-use Rattle.sheet.specs.declared.Check.TheVariants.{Pass, Refused}
+use Rattle.std.specs.Prelude.{List, ◌≡◌, ℕ, length, Ok, Err}
+use Rattle.refusals.specs.Rule.{number}
+use Rattle.refusals.specs.Check.{Check, Pass, Refused}
 use Rattle.sheet.specs.Demands.{Says}
 use Rattle.report_words.specs.Report.{report}
 use Rattle.report_words.specs.Promise.{ReportPromise}
-use Rattle.inventory.specs.declared.FactorAnswer.{FactorAnswer}
-use Rattle.inventory.specs.declared.FactorAnswer.TheVariants as answer
 use Rattle.inventory.specs.FactorAnswers.{factor_answer}
-use Rattle.inventory.specs.FactorBand.{FactorBand, factor_demands}
+use Rattle.inventory.specs.FactorBand.{FactorAnswer, FactorBand, factor_demands}
 use Rattle.inventory.specs.ReportCall.{written, report_demands}
 use Rattle.inventory.specs.ReportAnswers.{report_check}
 use Rattle.boundary.specs.declared.EvpCheck.{EvpCheck}
@@ -16,13 +14,13 @@ use Rattle.boundary.specs.declared.EvpFactor.{EvpFactor}
 
 -- the number and the place of an answer
 unfoldable pub check_numbers : Check → EvpCheck
-check_numbers Pass = record { number = 0; place = 0 }
-check_numbers (Refused number place) = record { number = number; place = place }
+check_numbers (Ok _) = record { number = 0; place = 0 }
+check_numbers (Err refusal) = record { number = number refusal.rule; place = refusal.place }
 
 -- with the low and the high of a band, 0 and 0 for a refusal
 unfoldable pub factor_numbers : FactorAnswer → EvpFactor
-factor_numbers (answer.Band low high) = record { number = 0; place = 0; low = low; high = high }
-factor_numbers (answer.Refused number place) = record { number = number; place = place; low = 0; high = 0 }
+factor_numbers (Ok band) = record { number = 0; place = 0; low = band.low; high = band.high }
+factor_numbers (Err refusal) = record { number = number refusal.rule; place = refusal.place; low = 0; high = 0 }
 
 -- what holds after the report call, as `ReportCall` says it of the answer in Rattle
 pub record ReportNumbers (s old words : List ℕ) (r : EvpCheck) : Type 0 where

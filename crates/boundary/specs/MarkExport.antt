@@ -1,5 +1,5 @@
 -- A filed figure and its verdict for a program in another language: numbers alone. Definitions only.
-use Rattle.std.specs.Prelude.{cond, ◌≡◌, ℕ, ◌+◌, ◌≤◌, ◌<◌, eqb}
+use Rattle.std.specs.Prelude.{Option, Some, None, cond, ◌≡◌, ℕ, ◌+◌, ◌≤◌, ◌<◌, eqb}
 use Rattle.numbers.specs.Fraction.{Fraction, ◌≤ᶠ◌, ◌<ᶠ◌, ◌+ᶠ◌, whole}
 use Rattle.marking.specs.declared.Unit.{Unit}
 use Rattle.marking.specs.declared.Unit.TheVariants.{Milligram, Gram, Kilogram, Tonne}
@@ -11,24 +11,22 @@ use Rattle.marking.specs.Verdicts.{verdict}
 use Rattle.marking.specs.Meaning.{InBand, Unsettled}
 use Rattle.boundary.specs.declared.EvpFiled.{EvpFiled}
 use Rattle.boundary.specs.declared.EvpVerdict.{EvpVerdict}
-use Rattle.boundary.specs.declared.UnitHanded.{UnitHanded}
-use Rattle.boundary.specs.declared.UnitHanded.TheVariants.{Named, NoUnit}
 
 -- the unit that a number names; from 4 on it names none
-unfoldable pub unit_handed : ℕ → UnitHanded
+unfoldable pub unit_handed : ℕ → Option Unit
 unit_handed u =
-    cond (eqb u 0) (Named Milligram)
-    (cond (eqb u 1) (Named Gram)
-    (cond (eqb u 2) (Named Kilogram)
-    (cond (eqb u 3) (Named Tonne) NoUnit)))
+    cond (eqb u 0) (Some Milligram)
+    (cond (eqb u 1) (Some Gram)
+    (cond (eqb u 2) (Some Kilogram)
+    (cond (eqb u 3) (Some Tonne) None)))
 
 abbrev pub figure : ℕ → ℕ → Unit → Filed
 figure digits places u = record { digits = digits; places = places; unit = u }
 
 -- a figure without a unit is not read
-unfoldable pub handed_verdict : ℕ → ℕ → UnitHanded → ℕ → ℕ → Verdict
-handed_verdict digits places (Named u) low high = verdict (figure digits places u) low high
-handed_verdict digits places NoUnit low high = Unreadable
+unfoldable pub handed_verdict : ℕ → ℕ → Option Unit → ℕ → ℕ → Verdict
+handed_verdict digits places (Some u) low high = verdict (figure digits places u) low high
+handed_verdict digits places None low high = Unreadable
 
 unfoldable pub verdict_numbers : Verdict → EvpVerdict
 verdict_numbers Agrees = record { verdict = 0; off = 0 }
@@ -55,5 +53,5 @@ pub record NumbersMark (f : Filed) (low high : ℕ) (r : EvpVerdict) : Type 0 wh
 -- what holds after the call
 pub record MarkNumbers (f : EvpFiled) (low high : ℕ) (r : EvpVerdict) : Type 0 where
   pub answer-is : r ≡ verdict_numbers (handed_verdict f.digits f.places (unit_handed f.unit) low high)
-  pub marked : (u : Unit) → unit_handed f.unit ≡ Named u → NumbersMark (figure f.digits f.places u) low high r
+  pub marked : (u : Unit) → unit_handed f.unit ≡ Some u → NumbersMark (figure f.digits f.places u) low high r
   pub no-unit : 3 < f.unit → r.verdict ≡ 4

@@ -1,7 +1,7 @@
 -- What a program in another language gets of a call on a shared ledger: numbers alone, as the answer's definition in Rattle says them.
 -- Definitions only.
 use Rattle.std.specs.Prelude.{List, ◌≡◌, ℕ, length}
-use Rattle.sheet.specs.Check.{number_of, place_of}
+use Rattle.refusals.specs.Check.{number_of, place_of}
 use Rattle.sheet.specs.Demands.{Says}
 use Rattle.report_words.specs.Report.{report}
 use Rattle.report_words.specs.Promise.{ReportPromise}

@@ -1,8 +1,7 @@
 -- What a program in another language gets of the calls that check a sheet and make no report: whether it is accepted, and how many words its
 -- report has. Definitions only.
-use Rattle.std.specs.Prelude.{List, ◌≡◌, ℕ, ◌≤◌, length}
-use Rattle.sheet.specs.declared.Check.{Check}
-use Rattle.sheet.specs.declared.Check.TheVariants.{Pass, Refused}
+use Rattle.std.specs.Prelude.{List, ◌≡◌, ℕ, ◌≤◌, length, Ok, Err}
+use Rattle.refusals.specs.Check.{Check, Pass, Refused}
 use Rattle.sheet.specs.Sheet.{sheet_check}
 use Rattle.sheet.specs.Demands.{Says, demands}
 use Rattle.report_words.specs.Report.{report}
@@ -17,8 +16,8 @@ pub record SheetNumbers (s : List ℕ) (r : EvpCheck) : Type 0 where
 
 -- the words that a checked sheet's report has, which are so many where there is one; 0 where the sheet is refused
 unfoldable pub words_of : Check → ℕ → ℕ
-words_of Pass count = count
-words_of (Refused number place) count = 0
+words_of (Ok _) count = count
+words_of (Err refusal) count = 0
 
 unfoldable pub report_words : List ℕ → ℕ
 report_words s = words_of (sheet_check s) (length (report s))

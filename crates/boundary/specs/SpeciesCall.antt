@@ -1,7 +1,7 @@
 -- What the call of the species answers a program in another language, and what it leaves in the buffer. Definitions only.
 use Rattle.std.specs.Prelude.{List, ◌≡◌, ℕ, ltb, length}
-use Rattle.sheet.specs.declared.Check.{Check}
-use Rattle.sheet.specs.Check.{refuse}
+use Rattle.refusals.specs.declared.Rule.TheVariants as rule
+use Rattle.refusals.specs.Check.{Check, refuse}
 use Rattle.inventory.specs.ReportCall.{written}
 use Rattle.speciation.specs.Split.{species_masses, SpeciesPromise}
 use Rattle.boundary.specs.declared.EvpCheck.{EvpCheck}
@@ -9,7 +9,7 @@ use Rattle.boundary.specs.Export.{check_numbers}
 
 -- a short buffer is refused as that of a report is: 22, place 0
 unfoldable pub species_check : ℕ → Check
-species_check room = refuse (ltb room 29) 22 0
+species_check room = refuse (ltb room 29) rule.Room 0
 
 -- What holds after the call, with the words that stood in the buffer before it and those that stand there now: a refusal changes no
 -- word, an accepted call none beyond the 29.

@@ -1,9 +1,8 @@
 -- What a program in another language gets of the text call: whether the text is a report, and its length. Definitions only.
 use Rattle.std.specs.Prelude.{List, ◌≡◌, ℕ, length}
-use Rattle.sheet.specs.declared.Check.{Check}
+use Rattle.refusals.specs.Check.{Check, number_of, place_of}
 use Rattle.sheet.specs.Versions.{version_of}
 use Rattle.sheet.specs.Bytes.{rows_of}
-use Rattle.sheet.specs.Check.{number_of, place_of}
 use Rattle.sheet.specs.Demands.{Says}
 use Rattle.report_words.specs.Report.{report}
 use Rattle.inventory.specs.ReportCall.{report_demands}

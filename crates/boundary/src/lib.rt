@@ -2,9 +2,7 @@
 // is defined in specs/; the code is in the crates boundary_calls and evaporation.
 #![tactic(auto)]
 
-use map_cells::Cell;
-use map_shares::{Mileages, Speeds, Travel};
-use marking::Unit;
+use map_shares::{Mileages, Speeds};
 
 // A refusal's number and place; number 0 where the sheet is accepted.
 #[repr(C)]
@@ -91,13 +89,6 @@ pub struct EvpTravel {
     pub speed: Speeds,
 }
 
-// What was handed in, or that its first number is neither 0 nor 1.
-#[derive(Clone, Copy)]
-pub enum TravelHanded {
-    Told(Travel),
-    NoTravel,
-}
-
 // A cell: kind 0 is empty, 1 one mass in both doubles, 2 a low and a high mass. Kind 3 is no cell.
 #[repr(C)]
 #[derive(Clone, Copy)]
@@ -127,13 +118,6 @@ pub struct EvpCellSum {
     pub cell: EvpCell,
 }
 
-// A cell handed in, or that its kind and doubles make none.
-#[derive(Clone, Copy)]
-pub enum Handed {
-    Given(Cell),
-    NoCell,
-}
-
 // A filed figure: its digits, how many of them stand behind the point, and its unit, 0 mg, 1 g, 2 kg, 3 t.
 #[repr(C)]
 #[derive(Clone, Copy)]
@@ -149,11 +133,4 @@ pub struct EvpFiled {
 pub struct EvpVerdict {
     pub verdict: u64,
     pub off: u64,
-}
-
-// The unit that a number names, or that it names none.
-#[derive(Clone, Copy)]
-pub enum UnitHanded {
-    Named(Unit),
-    NoUnit,
 }

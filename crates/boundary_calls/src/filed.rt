@@ -2,33 +2,27 @@
 ghost use Rattle.std.specs.Prelude.{◌≡◌};
 ghost use Rattle.boundary.specs.MarkExport.{unit_handed, handed_verdict, verdict_numbers};
 
-use boundary::{EvpVerdict, UnitHanded};
+use boundary::EvpVerdict;
 use marking::{Filed, Unit, Verdict, mark};
 
-pub fn unit_handed(unit: u64) -> UnitHanded
+// The unit that a number names, if it names one.
+pub fn unit_handed(unit: u64) -> Option<Unit>
     ensures { result ≡ unit_handed unit }
 {
-    if unit == 0 {
-        return UnitHanded::Named(Unit::Milligram);
-    }
-    if unit == 1 {
-        return UnitHanded::Named(Unit::Gram);
-    }
-    if unit == 2 {
-        return UnitHanded::Named(Unit::Kilogram);
-    }
-    if unit == 3 {
-        UnitHanded::Named(Unit::Tonne)
-    } else {
-        UnitHanded::NoUnit
+    match unit {
+        0 => Some(Unit::Milligram),
+        1 => Some(Unit::Gram),
+        2 => Some(Unit::Kilogram),
+        3 => Some(Unit::Tonne),
+        _ => None,
     }
 }
 
 // A figure without a unit is not read.
-pub fn mark_in(digits: u64, places: u64, unit: UnitHanded, low: u64, high: u64) -> Verdict
+pub fn mark_in(digits: u64, places: u64, unit: Option<Unit>, low: u64, high: u64) -> Verdict
     ensures { result ≡ handed_verdict digits places unit low high }
 {
-    let UnitHanded::Named(unit) = unit else {
+    let Some(unit) = unit else {
         return Verdict::Unreadable;
     };
     mark(

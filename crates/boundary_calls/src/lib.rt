@@ -6,8 +6,8 @@ ghost use Rattle.boundary.specs.Export.{check_numbers, factor_numbers};
 ghost use Rattle.boundary.specs.TextExport.{text_numbers};
 
 use boundary::{EvpCheck, EvpFactor, EvpText};
-use inventory::FactorAnswer;
-use sheet::Check;
+use inventory::Band;
+use refusals::{Check, Refusal};
 
 pub mod bulk;
 pub mod filed;
@@ -17,34 +17,39 @@ pub mod shared;
 pub mod sheets;
 pub mod species;
 
-pub fn factor_numbers(a: FactorAnswer) -> EvpFactor
+#[tactic(auto, unfolding(boundary::specs::Export::factor_numbers))]
+pub fn factor_numbers(a: Result<Band, Refusal>) -> EvpFactor
     ensures { result ≡ factor_numbers a }
 {
     match a {
-        FactorAnswer::Refused(number, place) => EvpFactor {
-            number,
+        Err(Refusal { rule, place }) => EvpFactor {
+            number: rule.number(),
             place,
             low: 0,
             high: 0,
         },
-        FactorAnswer::Band(low, high) => EvpFactor {
+        Ok(band) => EvpFactor {
             number: 0,
             place: 0,
-            low,
-            high,
+            low: band.low,
+            high: band.high,
         },
     }
 }
 
+#[tactic(auto, unfolding(boundary::specs::Export::check_numbers))]
 pub fn check_numbers(c: Check) -> EvpCheck
     ensures { result ≡ check_numbers c }
 {
     match c {
-        Check::Pass => EvpCheck {
+        Ok(()) => EvpCheck {
             number: 0,
             place: 0,
         },
-        Check::Refused(number, place) => EvpCheck { number, place },
+        Err(refusal) => EvpCheck {
+            number: refusal.rule.number(),
+            place: refusal.place,
+        },
     }
 }
 

@@ -3,7 +3,7 @@ ghost use Rattle.std.specs.Prelude.{◌≡◌};
 ghost use Rattle.boundary.specs.Cells.{cell_numbers, no_cell, row_numbers, sum_numbers, exact_handed, cell_handed, handed_sum, travel_handed};
 ghost use Rattle.boundary.specs.Cells.{handed_row};
 
-use boundary::{EvpCell, EvpCellSum, EvpRowCells, EvpTravel, Handed, TravelHanded};
+use boundary::{EvpCell, EvpCellSum, EvpRowCells, EvpTravel};
 use map_cells::sums::add_cells;
 use map_cells::{Cell, CellAnswer};
 use map_rows::{RowCellsAnswer, cells_of_row};
@@ -81,65 +81,66 @@ pub fn sum_numbers(a: CellAnswer) -> EvpCellSum
     }
 }
 
-// One mass stands in both doubles.
-fn exact_handed(low: f64, high: f64) -> Handed
+// One mass, where it stands in both doubles.
+fn exact_handed(low: f64, high: f64) -> Option<Cell>
     ensures { result ≡ exact_handed low high }
 {
     if low == high {
-        Handed::Given(Cell::Exact(low))
+        Some(Cell::Exact(low))
     } else {
-        Handed::NoCell
+        None
     }
 }
 
-pub fn cell_handed(c: EvpCell) -> Handed
+// A cell handed in, where its kind and doubles make one.
+pub fn cell_handed(c: EvpCell) -> Option<Cell>
     ensures { result ≡ cell_handed c }
 {
     if c.kind == 0 {
-        return Handed::Given(Cell::Empty);
+        return Some(Cell::Empty);
     }
     if c.kind == 1 {
         return exact_handed(c.low, c.high);
     }
     if c.kind == 2 {
-        Handed::Given(Cell::Band(c.low, c.high))
+        Some(Cell::Band(c.low, c.high))
     } else {
-        Handed::NoCell
+        None
     }
 }
 
-pub fn handed_sum(a: Handed, b: Handed) -> CellAnswer
+pub fn handed_sum(a: Option<Cell>, b: Option<Cell>) -> CellAnswer
     ensures { result ≡ handed_sum a b }
 {
-    let Handed::Given(x) = a else {
+    let Some(x) = a else {
         return CellAnswer::Refused(27, 0);
     };
-    let Handed::Given(y) = b else {
+    let Some(y) = b else {
         return CellAnswer::Refused(27, 0);
     };
     add_cells(x, y)
 }
 
-// Town is 0 or 1.
-pub fn travel_handed(t: EvpTravel) -> TravelHanded
+// What was handed in, where its first number is 0 or 1.
+pub fn travel_handed(t: EvpTravel) -> Option<Travel>
     ensures { result ≡ travel_handed t }
 {
     if 1 < t.town {
-        return TravelHanded::NoTravel;
+        return None;
     }
     let mileage = t.mileage;
     let speed = t.speed;
-    TravelHanded::Told(Travel {
+    Some(Travel {
         town: t.town == 1,
         mileage,
         speed,
     })
 }
 
-pub fn handed_row(w: Words, t: TravelHanded) -> RowCellsAnswer
+pub fn handed_row(w: Words, t: Option<Travel>) -> RowCellsAnswer
     ensures { result ≡ handed_row w t }
 {
-    let TravelHanded::Told(travel) = t else {
+    let Some(travel) = t else {
         return RowCellsAnswer::Refused(28, 0);
     };
     cells_of_row(w, travel)

@@ -3,14 +3,13 @@ ghost use Rattle.boundary.specs.SheetExport.{WordsCounted};
 
 use checks::check_sheet;
 use fields::rows_of;
-use sheet::Check;
 
 // Six for each row and 26 behind them; 0 where the sheet is refused.
 pub fn report_words(s: &[u8]) -> usize
     ensures { WordsCounted s.now result }
 {
-    if let Check::Refused(_, _) = check_sheet(s) {
-        return 0;
+    match check_sheet(s) {
+        Ok(()) => 6 * rows_of(s) + 26,
+        Err(_) => 0,
     }
-    6 * rows_of(s) + 26
 }

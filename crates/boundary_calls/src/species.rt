@@ -1,6 +1,6 @@
 // The species of a total at the front of a buffer, and those of a sheet as numbers.
 ghost use Rattle.std.specs.Prelude.{◌≡◌, ◌≤◌, length};
-ghost use Rattle.sheet.specs.declared.Check.TheVariants.{Pass};
+ghost use Rattle.refusals.specs.Check.{Pass};
 ghost use Rattle.inventory.specs.ReportCall.{written};
 ghost use Rattle.speciation.specs.Split.{species_masses};
 ghost use Rattle.boundary.specs.CompositionExport.{composition_numbers};
@@ -15,12 +15,7 @@ pub fn write_masses(total: u64, milligrams: &mut [u64])
     requires { 29 ≤ length milligrams.old }
     ensures { milligrams.new ≡ written Pass (species_masses total) milligrams.old }
 {
-    let masses = split(total);
-    let mut i: usize = 0;
-    while i < 29 {
-        milligrams[i] = masses[i];
-        i += 1;
-    }
+    milligrams[..29].copy_from_slice(&split(total));
 }
 
 pub fn composition_numbers(c: Composition) -> EvpComposition

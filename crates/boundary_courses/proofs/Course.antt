@@ -5,12 +5,11 @@ use mathlib.Core.Path.{◌≡◌, refl, ap, ap₂, ◌∙◌}
 use Prim.Native.Nat.{ℕ}
 use native.Mathlib.Omega.{arith}
 use lib.ListN.{length}
-use Rattle.sheet.specs.declared.Check.{Check}
-use Rattle.sheet.specs.declared.Check.TheVariants.{Pass}
-use Rattle.sheet.specs.Check.{number_of}
+use Rattle.refusals.specs.Check.{Check, Pass, number_of}
 use Rattle.inventory.specs.ReportCall.{ReportCall}
 use Rattle.inventory.specs.ReportAnswers.{report_check}
-use Rattle.inventory.proofs.CallConditions.{report-judged, number-zero}
+use Rattle.inventory.proofs.CallConditions.{report-judged}
+use Rattle.refusals.proofs.Numbers.{zero-passes}
 use Rattle.ledger.specs.declared.Call.{Call}
 use Rattle.ledger.specs.Ledger.{change_check, ChangeCall}
 use Rattle.ledger.specs.Course as rattle
@@ -36,7 +35,7 @@ report-of {s} {w} a =
 pub report-passes : {s w words : List ℕ} {r : EvpCheck} → ReportNumbers s w words r → r.number ≡ 0 → report_check s (length w) ≡ Pass
 report-passes {s} {w} a h =
     let zero : number_of (report_check s (length w)) ≡ 0 = rw (a.answer-is ∙ check-is _) at h in
-    number-zero s (report_check s (length w)) (report-judged s (length w)) (omega arith) zero
+    zero-passes (report_check s (length w)) zero
 
 -- a change
 change-of : {s w after words : List ℕ} {call : Call} {r : EvpCheck} → ChangeNumbers s w call after words r

@@ -1,20 +1,20 @@
 -- The numbers that `evp_pool` and `evp_report` return are those of the calls in Rattle, so that what pooling promises holds of the C calls.
 -- Assumes nothing.
+use Rattle.std.proofs.Common.{Ok, Err}
 use mathlib.Core.List.{List}
 use mathlib.Core.Logic.{⊎_elim}
 use mathlib.Core.Path.{◌≡◌, refl, ap, ◌∙◌}
 use Prim.Native.Nat.{ℕ, ◌+◌, ◌*◌}
 use native.Mathlib.Omega.{arith}
 use lib.ListN.{length, take}
-use Rattle.sheet.specs.declared.Check.TheVariants.{Pass}
+use Rattle.refusals.specs.Check.{Pass}
 use Rattle.sheet.specs.Bytes.{rows_of}
 use Rattle.sheet.specs.Demands.{FirstUnmet}
-use Rattle.sheet.proofs.Conditions.{no_zero}
+use Rattle.refusals.proofs.Numbers.{number-above}
 use Rattle.inventory.specs.ReportCall.{ReportCall}
-use Rattle.pooling.specs.declared.PoolAnswer.{PoolAnswer}
-use Rattle.pooling.specs.declared.PoolAnswer.TheVariants.{Accepted, First, Second, Pooled}
+use Rattle.pooling.specs.declared.PoolRefusal.TheVariants.{First, Second, Pooled}
 use Rattle.pooling.specs.Pool.{pool}
-use Rattle.pooling.specs.PoolCall.{pool_answer, PoolCall, PoolSays, region_demands, pair_demands}
+use Rattle.pooling.specs.PoolCall.{PoolAnswer, Accepted, pool_answer, PoolCall, PoolSays, region_demands, pair_demands}
 use Rattle.pooling.specs.PooledCalls.{pooled_bytes}
 use Rattle.pooling.proofs.PoolAnswers.{answer-check, poolable}
 use Rattle.pooling.proofs.PoolBytes.{pool-long}
@@ -27,23 +27,13 @@ use Rattle.boundary.specs.PoolExport.{pool_numbers, PoolNumbers}
 use Rattle.boundary_courses.specs.PooledCalls.{PoolCallsTheorem, OrderCallsTheorem}
 use Rattle.boundary_courses.proofs.Course.{zero_of, report-of, report-passes}
 
--- no demand has number 0
-region-no-zero : (s : List ℕ) (p : ℕ) → FirstUnmet 0 p (region_demands s) → ⊥
-region-no-zero s p u =
-    ⊎_elim (λ mark. ⊎_elim (λ m. omega (arith, m.0)) (λ m. omega (arith, m.1.0)) mark)
-    (λ rest. ⊎_elim (λ m. omega (arith, m.0)) (λ m. no_zero s p m.1) rest.1) u
-
-pair-no-zero : (a b : List ℕ) (room p : ℕ) → FirstUnmet 0 p (pair_demands a b room) → ⊥
-pair-no-zero a b room p u =
-    ⊎_elim (λ m. omega (arith, m.0)) (λ rest. ⊎_elim (no_zero (pool a b) p) (λ m. omega (arith, m.1.0)) rest.1) u
-
 -- so number 0 is that of an accepted pool alone
-zero-accepted : (a b : List ℕ) (room bytes : ℕ) (r : PoolAnswer) → PoolSays a b room r → (pool_numbers r bytes).number ≡ 0 → r ≡ Accepted
+zero-accepted : (bytes : ℕ) (r : PoolAnswer) → (pool_numbers r bytes).number ≡ 0 → r ≡ Accepted
 unfolding pool_numbers
-zero-accepted a b room bytes Accepted says h = refl
-zero-accepted a b room bytes (First number place) says h = absurd (region-no-zero a place (rw h at says))
-zero-accepted a b room bytes (Second number place) says h = absurd (region-no-zero b place (rw h at says.1))
-zero-accepted a b room bytes (Pooled number place) says h = absurd (pair-no-zero a b room place (rw h at says.2))
+zero-accepted bytes (Ok _) h = refl
+zero-accepted bytes (Err (First refusal)) h = let above = number-above refusal.rule in absurd (omega (arith, above, h))
+zero-accepted bytes (Err (Second refusal)) h = let above = number-above refusal.rule in absurd (omega (arith, above, h))
+zero-accepted bytes (Err (Pooled refusal)) h = let above = number-above refusal.rule in absurd (omega (arith, above, h))
 
 -- a pool whose numbers these are
 module _ {a b old out : List ℕ} {r : EvpPool} (n : PoolNumbers a b old out r) where
@@ -51,7 +41,7 @@ module _ {a b old out : List ℕ} {r : EvpPool} (n : PoolNumbers a b old out r) 
   pool-of = record { answer-is = refl; check-is = answer-check a b (length old); bytes-are = n.bytes-are; says = n.says }
 
   pool-accepted : r.number ≡ 0 → pool_answer a b (length old) ≡ Accepted
-  pool-accepted h = zero-accepted a b (length old) (length (pool a b)) (pool_answer a b (length old)) n.says (rw n.answer-is at h)
+  pool-accepted h = zero-accepted (length (pool a b)) (pool_answer a b (length old)) (rw n.answer-is at h)
 
   -- the bytes that it returned
   bytes_of : pool_answer a b (length old) ≡ Accepted → r.bytes ≡ length a + 24 * rows_of b

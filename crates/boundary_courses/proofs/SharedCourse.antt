@@ -6,8 +6,7 @@ use mathlib.Core.Path.{◌≡◌, refl, sym, ap, ap₂, ◌∙◌}
 use Prim.Native.Nat.{ℕ}
 use lib.Dec.{eqb}
 use lib.ListN.{length}
-use Rattle.sheet.specs.declared.Check.TheVariants.{Pass}
-use Rattle.sheet.specs.Check.{number_of, place_of}
+use Rattle.refusals.specs.Check.{Pass, number_of, place_of}
 use Rattle.ledger.specs.declared.Call.{Call}
 use Rattle.shared_ledger.specs.Opening.{shared_check, OpenCall}
 use Rattle.shared_ledger.specs.Calls.{row_told, totals_told, shared_change_check, shared_row_answer, shared_totals_answer}

@@ -9,6 +9,7 @@ ghost use Rattle.bounds.specs.Exponential.{exponential, exponent_limit, exponent
 
 use crate::fixed::mul_above;
 use crate::theta::{THETA_WORDS, thetas};
+use std::array;
 
 // 1 / 16, the step of the first table, in units of 10^-14
 const COARSE_STEP: u64 = 6250000000000;
@@ -121,19 +122,20 @@ fn word(table: &[u64; 578], coefficients: &[u64; THETA_WORDS], place: usize) -> 
     coefficients[place - THETA]
 }
 
+// The two tables of the exponential as a value.
+fn constants() -> [u64; 578]
+    ensures { result ≡ constants }
+{
+    TABLES
+}
+
 // All tables as one value. A call makes it once and passes it by reference: a constant is built anew wherever it is read.
 pub fn tables() -> ExpTables
     ensures { result ≡ entries }
 {
-    let table = TABLES;
+    let table = constants();
     let coefficients = thetas();
-    let mut out = [0u64; TABLE_WORDS];
-    let mut place: usize = 0;
-    while place < TABLE_WORDS {
-        out[place] = word(&table, &coefficients, place);
-        place += 1;
-    }
-    out
+    array::from_fn(|place| word(&table, &coefficients, place))
 }
 
 // just below 2^40 E((h - 256) / 16), for h from 0 to 321; then just below 2^40 E(m / 4096), for m from 0 to 255

@@ -27,11 +27,7 @@ fn one_way(mark: usize) -> usize
     requires { mark < 48 }
     ensures { (result ≡ one_way mark) × (result ≤ 28) }
 {
-    if mark < WARMEST {
-        WARMEST - mark
-    } else {
-        mark - WARMEST
-    }
+    mark.abs_diff(WARMEST)
 }
 
 // The same the shorter way round the day.
@@ -40,5 +36,5 @@ pub fn apart(mark: usize) -> usize
     ensures { (result ≡ apart mark) × (result ≤ 24) }
 {
     let way = one_way(mark);
-    if way < 24 { way } else { 48 - way }
+    way.min(48 - way)
 }

@@ -5,12 +5,12 @@ ghost use Rattle.std.specs.Prelude.{◌≡◌, ◌-◌, min};
 pub fn smaller(a: u64, b: u64) -> u64
     ensures { result ≡ min a b }
 {
-    if a < b { a } else { b }
+    a.min(b)
 }
 
 // a - b, and 0 where b is above a.
 pub fn minus(a: u64, b: u64) -> u64
     ensures { result ≡ a - b }
 {
-    if b < a { a - b } else { 0 }
+    a.saturating_sub(b)
 }

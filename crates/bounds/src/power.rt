@@ -21,6 +21,7 @@ fn root_from_above(x: u64) -> u64
     ensures { (result ≡ root x) × (result < 2 ^ 32) }
 {
     let mut r: u64 = 4294967295;
+    // A while: the steps end where the root is reached. With std's isqrt, 32 steps each, a season's marks take a quarter longer.
     while x / r < r {
         r = (r + x / r) / 2;
     }
@@ -47,10 +48,5 @@ pub fn power(warmth: u64) -> u64
     requires { warmth ≤ degrees_limit }
     ensures { (result ≡ power warmth) × (result < 2 ^ 40) × WithinAll (2 ^ 24) result power_error (λ n. power2_5 n (degrees warmth)) }
 {
-    let n = if warmth < FREEZING {
-        0
-    } else {
-        warmth - FREEZING
-    };
-    half_power(n) * FACTOR / SCALE
+    half_power(warmth.saturating_sub(FREEZING)) * FACTOR / SCALE
 }

@@ -9,7 +9,6 @@ ghost use Rattle.bounds.specs.Short.{short_exponent, short, short_limit, short_e
 
 use crate::exp::{ExpTables, FINEST, HIGH};
 use crate::fixed::mul_shift;
-use crate::order::smaller;
 
 // 1 / 16 and 1 / 16384, the steps of the two tables, in units of 2^-53, and how many of these the second table has
 const HIGH_STEP: u64 = 562949953421312;
@@ -74,5 +73,5 @@ pub fn risen(z: u64, k: u64, r: u64, top: u64) -> u64
     requires { (z < 2 ^ 62) × (k ≤ 9 * 2 ^ 36) × (r ≤ 72 * 2 ^ 40) }
     ensures { result ≡ min (z + k * r / 2 ^ 23) top }
 {
-    smaller(z + (r / TWO_23 * k + r % TWO_23 * k / TWO_23), top)
+    u64::min(z + (r / TWO_23 * k + r % TWO_23 * k / TWO_23), top)
 }

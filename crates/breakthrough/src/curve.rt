@@ -5,7 +5,6 @@ ghost use Rattle.breakthrough.specs.Through.{CurveReady, exponent_of, through};
 
 use bounds::exp::ExpTables;
 use bounds::fixed::mul_shift;
-use bounds::order::minus;
 use bounds::short::{risen, short};
 
 // From units of 2^-36 g to units of 2^-40 g.
@@ -36,15 +35,16 @@ fn overflow(c: Curve, rise: u64, x: u64) -> u64
     if x + TWO_24 < c.last {
         0
     } else {
-        minus(mul_shift(c.gain, rise), c.room)
+        mul_shift(c.gain, rise).saturating_sub(c.room)
     }
 }
 
 // What breaks through of the vapour of a rise.
+#[tactic(auto, unfolding(crate::specs::Through::through))]
 pub fn through(tables: &ExpTables, c: Curve, rise: u64) -> u64
     requires { (tables.now ≡ entries) × CurveReady c × (rise ≤ 72 * 2 ^ 40) }
     ensures { result ≡ through c rise }
 {
     let x = risen(c.exponent, c.reach, rise, c.last);
-    minus(short(tables, x) * TWO_4 + overflow(c, rise, x), c.first)
+    (short(tables, x) * TWO_4 + overflow(c, rise, x)).saturating_sub(c.first)
 }

@@ -1,6 +1,6 @@
 // A season's a and b at each temperature of a day, and a row's canister by them: its curve there, and what it has lost when a parking
 // starts. A day has 25 temperatures, by a mark's distance from 14:00.
-ghost use Rattle.std.specs.Prelude.{◌≡◌, ℕ, ◌+◌, ◌*◌, ◌-◌, ◌/◌, ◌^◌, ◌≤◌};
+ghost use Rattle.std.specs.Prelude.{◌≡◌, ℕ, ◌+◌, ◌*◌, ◌-◌, ◌/◌, ◌^◌, ◌<◌, ◌≤◌};
 ghost use Rattle.bounds.specs.Exponential.{entries};
 ghost use Rattle.numbers.specs.Lists.{tab, at, AllAtMost};
 ghost use Rattle.sheet.specs.Limits.{vp_limit};
@@ -8,7 +8,9 @@ ghost use Rattle.bounds.specs.Short.{short, binary, line_of, reach_of};
 ghost use Rattle.factors.specs.Escape.{base, tenth_grams, driven_error};
 ghost use Rattle.factors.specs.Units.{loss_error};
 ghost use Rattle.breakthrough.specs.Curves.{CurvesFit, CurvesBy, starts_by, FitReady};
+ghost use Rattle.breakthrough.specs.Through.{curve_at};
 
+use crate::curve::Curve;
 use crate::loads::{loss_error, start_loads, tenth_grams};
 use bounds::exp::ExpTables;
 use bounds::fixed::mul_shift;
@@ -24,6 +26,23 @@ pub struct Curves {
     pub rooms: [u64; 25],
     pub firsts: [u64; 25],
     pub gain: u64,
+}
+
+impl Curves {
+    // The canister at a distance from 14:00.
+    pub fn curve_at(&self, d: usize) -> Curve
+        requires { d < 25 }
+        ensures { result ≡ curve_at self.now d }
+    {
+        Curve {
+            exponent: self.exponents[d],
+            last: self.lasts[d],
+            reach: self.reaches[d],
+            room: self.rooms[d],
+            first: self.firsts[d],
+            gain: self.gain,
+        }
+    }
 }
 
 // a at -30 °C and a vapour pressure of 0; what it gains with each unit of warmth; and what it loses with each tenth of a kPa.
@@ -49,10 +68,8 @@ pub fn bases(warmths: &[u64; 25], vp: u64) -> [u64; 25]
     ensures { result ≡ tab (λ (d : ℕ). binary (base vp (at warmths.now d))) 25 }
 {
     let mut out = [0u64; 25];
-    let mut d: usize = 0;
-    while d < 25 {
-        out[d] = binary(BASE + BASE_BY_WARMTH * warmths[d] - BASE_BY_PRESSURE * vp);
-        d += 1;
+    for (d, base) in out.iter_mut().enumerate() {
+        *base = binary(BASE + BASE_BY_WARMTH * warmths[d] - BASE_BY_PRESSURE * vp);
     }
     out
 }
@@ -63,10 +80,8 @@ pub fn growths(warmths: &[u64; 25], vp: u64, times: u64) -> [u64; 25]
     ensures { result ≡ tab (λ (d : ℕ). binary ((112 * 10 ^ 11 + at warmths.now d - 15 * 10 ^ 8 * vp) * times)) 25 }
 {
     let mut out = [0u64; 25];
-    let mut d: usize = 0;
-    while d < 25 {
-        out[d] = binary((GROWTH + warmths[d] - GROWTH_BY_PRESSURE * vp) * times);
-        d += 1;
+    for (d, growth) in out.iter_mut().enumerate() {
+        *growth = binary((GROWTH + warmths[d] - GROWTH_BY_PRESSURE * vp) * times);
     }
     out
 }
@@ -77,10 +92,8 @@ fn lines(bases: &[u64; 25], growths: &[u64; 25], loads: &[u64; 25]) -> [u64; 25]
     ensures { result ≡ tab (λ (d : ℕ). line_of (at bases.now d) (at growths.now d) (at loads.now d)) 25 }
 {
     let mut out = [0u64; 25];
-    let mut d: usize = 0;
-    while d < 25 {
-        out[d] = line(bases[d], growths[d], loads[d]);
-        d += 1;
+    for (d, exponent) in out.iter_mut().enumerate() {
+        *exponent = line(bases[d], growths[d], loads[d]);
     }
     out
 }
@@ -91,10 +104,8 @@ fn reaches(growths: &[u64; 25], gain: u64) -> [u64; 25]
     ensures { result ≡ tab (λ (d : ℕ). reach_of (at growths.now d) gain) 25 }
 {
     let mut out = [0u64; 25];
-    let mut d: usize = 0;
-    while d < 25 {
-        out[d] = mul_shift(growths[d], gain) / TWO_9;
-        d += 1;
+    for (d, reach) in out.iter_mut().enumerate() {
+        *reach = mul_shift(growths[d], gain) / TWO_9;
     }
     out
 }
@@ -105,10 +116,8 @@ fn rooms(loads: &[u64; 25], saturation: u64) -> [u64; 25]
     ensures { result ≡ tab (λ (d : ℕ). saturation + 1 - at loads.now d) 25 }
 {
     let mut out = [0u64; 25];
-    let mut d: usize = 0;
-    while d < 25 {
-        out[d] = saturation + 1 - loads[d];
-        d += 1;
+    for (d, room) in out.iter_mut().enumerate() {
+        *room = saturation + 1 - loads[d];
     }
     out
 }
@@ -119,10 +128,8 @@ fn first_losses(tables: &ExpTables, exponents: &[u64; 25], error: u64) -> [u64; 
     ensures { result ≡ tab (λ (d : ℕ). short (at exponents.now d) * 2 ^ 4 + error) 25 }
 {
     let mut out = [0u64; 25];
-    let mut d: usize = 0;
-    while d < 25 {
-        out[d] = short(tables, exponents[d]) * TWO_4 + error;
-        d += 1;
+    for (d, first) in out.iter_mut().enumerate() {
+        *first = short(tables, exponents[d]) * TWO_4 + error;
     }
     out
 }

@@ -22,6 +22,7 @@ const WRITTEN_ERROR: u64 = 93010;
 const DRIVEN_ERROR: u64 = 192570;
 
 // Tenths of a gram in units of 2^-40 g, cut.
+#[tactic(auto, unfolding(factors::specs::Escape::tenth_grams))]
 pub fn tenth_grams(m: u64) -> u64
     requires { m ≤ 3685 }
     ensures { result ≡ tenth_grams m }

@@ -1,14 +1,15 @@
-// What breaks through a row's canister: in the parkings of a season's list, and over a raise at their ends or starts.
+// What breaks through a row's canister: in the parkings of a season's list, and over a raise at their starts or ends.
 ghost use Rattle.std.specs.Prelude.{◌≡◌, ℕ, ◌*◌, ◌/◌, ◌^◌};
 ghost use Rattle.bounds.specs.Exponential.{entries};
 ghost use Rattle.numbers.specs.Lists.{AllAtMost};
-ghost use Rattle.parking.specs.Grid.{cells_in, GridReady};
+ghost use Rattle.parking.specs.Grid.{is_end, cells_in, GridReady};
 ghost use Rattle.parking.specs.SeasonList.{by_entry, ListFits};
 ghost use Rattle.breakthrough.specs.Through.{CurvesReady, curve_at, through, raise_through};
 
-use crate::curve::{Curve, through};
+use crate::curve::through;
 use crate::curves::Curves;
 use bounds::exp::ExpTables;
+use parking::cells::Moment;
 use parking::grid::SUM;
 use parking::means::apart_place;
 use parking::season_list::{COUNTS, LENGTH, RISES};
@@ -23,49 +24,29 @@ pub fn through_list(tables: &ExpTables, list: &[u64; 1732], c: Curves) -> u64
 {
     let n = list[LENGTH] as usize;
     let mut sum: u64 = 0;
-    let mut k: usize = 0;
-    while k < n {
-        let d = list[k] as usize;
-        let curve = Curve {
-            exponent: c.exponents[d],
-            last: c.lasts[d],
-            reach: c.reaches[d],
-            room: c.rooms[d],
-            first: c.firsts[d],
-            gain: c.gain,
-        };
+    for k in 0..n {
+        let curve = c.curve_at(list[k] as usize);
         sum += list[COUNTS + k] * (through(tables, curve, list[RISES + k]) / CUT);
-        k += 1;
     }
     sum
 }
 
-// Of the rise when the temperature at the end, or the start, of each parking is raised, the mean in units of 2^-28 g. The raises stand by
+// Of the rise when the temperature at the start, or the end, of each parking is raised, the mean in units of 2^-28 g. The raises stand by
 // distance from 14:00.
 pub fn through_raises(
     tables: &ExpTables,
     grid: &[u64; 627],
-    ends: bool,
+    moment: Moment,
     raises: &[u64; 25],
     c: Curves,
 ) -> u64
     requires { (tables.now ≡ entries) × GridReady grid.now × CurvesReady c × AllAtMost (56 * 2 ^ 40) raises.now }
-    ensures { result ≡ raise_through (cells_in grid.now) ends raises.now c }
+    ensures { result ≡ raise_through (cells_in grid.now) (is_end moment) raises.now c }
 {
-    let first = apart_place(ends);
+    let first = apart_place(moment);
     let mut sum: u64 = 0;
-    let mut d: usize = 0;
-    while d < 25 {
-        let curve = Curve {
-            exponent: c.exponents[d],
-            last: c.lasts[d],
-            reach: c.reaches[d],
-            room: c.rooms[d],
-            first: c.firsts[d],
-            gain: c.gain,
-        };
-        sum += grid[first + d] * (through(tables, curve, raises[d]) / CUT);
-        d += 1;
+    for (d, &raise) in raises.iter().enumerate() {
+        sum += grid[first + d] * (through(tables, c.curve_at(d), raise) / CUT);
     }
     sum / grid[SUM]
 }

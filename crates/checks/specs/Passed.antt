@@ -1,8 +1,7 @@
 -- Need not be believed: what the checks before the rows have shown of a sheet, for the `requires` of the checks of a row.
 use Rattle.std.specs.Prelude.{List, ◌≡◌, ℕ, ◌≤◌, length}
-use Rattle.sheet.specs.declared.Check.TheVariants.{Pass}
+use Rattle.refusals.specs.Check.{Pass, each}
 use Rattle.sheet.specs.Bytes.{seasons_of, row_place}
-use Rattle.sheet.specs.Check.{each}
 use Rattle.sheet.specs.Sheet.{season_check}
 
 -- the seasons are there, and each has passed its own checks

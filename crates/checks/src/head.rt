@@ -3,12 +3,12 @@ ghost use Rattle.std.specs.Prelude.{◌≡◌, ◌≤◌, length};
 ghost use Rattle.sheet.specs.Sheet.{letters_missing, mark_check, numbers_check, head_check, length_check};
 
 use fields::limits::{SEASONS_LIMIT, VERSION_LIMIT};
-use fields::refusal::{or_else, outside, when};
+use fields::range::outside;
 use fields::{
     ROW_BYTES, SEASON_BYTES, has_many_rows, rows_most, rows_of, seasons_of, seasons_start, u8_at,
     version_of,
 };
-use sheet::Check;
+use refusals::{Check, Refusal, Rule, refuse};
 
 // The length of the head.
 const HEAD: usize = 8;
@@ -23,53 +23,47 @@ fn letters_missing(s: &[u8]) -> bool
 }
 
 // Numbers 1 and 2. The letters are compared before any field is read.
+#[tactic(auto, using(refusals::proofs::Chain::chained), unfolding(sheet::specs::Sheet::mark_check))]
 pub fn mark_check(s: &[u8]) -> Check
     ensures { result ≡ mark_check s.now }
 {
     if s.len() < HEAD {
-        return Check::Refused(1, 0);
+        return Err(Refusal {
+            rule: Rule::HeadShort,
+            place: 0,
+        });
     }
-    when(letters_missing(s), 2, 0)
+    refuse(letters_missing(s), Rule::Mark, 0)
 }
 
 // Numbers 3 to 6: the version, the numbers of seasons and of rows, and the zero byte of the versions with one byte for the rows.
+#[tactic(auto, using(refusals::proofs::Chain::chained), unfolding(sheet::specs::Sheet::numbers_check))]
 fn numbers_check(s: &[u8]) -> Check
     requires { 8 ≤ length s.now }
     ensures { result ≡ numbers_check s.now }
 {
-    let version = outside(1, VERSION_LIMIT, version_of(s));
-    let seasons = outside(1, SEASONS_LIMIT, u8_at(s, 5));
-    let rows = outside(1, rows_most(s), rows_of(s) as u64);
-    let byte_7 = u8_at(s, 7);
-    let wrong = !has_many_rows(s) & (byte_7 != 0);
-    or_else(
-        when(version, 3, 3),
-        or_else(
-            when(seasons, 4, 5),
-            or_else(when(rows, 5, 6), when(wrong, 6, 7)),
-        ),
-    )
+    let zero_wrong = !has_many_rows(s) & (u8_at(s, 7) != 0);
+    refuse(outside(1, VERSION_LIMIT, version_of(s)), Rule::Version, 3)?;
+    refuse(outside(1, SEASONS_LIMIT, u8_at(s, 5)), Rule::Seasons, 5)?;
+    refuse(outside(1, rows_most(s), rows_of(s) as u64), Rule::Rows, 6)?;
+    refuse(zero_wrong, Rule::HeadZero, 7)
 }
 
 // Numbers 1 to 6.
+#[tactic(auto, using(refusals::proofs::Chain::chained), unfolding(sheet::specs::Sheet::head_check))]
 pub fn head_check(s: &[u8]) -> Check
     ensures { result ≡ head_check s.now }
 {
-    let mark = mark_check(s);
-    if let Check::Refused(_, _) = mark {
-        return mark;
-    }
+    mark_check(s)?;
     numbers_check(s)
 }
 
 // The length is the one that the head's version and its numbers of seasons and rows give.
+#[tactic(auto, using(refusals::proofs::Chain::chained), unfolding(sheet::specs::Sheet::length_check))]
 pub fn length_check(s: &[u8]) -> Check
     requires { 8 ≤ length s.now }
     ensures { result ≡ length_check s.now }
 {
-    when(
-        s.len() != seasons_start(s) + SEASON_BYTES * seasons_of(s) + ROW_BYTES * rows_of(s),
-        7,
-        0,
-    )
+    let wanted = seasons_start(s) + SEASON_BYTES * seasons_of(s) + ROW_BYTES * rows_of(s);
+    refuse(s.len() != wanted, Rule::Length, 0)
 }

@@ -2,7 +2,7 @@
 #![tactic(auto)]
 
 ghost use Rattle.std.specs.Prelude.{◌≡◌};
-ghost use Rattle.sheet.specs.Check.{number_of, place_of};
+ghost use Rattle.refusals.specs.Check.{number_of, place_of};
 ghost use Rattle.sheet.specs.Sheet.{sheet_check};
 ghost use Rattle.sheet.specs.Demands.{Says, demands};
 
@@ -10,7 +10,7 @@ use crate::head::{head_check, length_check};
 use crate::parking::parking_check;
 use crate::rows::rows_check;
 use crate::seasons::seasons_check;
-use sheet::Check;
+use refusals::Check;
 
 pub mod head;
 mod parking;
@@ -18,25 +18,14 @@ mod rows;
 mod seasons;
 
 // The stages one after another, in table and file order. Each reads only what the stages before it showed to be there.
+#[tactic(auto, using(refusals::proofs::Chain::chained), unfolding(sheet::specs::Sheet::sheet_check))]
 fn stages(s: &[u8]) -> Check
     ensures { result ≡ sheet_check s.now }
 {
-    let head = head_check(s);
-    if let Check::Refused(_, _) = head {
-        return head;
-    }
-    let length = length_check(s);
-    if let Check::Refused(_, _) = length {
-        return length;
-    }
-    let parking = parking_check(s);
-    if let Check::Refused(_, _) = parking {
-        return parking;
-    }
-    let seasons = seasons_check(s);
-    if let Check::Refused(_, _) = seasons {
-        return seasons;
-    }
+    head_check(s)?;
+    length_check(s)?;
+    parking_check(s)?;
+    seasons_check(s)?;
     rows_check(s)
 }
 

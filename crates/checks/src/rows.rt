@@ -4,7 +4,7 @@ ghost use Rattle.sheet.specs.Limits.{vehicles_limit, fleet_limit, tank_limit, tr
 ghost use Rattle.sheet.specs.Integers.{u8_at, u16_at};
 ghost use Rattle.sheet.specs.Versions.{has_mileage, has_many_rows};
 ghost use Rattle.sheet.specs.Bytes.{seasons_of, rows_of, row_place, equipment_at};
-ghost use Rattle.sheet.specs.Check.{refuse, ◌then◌, each};
+ghost use Rattle.refusals.specs.Check.{refuse, ◌then◌, each};
 ghost use Rattle.sheet.specs.Sheet.{is_absent, code_wrong, percent_wrong, load_wrong};
 ghost use Rattle.sheet.specs.Sheet.{saturation_above, some_season, mileage_wrong, row_check};
 ghost use Rattle.sheet.specs.RunningSums.{vehicles_before};
@@ -17,12 +17,11 @@ use fields::limits::{
     FLEET_LIMIT, MILEAGE_LIMIT, MINUTES_LIMIT, PERCENT_LIMIT, TANK_LIMIT, TRIPS_LIMIT,
     VEHICLES_LIMIT,
 };
-use fields::refusal::{or_else, when};
 use fields::{
     equipment_at, has_many_rows, has_mileage, row_at, row_place, rows_of, season_at, seasons_of,
     u8_at, u16_at, vehicles_of, warmth,
 };
-use sheet::Check;
+use refusals::{Check, Rule, refuse};
 
 // The class and technology are not in the table.
 fn is_absent(e: Equipment) -> bool
@@ -78,12 +77,9 @@ fn saturated(s: &[u8], limit: u64, canister: Canister, saturation: u64) -> bool
     requires { SeasonsPassed s.now × (limit ≤ 3) × (saturation < 65536) }
     ensures { result ≡ some_season (saturation_above limit canister saturation) s.now (seasons_of s.now) }
 {
-    let n = seasons_of(s);
     let mut wrong = false;
-    let mut i: usize = 0;
-    while i < n {
+    for i in 0..seasons_of(s) {
         wrong = wrong | saturation_above(limit, canister, saturation, season_at(s, i));
-        i += 1;
     }
     wrong
 }
@@ -100,67 +96,67 @@ fn mileage_wrong(s: &[u8], row: Row) -> bool
 }
 
 // Numbers 13 to 15 of the row that starts at p.
+#[tactic(auto, using(refusals::proofs::Chain::chained))]
 fn class_check(s: &[u8], row: Row, p: usize) -> Check
     requires { p + 24 ≤ length s.now }
     ensures { result ≡ (
-        refuse (is_absent (equipment_at s.now p)) 13 p then
-        refuse (code_wrong (u8_at s.now (p + 2))) 14 p then
-        refuse (percent_wrong row) 15 p) }
+        refuse (is_absent (equipment_at s.now p)) Rule.Class p then
+        refuse (code_wrong (u8_at s.now (p + 2))) Rule.CanisterCode p then
+        refuse (percent_wrong row) Rule.Percent p) }
 {
     let place = p as u64;
-    let equipment = equipment_at(s, p);
-    or_else(
-        when(is_absent(equipment), 13, place),
-        or_else(
-            when(code_wrong(u8_at(s, p + 2)), 14, place),
-            when(percent_wrong(row), 15, place),
-        ),
-    )
+    refuse(is_absent(equipment_at(s, p)), Rule::Class, place)?;
+    refuse(code_wrong(u8_at(s, p + 2)), Rule::CanisterCode, place)?;
+    refuse(percent_wrong(row), Rule::Percent, place)
 }
 
 // Numbers 16 and 26, after so many vehicles in the rows before.
+#[tactic(auto, using(refusals::proofs::Chain::chained))]
 fn fleet_check(s: &[u8], vehicles: u64, before: u64, p: usize) -> Check
     requires { (8 ≤ length s.now) × (vehicles < 2 ^ 32) × (before < 2 ^ 62) }
     ensures { result ≡ (
-        refuse (ltb vehicles_limit vehicles) 16 p then
-        refuse (has_many_rows s.now && ltb fleet_limit (before + vehicles)) 26 p) }
+        refuse (ltb vehicles_limit vehicles) Rule.Vehicles p then
+        refuse (has_many_rows s.now && ltb fleet_limit (before + vehicles)) Rule.Fleet p) }
 {
     let place = p as u64;
     let exceeded = has_many_rows(s) & (FLEET_LIMIT < before + vehicles);
-    or_else(
-        when(VEHICLES_LIMIT < vehicles, 16, place),
-        when(exceeded, 26, place),
-    )
+    refuse(VEHICLES_LIMIT < vehicles, Rule::Vehicles, place)?;
+    refuse(exceeded, Rule::Fleet, place)
 }
 
 // Numbers 17 and 18.
+#[tactic(auto, using(refusals::proofs::Chain::chained))]
 fn use_check(s: &[u8], row: Row, p: usize) -> Check
     requires { p + 24 ≤ length s.now }
     ensures { result ≡ (
-        refuse (ltb tank_limit (u16_at s.now (p + 6))) 17 p then
-        refuse (ltb trips_limit row.trips || ltb minutes_limit row.minutes) 18 p) }
+        refuse (ltb tank_limit (u16_at s.now (p + 6))) Rule.Tank p then
+        refuse (ltb trips_limit row.trips || ltb minutes_limit row.minutes) Rule.Trips p) }
 {
     let place = p as u64;
     let driving = (TRIPS_LIMIT < row.trips) | (MINUTES_LIMIT < row.minutes);
-    or_else(
-        when(TANK_LIMIT < u16_at(s, p + 6), 17, place),
-        when(driving, 18, place),
-    )
+    refuse(TANK_LIMIT < u16_at(s, p + 6), Rule::Tank, place)?;
+    refuse(driving, Rule::Trips, place)
 }
 
 // Numbers 19 and 20.
+#[tactic(auto, using(refusals::proofs::Chain::chained))]
 fn load_check(s: &[u8], row: Row, p: usize) -> Check
     requires { SeasonsPassed s.now × (row.saturation < 65536) }
     ensures { result ≡ (
-        refuse (load_wrong row.canister row.load row.saturation) 19 p then
-        refuse (some_season (saturation_above 3 row.canister row.saturation) s.now (seasons_of s.now)) 20 p) }
+        refuse (load_wrong row.canister row.load row.saturation) Rule.Load p then
+        refuse (some_season (saturation_above 3 row.canister row.saturation) s.now (seasons_of s.now)) Rule.Exponent p) }
 {
     let place = p as u64;
     let canister = row.canister;
-    let load = load_wrong(canister, row.load, row.saturation);
-    or_else(
-        when(load, 19, place),
-        when(saturated(s, 3, canister, row.saturation), 20, place),
+    refuse(
+        load_wrong(canister, row.load, row.saturation),
+        Rule::Load,
+        place,
+    )?;
+    refuse(
+        saturated(s, 3, canister, row.saturation),
+        Rule::Exponent,
+        place,
     )
 }
 
@@ -168,47 +164,41 @@ fn load_check(s: &[u8], row: Row, p: usize) -> Check
 fn mileage_check(s: &[u8], row: Row, p: usize) -> Check
     requires { SeasonsPassed s.now × (row.saturation < 65536) }
     ensures { result ≡ (
-        refuse (not (has_mileage s.now) && not (eqb row.mileage 0)) 21 p then
-        refuse (has_mileage s.now && mileage_wrong s.now row) 25 p) }
+        refuse (not (has_mileage s.now) && not (eqb row.mileage 0)) Rule.RowZeros p then
+        refuse (has_mileage s.now && mileage_wrong s.now row) Rule.Mileage p) }
 {
     let place = p as u64;
     if has_mileage(s) {
-        return when(mileage_wrong(s, row), 25, place);
+        return refuse(mileage_wrong(s, row), Rule::Mileage, place);
     }
-    when(row.mileage != 0, 21, place)
+    refuse(row.mileage != 0, Rule::RowZeros, place)
 }
 
 // Row i, after so many vehicles in the rows before.
+#[tactic(auto, using(refusals::proofs::Chain::chained, sheet::proofs::Stages::row_stages))]
 fn row_check(s: &[u8], i: usize, before: u64) -> Check
     requires { SeasonsPassed s.now × (row_place s.now i + 24 ≤ length s.now) × (before ≡ vehicles_before s.now i) × (before < 2 ^ 62) }
     ensures { result ≡ row_check s.now i }
 {
     let row = row_at(s, i);
     let p = row_place(s, i);
-    let class = class_check(s, row, p);
-    let fleet = fleet_check(s, row.vehicles, before, p);
-    let early = or_else(class, or_else(fleet, use_check(s, row, p)));
-    or_else(
-        early,
-        or_else(load_check(s, row, p), mileage_check(s, row, p)),
-    )
+    class_check(s, row, p)?;
+    fleet_check(s, row.vehicles, before, p)?;
+    use_check(s, row, p)?;
+    load_check(s, row, p)?;
+    mileage_check(s, row, p)
 }
 
 // The rows one after another.
+#[tactic(auto, using(refusals::proofs::Chain::chained))]
 pub fn rows_check(s: &[u8]) -> Check
     requires { SeasonsPassed s.now × (row_place s.now (rows_of s.now) ≤ length s.now) }
     ensures { result ≡ each (row_check s.now) (rows_of s.now) }
 {
-    let n = rows_of(s);
     let mut before: u64 = 0;
-    let mut i: usize = 0;
-    while i < n {
-        let one = row_check(s, i, before);
-        if let Check::Refused(number, place) = one {
-            return Check::Refused(number, place);
-        }
+    for i in 0..rows_of(s) {
+        row_check(s, i, before)?;
         before += vehicles_of(s, i);
-        i += 1;
     }
-    Check::Pass
+    Ok(())
 }

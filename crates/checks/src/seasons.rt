@@ -2,15 +2,15 @@
 ghost use Rattle.std.specs.Prelude.{◌≡◌, ◌+◌, ◌<◌, ◌≤◌, length};
 ghost use Rattle.sheet.specs.Limits.{days_limit};
 ghost use Rattle.sheet.specs.Bytes.{seasons_of, season_place, row_place};
-ghost use Rattle.sheet.specs.Check.{each};
+ghost use Rattle.refusals.specs.Check.{each};
 ghost use Rattle.sheet.specs.Sheet.{temperatures_wrong, season_check};
 ghost use Rattle.sheet.specs.RunningSums.{days_before};
 
 use exact::Season;
 use fields::limits::{COLD_LIMIT, DAYS_LIMIT, VP_LEAST, VP_LIMIT, WARM_LIMIT};
-use fields::refusal::{or_else, outside, when};
+use fields::range::outside;
 use fields::{season_at, season_place, seasons_of, warmth};
-use sheet::Check;
+use refusals::{Check, Rule, refuse};
 
 // The temperatures are out of range or the wrong way round. A lowest that is not above the highest is in range where that is.
 fn temperatures_wrong(season: Season) -> bool
@@ -23,6 +23,7 @@ fn temperatures_wrong(season: Season) -> bool
 }
 
 // Season i, with the days of the seasons before it.
+#[tactic(auto, using(refusals::proofs::Chain::chained), unfolding(sheet::specs::Sheet::season_check))]
 fn season_check(s: &[u8], i: usize, before: u64) -> Check
     requires { (season_place s.now i + 8 ≤ length s.now) × (before ≡ days_before s.now i) × (before ≤ days_limit) }
     ensures { result ≡ season_check s.now i }
@@ -30,30 +31,25 @@ fn season_check(s: &[u8], i: usize, before: u64) -> Check
     let season = season_at(s, i);
     let place = season_place(s, i) as u64;
     let days = outside(1, DAYS_LIMIT, season.days) | (DAYS_LIMIT < before + season.days);
-    or_else(
-        when(days, 10, place),
-        or_else(
-            when(temperatures_wrong(season), 11, place),
-            when(outside(VP_LEAST, VP_LIMIT, season.vp), 12, place),
-        ),
+    refuse(days, Rule::Days, place)?;
+    refuse(temperatures_wrong(season), Rule::Temperatures, place)?;
+    refuse(
+        outside(VP_LEAST, VP_LIMIT, season.vp),
+        Rule::VapourPressure,
+        place,
     )
 }
 
 // The seasons one after another, with their running sum of days.
+#[tactic(auto, using(refusals::proofs::Chain::chained))]
 pub fn seasons_check(s: &[u8]) -> Check
     requires { row_place s.now 0 ≤ length s.now }
     ensures { result ≡ each (season_check s.now) (seasons_of s.now) }
 {
-    let n = seasons_of(s);
     let mut before: u64 = 0;
-    let mut i: usize = 0;
-    while i < n {
-        let one = season_check(s, i, before);
-        if let Check::Refused(number, place) = one {
-            return Check::Refused(number, place);
-        }
+    for i in 0..seasons_of(s) {
+        season_check(s, i, before)?;
         before += season_at(s, i).days;
-        i += 1;
     }
-    Check::Pass
+    Ok(())
 }

@@ -10,12 +10,12 @@ use Rattle.numbers.specs.Lists.{tab, at}
 use Rattle.numbers.proofs.Lists.{tab-length, get_d-tab, tab-ext}
 use Rattle.factors.specs.Units.{low_micrograms, high_micrograms}
 use Rattle.row_factors.specs.Seven.{seven_units}
-use Rattle.sheet.specs.declared.Check.TheVariants.{Pass}
+use Rattle.refusals.specs.Check.{number_of, Pass}
 use Rattle.sheet.specs.Bytes.{cells_of, season_at, row_at}
 use Rattle.sheet.specs.Sheet.{outside}
 use Rattle.sheet.proofs.Accepted.{Bytes}
-use Rattle.inventory.specs.declared.FactorAnswer.TheVariants as answer
-use Rattle.inventory.specs.FactorBand.{numbered, FactorBand, answer_number, answer_low, answer_high}
+use Rattle.std.proofs.Common.{Ok}
+use Rattle.inventory.specs.FactorBand.{numbered, FactorBand, answer_low, answer_high}
 use Rattle.inventory.specs.FactorAnswers.{factor_check, units_at, factor_answer}
 use Rattle.inventory.proofs.FactorPromise.{band-is, promised}
 use Rattle.factor_table.specs.RowFactors.{side, band_of, band_words, low_place, high_place, row_check}
@@ -87,11 +87,11 @@ module _ (s : List ℕ) (season row : ℕ) where
 
     module _ (bytes : Bytes s) (passed : row_check s season row ≡ Pass) where
       -- it answers these two words
-      pub band-same : answer.Band (at (band_words s season row) (low_place k)) (at (band_words s season row) (high_place k))
+      pub band-same : Ok (record { low = at (band_words s season row) (low_place k); high = at (band_words s season row) (high_place k) })
           ≡ factor_answer s season row k
       band-same = band-is s season row k bytes (check-same ∙ passed) refl low-at high-at
 
       -- and promises this of them
       pub band-holds : FactorBand s season row k (at (band_words s season row) (low_place k)) (at (band_words s season row) (high_place k))
-      unfolding answer_number answer_low answer_high
+      unfolding number_of answer_low answer_high
       band-holds = (promised s season row k bytes band-same).band refl

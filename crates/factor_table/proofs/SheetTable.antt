@@ -9,7 +9,7 @@ use Rattle.numbers.specs.Lists.{tab, at}
 use Rattle.blocks.specs.Blocks.{blocks}
 use Rattle.blocks.proofs.Blocks.{blocks-length, blocks_at, filled_blocks, blocks-stored}
 use Rattle.row_factors.specs.Seven.{seven_units}
-use Rattle.sheet.specs.declared.Check.TheVariants.{Pass}
+use Rattle.refusals.specs.Check.{Pass}
 use Rattle.sheet.specs.Bytes.{seasons_of, rows_of, cells_of, season_at, row_at}
 use Rattle.inventory.specs.ReportCall.{written}
 use Rattle.factor_table.specs.RowFactors.{band_of, band_words}

@@ -1,6 +1,5 @@
 -- The call for all factors of a sheet: its last check as a demand, and what is promised of the buffer.
 use mathlib.Core.List.{List}
-use mathlib.Core.Logic.{⊎_elim}
 use mathlib.Core.Path.{◌≡◌, refl, ◌∙◌}
 use Prim.Native.Nat.{ℕ, ◌+◌, ◌*◌, ◌≤◌, ◌<◌}
 use native.Mathlib.Nat.{mul-le-mul_left}
@@ -8,17 +7,15 @@ use native.Mathlib.Omega.{arith}
 use borrow.Author.Tests.{lt-leb}
 use lib.ListN.{length}
 use Rattle.numbers.specs.Lists.{at}
-use Rattle.sheet.specs.declared.Check.{Check}
-use Rattle.sheet.specs.declared.Check.TheVariants.{Pass}
+use Rattle.refusals.specs.Check.{Check, Pass, refuse, ◌then◌, number_of}
 use Rattle.sheet.specs.Bytes.{seasons_of, rows_of}
-use Rattle.sheet.specs.Check.{refuse, ◌then◌, number_of}
 use Rattle.sheet.specs.Sheet.{outside, sheet_check}
 use Rattle.sheet.proofs.Checks.{Judges, judges-refuse, judges-then, ltb-tests, then-pass, says}
-use Rattle.sheet.proofs.Conditions.{sheet-judged, no_zero}
+use Rattle.sheet.proofs.Conditions.{sheet-judged}
 use Rattle.sheet.proofs.Accepted.{Bytes}
 use Rattle.inventory.specs.FactorAnswers.{factor_check}
 use Rattle.inventory.specs.ReportCall.{written}
-use Rattle.inventory.proofs.CallConditions.{number-zero}
+use Rattle.refusals.proofs.Numbers.{zero-passes}
 use Rattle.inventory.proofs.Written.{written-first}
 use Rattle.factor_table.specs.RowFactors.{band_words, low_place, high_place, row_check}
 use Rattle.factor_table.specs.Factors.{factors_length, all_factors, factors_check, factors_demands, row_start, FactorsCall}
@@ -56,7 +53,7 @@ pub factors-answer : {s old words : List ℕ} {r : Check} → Bytes s → r ≡ 
 factors-answer {s} {old} {words} {r} bytes e w = record {
   answer-is = e;
   words_are = w;
-  says = rw e (says (factors_check s (length old)) (factors-judged s (length old)) (λ p. ⊎_elim (no_zero s p) (λ m. omega (arith, m.1.0))));
+  says = rw e (says (factors_check s (length old)) (factors-judged s (length old)));
   bands = λ zero season row k there here least most.
       let (low, high, passed) = pair zero season row k there here least most in
       rw (low, high) (band-holds s season row k least most bytes passed);
@@ -71,7 +68,7 @@ factors-answer {s} {old} {words} {r} bytes e w = record {
         × (row_check s season row ≡ Pass)
     pair zero season row k there here least most =
         let passed : factors_check s (length old) ≡ Pass =
-        number-zero s (factors_check s (length old)) (factors-judged s (length old)) (omega arith) (rw e at zero) in
+        zero-passes (factors_check s (length old)) (rw e at zero) in
         let all : words ≡ written Pass (all_factors s) old = rw (e ∙ passed) at w in (
           word_at s old words season row (low_place k) all there here (omega arith),
           word_at s old words season row (high_place k) all there here (omega arith),

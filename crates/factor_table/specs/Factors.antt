@@ -1,13 +1,12 @@
 -- What the call for all factors of a sheet answers and what it leaves in the buffer. Definitions only.
-use Rattle.std.specs.Prelude.{List, ◌≡◌, ℕ, ◌+◌, ◌*◌, ◌≤◌, ◌<◌, ltb, length}
+use Rattle.std.specs.Prelude.{List, ◌≡◌, ℕ, ◌+◌, ◌*◌, ◌≤◌, ◌<◌, ltb, length, Ok}
 use Rattle.numbers.specs.Lists.{at}
 use Rattle.blocks.specs.Blocks.{blocks}
-use Rattle.sheet.specs.declared.Check.{Check}
+use Rattle.refusals.specs.declared.Rule.TheVariants as rule
+use Rattle.refusals.specs.Check.{Check, refuse, ◌then◌, number_of, place_of}
 use Rattle.sheet.specs.Bytes.{seasons_of, rows_of}
-use Rattle.sheet.specs.Check.{refuse, ◌then◌, number_of, place_of}
 use Rattle.sheet.specs.Sheet.{sheet_check}
 use Rattle.sheet.specs.Demands.{Demands, demand, ◌next◌, Says, demands}
-use Rattle.inventory.specs.declared.FactorAnswer.TheVariants as answer
 use Rattle.inventory.specs.FactorAnswers.{factor_answer}
 use Rattle.inventory.specs.FactorBand.{FactorBand}
 use Rattle.inventory.specs.ReportCall.{written}
@@ -27,10 +26,10 @@ all_factors s = blocks (season_factors s) (seasons_of s)
 
 -- number 22 where the buffer is short, after every check of the sheet
 unfoldable pub factors_check : List ℕ → ℕ → Check
-factors_check s room = sheet_check s then refuse (ltb room (factors_length s)) 22 0
+factors_check s room = sheet_check s then refuse (ltb room (factors_length s)) rule.Room 0
 
 abbrev pub factors_demands : List ℕ → ℕ → Demands
-factors_demands s room = demands s next demand 22 0 (factors_length s ≤ room)
+factors_demands s room = demands s next demand rule.Room 0 (factors_length s ≤ room)
 
 -- where the words of a season and row start
 abbrev pub row_start : List ℕ → ℕ → ℕ → ℕ
@@ -45,5 +44,5 @@ pub record FactorsCall (s old words : List ℕ) (r : Check) : Type 0 where
   pub bands : number_of r ≡ 0 → (season row k : ℕ) → season < seasons_of s → row < rows_of s → 1 ≤ k → k ≤ 7
       → FactorBand s season row k (at words (row_start s season row + low_place k)) (at words (row_start s season row + high_place k))
   pub same : number_of r ≡ 0 → (season row k : ℕ) → season < seasons_of s → row < rows_of s → 1 ≤ k → k ≤ 7
-      → answer.Band (at words (row_start s season row + low_place k)) (at words (row_start s season row + high_place k))
+      → Ok (record { low = at words (row_start s season row + low_place k); high = at words (row_start s season row + high_place k) })
       ≡ factor_answer s season row k

@@ -1,15 +1,11 @@
 -- What the call for all seven factors of a season and row answers. Definitions only.
-use Rattle.std.specs.Prelude.{List, ◌≡◌, ℕ, suc, zero, ◌+◌, ◌*◌, ◌-◌, ◌/◌, ◌%◌, ◌≤◌, replicate}
+use Rattle.std.specs.Prelude.{List, ◌≡◌, ℕ, suc, zero, ◌+◌, ◌*◌, ◌-◌, ◌/◌, ◌%◌, ◌≤◌, replicate, Ok, Err}
 use Rattle.numbers.specs.Lists.{tab, at}
-use Rattle.sheet.specs.declared.Check.{Check}
-use Rattle.sheet.specs.declared.Check.TheVariants.{Pass, Refused}
-use Rattle.sheet.specs.Check.{number_of, place_of}
+use Rattle.refusals.specs.Check.{Check, Pass, number_of, place_of}
 use Rattle.sheet.specs.Demands.{Demands, Says}
 use Rattle.factors.specs.Units.{low_micrograms, high_micrograms}
-use Rattle.inventory.specs.declared.FactorAnswer.{FactorAnswer}
-use Rattle.inventory.specs.declared.FactorAnswer.TheVariants as answer
 use Rattle.inventory.specs.FactorAnswers.{factor_check, units_at, factor_answer}
-use Rattle.inventory.specs.FactorBand.{factor_demands, FactorBand}
+use Rattle.inventory.specs.FactorBand.{FactorAnswer, factor_demands, FactorBand}
 use Rattle.factor_table.specs.declared.RowFactors.{RowFactors}
 
 -- a factor in micrograms: 0 for its low, rounded down, and any other number for its high, rounded up
@@ -41,16 +37,16 @@ row_demands s season row = factor_demands s season row 1
 
 -- the answer, as a function of the bytes and the two numbers: a refusal has zeros
 unfoldable pub row_answered : Check → List ℕ → RowFactors
-row_answered Pass bands = record { check = Pass; bands = bands }
-row_answered (Refused number place) bands = record { check = Refused number place; bands = replicate 14 0 }
+row_answered (Ok _) bands = record { check = Pass; bands = bands }
+row_answered (Err refusal) bands = record { check = Err refusal; bands = replicate 14 0 }
 
 unfoldable pub row_answer : List ℕ → ℕ → ℕ → RowFactors
 row_answer s season row = row_answered (row_check s season row) (band_words s season row)
 
 -- what this answer says of one factor, as the factor call would say it
 unfoldable pub one_of : Check → ℕ → ℕ → FactorAnswer
-one_of Pass low high = answer.Band low high
-one_of (Refused number place) low high = answer.Refused number place
+one_of (Ok _) low high = Ok (record { low = low; high = high })
+one_of (Err refusal) low high = Err refusal
 
 -- What holds of the answer: of each factor k from 1 to 7 what the factor call promises, and the same numbers.
 pub record RowFactorsCall (s : List ℕ) (season row : ℕ) (r : RowFactors) : Type 0 where

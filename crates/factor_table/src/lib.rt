@@ -5,7 +5,7 @@ ghost use Rattle.factor_table.specs.RowFactors.{RowFactorsCall};
 
 use crate::bands::put_bands;
 use inventory::check::factor_check;
-use sheet::Check;
+use refusals::Check;
 use sheet_factors::factors_at::factors_at;
 
 pub mod bands;
@@ -25,7 +25,7 @@ pub fn row_factors(s: &[u8], season: u64, row: u64) -> RowFactors
 {
     let check = factor_check(s, season, row, 1);
     let mut bands = [0u64; 14];
-    if let Check::Refused(_, _) = check {
+    if let Err(_) = check {
         return RowFactors { check, bands };
     }
     let units = factors_at(s, season as usize, row as usize);

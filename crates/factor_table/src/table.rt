@@ -1,6 +1,6 @@
 // The factors of all seasons and rows of a sheet, in one pass.
 ghost use Rattle.std.specs.Prelude.{◌++◌, ◌≡◌, ◌*◌, ◌≤◌, ◌<◌, length, drop};
-ghost use Rattle.sheet.specs.declared.Check.TheVariants.{Pass};
+ghost use Rattle.refusals.specs.Check.{Pass};
 ghost use Rattle.sheet.specs.Bytes.{seasons_of, rows_of};
 ghost use Rattle.sheet.specs.Sheet.{sheet_check};
 ghost use Rattle.sheet_factors.specs.Lent.{SheetLent, RowsKept};
@@ -11,9 +11,9 @@ use crate::bands::put_bands;
 use bounds::exp::{ExpTables, tables};
 use checks::check_sheet;
 use fields::{row_at, rows_of, season_at, seasons_of};
+use refusals::{Check, Rule, refuse};
 use row_factors::season::at_season;
 use row_factors::units::row_units;
-use sheet::Check;
 use sheet_factors::kept::rows_kept;
 use sheet_factors::parkings::sheet_grid;
 
@@ -36,11 +36,9 @@ fn season_factors(
     let mut list = [0u64; 1732];
     let at = at_season(tables, grid, season_at(s, j), true, &mut list);
     let rows = rows_of(s);
-    let mut i: usize = 0;
-    while i < rows {
+    for i in 0..rows {
         let units = row_units(tables, grid, &list, at, row_at(s, i), kept[i]);
         put_bands(words, BAND_WORDS * i, units);
-        i += 1;
     }
 }
 
@@ -57,12 +55,10 @@ fn all_factors(
 {
     let size = BAND_WORDS * rows_of(s);
     let seasons = seasons_of(s);
-    let mut j: usize = 0;
-    while j < seasons {
+    for j in 0..seasons {
         let start = size * j;
         let end = start + size;
         season_factors(tables, grid, kept, s, j, &mut words[start..end]);
-        j += 1;
     }
 }
 
@@ -78,27 +74,23 @@ fn write_factors(s: &[u8], words: &mut [u64])
 }
 
 // Every check of the sheet, then the room.
+#[tactic(auto, using(refusals::proofs::Chain::chained, sheet::proofs::Places::head_there), unfolding(crate::specs::Factors::factors_check))]
 pub fn factors_check(s: &[u8], room: usize) -> Check
     ensures { result ≡ factors_check s.now room }
 {
-    let sheet = check_sheet(s);
-    if let Check::Refused(_, _) = sheet {
-        return sheet;
-    }
-    if room < BAND_WORDS * rows_of(s) * seasons_of(s) {
-        return Check::Refused(22, 0);
-    }
-    Check::Pass
+    check_sheet(s)?;
+    refuse(
+        room < BAND_WORDS * rows_of(s) * seasons_of(s),
+        Rule::Room,
+        0,
+    )
 }
 
 // All factors of a sheet in micrograms, season by season and row by row, or a refusal that leaves the buffer as it is.
 pub fn factors(s: &[u8], words: &mut [u64]) -> Check
     ensures { FactorsCall s.now words.old words.new result }
 {
-    let check = factors_check(s, words.len());
-    if let Check::Refused(_, _) = check {
-        return check;
-    }
+    factors_check(s, words.len())?;
     write_factors(s, words);
-    check
+    Ok(())
 }

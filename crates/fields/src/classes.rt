@@ -147,10 +147,5 @@ pub fn halves(canister: Canister) -> u64
 pub fn no_canister(canister: Canister) -> bool
     ensures { result ≡ no_canister canister }
 {
-    match canister {
-        Canister::None => true,
-        Canister::Small => false,
-        Canister::Medium => false,
-        Canister::Large => false,
-    }
+    matches!(canister, Canister::None)
 }

@@ -7,7 +7,7 @@ ghost use Rattle.sheet.specs.Versions.{version_of, has_grid, has_mileage, has_ma
 ghost use Rattle.sheet.specs.Bytes.{seasons_of, rows_of, counts_at, duration_counts, hour_counts, grid_counts};
 ghost use Rattle.sheet.specs.Bytes.{season_place, row_place, season_from, season_at, equipment_at, canister_of, tank_of, row_from, row_at};
 ghost use Rattle.sheet.specs.Range.{warmth};
-ghost use Rattle.sheet.specs.declared.Check.TheVariants.{Pass};
+ghost use Rattle.refusals.specs.Check.{Pass};
 ghost use Rattle.sheet.specs.Sheet.{sheet_check};
 ghost use Rattle.sheet.specs.RunningSums.{vehicles_before};
 ghost use Rattle.exact.specs.Factors.{total};
@@ -18,7 +18,7 @@ use exact::{Canister, Equipment, Row, Season};
 
 pub mod classes;
 pub mod limits;
-pub mod refusal;
+pub mod range;
 
 // How many counts a list of the parking part has, and where the two lists start.
 pub const COUNTS: usize = 24;
@@ -51,19 +51,12 @@ pub const ROW_BYTES: usize = 24;
 // How many numbers 16 bits have. In two's complement one below 0 is written with this added.
 pub const BITS_16: u64 = 65536;
 
-// A byte as a wider number.
-fn wide(b: u8) -> u64
-    ensures { (result ≡ b) × (result < 256) }
-{
-    b as u64
-}
-
 // The byte at i, and the numbers of two and of four bytes that start there.
 pub fn u8_at(s: &[u8], i: usize) -> u64
     requires { i < length s.now }
     ensures { (result ≡ u8_at s.now i) × (result < 256) }
 {
-    wide(s[i])
+    u64::from(s[i])
 }
 
 pub fn u16_at(s: &[u8], i: usize) -> u64
@@ -137,7 +130,7 @@ pub fn seasons_of(s: &[u8]) -> usize
     requires { 8 ≤ length s.now }
     ensures { (result ≡ seasons_of s.now) × (result < 256) }
 {
-    wide(s[5]) as usize
+    usize::from(s[5])
 }
 
 // How many rows the head gives.
@@ -158,24 +151,20 @@ pub fn counts_total(s: &[u8], p: usize, n: usize) -> u64
     ensures { result ≡ total (counts_at s.now p n) }
 {
     let mut sum: u64 = 0;
-    let mut i: usize = 0;
-    while i < n {
+    for i in 0..n {
         sum += u16_at(s, p + 2 * i);
-        i += 1;
     }
     sum
 }
 
-// The list of counts that starts at p.
-fn counts_at(s: &[u8], p: usize) -> [u64; 24]
-    requires { p + 48 ≤ length s.now }
-    ensures { result ≡ counts_at s.now p 24 }
+// The N counts that start at p.
+fn counts_at<const N: usize>(s: &[u8], p: usize) -> [u64; N]
+    requires { p + 2 * N ≤ length s.now }
+    ensures { result ≡ counts_at s.now p N }
 {
-    let mut counts = [0u64; 24];
-    let mut i: usize = 0;
-    while i < COUNTS {
-        counts[i] = u16_at(s, p + 2 * i);
-        i += 1;
+    let mut counts = [0u64; N];
+    for (i, x) in counts.iter_mut().enumerate() {
+        *x = u16_at(s, p + 2 * i);
     }
     counts
 }
@@ -196,26 +185,12 @@ pub fn hour_counts(s: &[u8]) -> [u64; 24]
     counts_at(s, HOURS_START)
 }
 
-// The count of a cell of the grid, cells counted from 0, end hour 1 first, its 24 durations in a row.
-fn cell_at(s: &[u8], cell: usize) -> u64
-    requires { (1160 ≤ length s.now) × (cell < 576) }
-    ensures { result ≡ u16_at s.now (8 + 2 * cell) }
-{
-    u16_at(s, GRID_START + 2 * cell)
-}
-
-// The counts of the grid.
+// The counts of the grid, end hour 1 first, its 24 durations in a row.
 pub fn grid_counts(s: &[u8]) -> [u64; 576]
     requires { 1160 ≤ length s.now }
     ensures { result ≡ grid_counts s.now }
 {
-    let mut counts = [0u64; 576];
-    let mut i: usize = 0;
-    while i < CELLS {
-        counts[i] = cell_at(s, i);
-        i += 1;
-    }
-    counts
+    counts_at(s, GRID_START)
 }
 
 // The season that starts at p.
@@ -329,12 +304,9 @@ pub fn fleet_of(s: &[u8]) -> u64
     requires { sheet_check s.now ≡ Pass }
     ensures { (result ≡ vehicles_before s.now (rows_of s.now)) × (result ≤ 320000000) }
 {
-    let rows = rows_of(s);
     let mut fleet: u64 = 0;
-    let mut i: usize = 0;
-    while i < rows {
+    for i in 0..rows_of(s) {
         fleet += vehicles_of(s, i);
-        i += 1;
     }
     fleet
 }

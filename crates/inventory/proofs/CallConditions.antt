@@ -1,6 +1,7 @@
 -- Numbers 22 and 23 of document 01 as demands in plain arithmetic, after those of the sheet: each call answers where all are met, and
 -- else returns the first that is not met, with its place.
 -- Assumes nothing.
+use Rattle.std.proofs.Common.{Ok, Err}
 use mathlib.Core.Bool.{Bool, true, false}
 use mathlib.Core.List.{List}
 use mathlib.Core.Logic.{⊎_elim}
@@ -9,13 +10,11 @@ use Prim.Native.Nat.{ℕ, ◌≤◌, ◌<◌}
 use native.Mathlib.Omega.{arith}
 use borrow.Author.Tests.{leb-true, leb-false}
 use lib.Dec.{leb}
-use Rattle.sheet.specs.declared.Check.{Check}
-use Rattle.sheet.specs.declared.Check.TheVariants.{Pass, Refused}
+use Rattle.refusals.specs.Check.{Check, Pass, Refused, refuse, number_of, place_of}
 use Rattle.sheet.specs.Bytes.{seasons_of, rows_of}
-use Rattle.sheet.specs.Check.{refuse, number_of, place_of}
 use Rattle.sheet.specs.Sheet.{outside, sheet_check}
 use Rattle.sheet.proofs.Checks.{Tests, Judges, judges-refuse, judges-then, ltb-tests, ||-tests, then-pass, says}
-use Rattle.sheet.proofs.Conditions.{sheet-judged, no_zero}
+use Rattle.sheet.proofs.Conditions.{sheet-judged}
 use Rattle.sheet.specs.Demands.{demand, ◌next◌, FirstUnmet, Says, demands}
 use Rattle.sheet.proofs.Accepted.{Accepted, accepted}
 use Rattle.inventory.specs.FactorAnswers.{factor_check}
@@ -40,23 +39,12 @@ factor-judged s season row k =
     judges-then (sheet-judged s)
     (judges-refuse (||-tests (||-tests (leb-tests (seasons_of s) season) (leb-tests (rows_of s) row)) (||-tests (ltb-tests k 1) (ltb-tests 7 k))))
 
--- Number 0 stands for an accepted call alone.
-last-no-zero : (s : List ℕ) {number place : ℕ} {A : Type 0} (p : ℕ) → 0 < number → FirstUnmet 0 p (demands s next demand number place A) → ⊥
-last-no-zero s p positive u = ⊎_elim (no_zero s p) (λ m. omega (arith, m.1.0)) u
-
 pub report-says : (s : List ℕ) (room : ℕ) → Says (report_demands s room) (number_of (report_check s room)) (place_of (report_check s room))
-report-says s room = says (report_check s room) (report-judged s room) (λ p. last-no-zero s p (omega arith))
+report-says s room = says (report_check s room) (report-judged s room)
 
 pub factor-says : (s : List ℕ) (season row k : ℕ)
     → Says (factor_demands s season row k) (number_of (factor_check s season row k)) (place_of (factor_check s season row k))
-factor-says s season row k = says (factor_check s season row k) (factor-judged s season row k) (λ p. last-no-zero s p (omega arith))
-
--- so a call with number 0 has passed every check
-pub number-zero : (s : List ℕ) (c : Check) {number place : ℕ} {A : Type 0}
-    → Judges c (demands s next demand number place A) → 0 < number → number_of c ≡ 0 → c ≡ Pass
-unfolding number_of
-number-zero s Pass j positive h = refl
-number-zero s (Refused number place) j positive h = absurd (last-no-zero s place positive (rw h at (j.refuses number place refl)))
+factor-says s season row k = says (factor_check s season row k) (factor-judged s season row k)
 
 -- What a call that answers may rely on.
 
@@ -81,15 +69,3 @@ factor-sheet s season row k h = (then-pass _ _ h).0
 pub report-sheet : (s : List ℕ) (room : ℕ) → report_check s room ≡ Pass → sheet_check s ≡ Pass
 unfolding report_check
 report-sheet s room h = (then-pass _ _ h).0
-
--- How the code makes its last check.
-
--- the condition holds
-pub refused : {b : Bool} (number place : ℕ) → b ≡ true → Refused number place ≡ refuse b number place
-unfolding refuse
-refused number place h = rw h
-
--- it does not
-pub allowed : {b : Bool} (number place : ℕ) → b ≡ false → Pass ≡ refuse b number place
-unfolding refuse
-allowed number place h = rw h

@@ -1,13 +1,13 @@
 -- Sheets that count alike have the same answers: the factor call's, and the report call's with all its words.
 -- Assumes nothing.
+use Rattle.std.proofs.Common.{Ok, Err}
 use mathlib.Core.Bool.{Bool}
 use mathlib.Core.List.{List}
 use mathlib.Core.Path.{◌≡◌, refl}
 use Prim.Native.Nat.{ℕ, suc, zero, ◌+◌, ◌≤◌, ◌<◌}
 use native.Mathlib.Omega.{arith}
 use Rattle.numbers.proofs.Lists.{tab-ext}
-use Rattle.sheet.specs.declared.Check.{Check}
-use Rattle.sheet.specs.declared.Check.TheVariants.{Pass, Refused}
+use Rattle.refusals.specs.Check.{Check, Pass, Refused}
 use Rattle.sheet.specs.Bytes.{seasons_of, rows_of}
 use Rattle.sheet.proofs.Alike.{Alike}
 use Rattle.inventory.specs.FactorAnswers.{factor_check, units_at, factor_answered, factor_answer}
@@ -33,10 +33,10 @@ module _ {s s' : List ℕ} (a : Alike s s') where
   answered-same : (season row k : ℕ) (c : Check) → factor_check s season row k ≡ c
       → factor_answered c (units_at s' season row k) ≡ factor_answered c (units_at s season row k)
   unfolding factor_answered
-  answered-same season row k Pass h =
+  answered-same season row k (Ok _) h =
       let (accepted, season-there, row-there, least, most) = factor-accepted s season row k h in
       cc (units-same season row k season-there row-there)
-  answered-same season row k (Refused number place) h = refl
+  answered-same season row k (Err refusal) h = refl
 
   -- the same answer for every season, row and factor
   pub factor-alike : (season row k : ℕ) → factor_answer s' season row k ≡ factor_answer s season row k

@@ -1,24 +1,23 @@
 -- What the factor call answers is what document 01 promises: a band around the exact factor, or a refusal.
 -- Assumes nothing.
+use Rattle.std.proofs.Common.{Ok, Err}
 use mathlib.Core.List.{List}
 use mathlib.Core.Path.{◌≡◌, refl}
 use Prim.Native.Nat.{ℕ}
 use native.Mathlib.Omega.{arith}
 use Rattle.factors.specs.Units.{low_micrograms, high_micrograms}
 use Rattle.factors.proofs.FactorBound.{high-near-low}
-use Rattle.sheet.specs.declared.Check.{Check}
-use Rattle.sheet.specs.declared.Check.TheVariants.{Pass, Refused}
-use Rattle.sheet.specs.Check.{number_of, place_of}
+use Rattle.refusals.specs.Check.{Check, Pass, Refused, number_of, place_of}
 use Rattle.sheet.specs.Demands.{Says}
 use Rattle.sheet.proofs.Accepted.{Bytes}
-use Rattle.inventory.specs.declared.FactorAnswer.{FactorAnswer}
-use Rattle.inventory.specs.declared.FactorAnswer.TheVariants as answer
+use Rattle.refusals.specs.declared.Refusal.{Refusal}
 use Rattle.inventory.specs.FactorAnswers.{factor_check, units_at, factor_answered, factor_answer}
 use Rattle.inventory.specs.FactorBand.{numbered, FactorBand}
-use Rattle.inventory.specs.FactorBand.{answer_number, answer_place, answer_low, answer_high, factor_demands}
+use Rattle.inventory.specs.FactorBand.{FactorAnswer, answer_low, answer_high, factor_demands}
 use Rattle.inventory.specs.FactorCall.{FactorCall}
 use Rattle.sheet_factors.proofs.AcceptedRange.{enclosed}
-use Rattle.inventory.proofs.CallConditions.{factor-accepted, factor-judged, factor-says, number-zero}
+use Rattle.inventory.proofs.CallConditions.{factor-accepted, factor-judged, factor-says}
+use Rattle.refusals.proofs.Numbers.{zero-passes}
 
 module _ (s : List ℕ) (season row k : ℕ) (bytes : Bytes s) where
   -- "at most 10 micrograms apart", around the exact factor
@@ -36,29 +35,28 @@ module _ (s : List ℕ) (season row k : ℕ) (bytes : Bytes s) where
 
   -- for either outcome of the checks
   reply-kept : (c : Check) → factor_check s season row k ≡ c → {r : FactorAnswer} → r ≡ factor_answered c (units_at s season row k)
-      → Says (factor_demands s season row k) (answer_number r) (answer_place r)
-      × (answer_number r ≡ 0 → FactorBand s season row k (answer_low r) (answer_high r))
-  unfolding factor_answered answer_number answer_place answer_low answer_high number_of place_of
-  reply-kept Pass h e = rw e (rw h at (factor-says s season row k), λ _. factor-band h)
-  reply-kept (Refused number place) h e =
+      → Says (factor_demands s season row k) (number_of r) (place_of r)
+      × (number_of r ≡ 0 → FactorBand s season row k (answer_low r) (answer_high r))
+  unfolding factor_answered answer_low answer_high number_of place_of
+  reply-kept (Ok _) h e = rw e (rw h at (factor-says s season row k), λ _. factor-band h)
+  reply-kept (Err refusal) h e =
       rw e (
         rw h at (factor-says s season row k),
         λ zero.
             let passed : factor_check s season row k ≡ Pass =
-            number-zero s (factor_check s season row k) (factor-judged s season row k) (omega arith) (rw h zero) in
+            zero-passes (factor_check s season row k) (rw h zero) in
             let clash : ◌≡◌ {A = ℕ} 0 1 = cc in
             absurd (omega arith),
       )
 
   -- Each outcome of the code is the answer.
-  pub refusal_is : {number place : ℕ} → factor_check s season row k ≡ Refused number place
-      → answer.Refused number place ≡ factor_answer s season row k
+  pub refusal_is : {refusal : Refusal} → factor_check s season row k ≡ Err refusal → Err refusal ≡ factor_answer s season row k
   unfolding factor_answer factor_answered
   refusal_is h = rw h
 
   pub band-is : {low high units : ℕ} → factor_check s season row k ≡ Pass → units ≡ units_at s season row k
       → low ≡ low_micrograms units → high ≡ high_micrograms units
-      → answer.Band low high ≡ factor_answer s season row k
+      → Ok (record { low = low; high = high }) ≡ factor_answer s season row k
   unfolding factor_answer factor_answered
   band-is h u l g = rw (h, l, g, u)
 

@@ -5,8 +5,7 @@ use mathlib.Core.Path.{◌≡◌, ap}
 use Prim.Native.Nat.{ℕ, ◌+◌, ◌*◌}
 use native.Mathlib.Omega.{arith}
 use lib.ListN.{length, drop}
-use Rattle.sheet.specs.declared.Check.{Check}
-use Rattle.sheet.specs.declared.Check.TheVariants.{Pass}
+use Rattle.refusals.specs.Check.{Check, Pass}
 use Rattle.sheet.specs.Bytes.{rows_of}
 use Rattle.sheet.proofs.Checks.{then-pass}
 use Rattle.sheet.proofs.Accepted.{Bytes, accepted}
@@ -18,7 +17,8 @@ use Rattle.report_words.proofs.ReportPlaces.{report-length}
 use Rattle.report_words.proofs.Promised.{promise}
 use Rattle.inventory.specs.ReportCall.{written, ReportCall}
 use Rattle.inventory.specs.ReportAnswers.{report_check}
-use Rattle.inventory.proofs.CallConditions.{report-judged, report-says, number-zero}
+use Rattle.inventory.proofs.CallConditions.{report-judged, report-says}
+use Rattle.refusals.proofs.Numbers.{zero-passes}
 use Rattle.inventory.proofs.Written.{written-first}
 
 -- What holds after the call.
@@ -32,7 +32,7 @@ report-answer {s} {old} {words} {r} bytes e w =
       says = rw e (report-says s (length old));
       promise = λ zero.
           let passed : report_check s (length old) ≡ Pass =
-          number-zero s (report_check s (length old)) (report-judged s (length old)) (omega arith) (rw e at zero) in
+          zero-passes (report_check s (length old)) (rw e at zero) in
           promise bytes (accepted s (then-pass _ _ passed).0)
           (record { word = λ k l. rw (w, e, passed) (written-first (report s) old k (omega (arith, report-length s))) });
     }

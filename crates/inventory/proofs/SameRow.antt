@@ -1,12 +1,12 @@
 -- A version 3 row with 0 km counts exactly as the same row of version 2.
 -- Assumes nothing.
+use Rattle.std.proofs.Common.{Ok, Err}
 use mathlib.Core.List.{List}
 use mathlib.Core.Path.{◌≡◌, refl, sym, ◌∙◌}
 use Prim.Native.Nat.{ℕ, ◌+◌, ◌*◌, ◌<◌}
 use lib.ListN.{get_or}
 use borrow.Author.Tests.{lt-leb}
-use Rattle.sheet.specs.declared.Check.{Check}
-use Rattle.sheet.specs.declared.Check.TheVariants.{Pass, Refused}
+use Rattle.refusals.specs.Check.{Check, Pass, Refused}
 use Rattle.sheet.specs.Bytes.{seasons_of, rows_of}
 use Rattle.sheet.specs.Sheet.{sheet_check}
 use Rattle.sheet.specs.NextVersion.{SameRow}
@@ -41,10 +41,10 @@ module _ {s t : List ℕ} {i j : ℕ} (same : SameRow s t i j) where
     answered-same : (c : Check) → factor_check s season i k ≡ c
         → factor_answered c (units_at t season j k) ≡ factor_answered c (units_at s season i k)
     unfolding factor_answered
-    answered-same Pass h =
+    answered-same (Ok _) h =
         let (accepted, season-there, row-there, least, most) = factor-accepted s season i k h in
         rw (units-same season-there)
-    answered-same (Refused number place) h = refl
+    answered-same (Err refusal) h = refl
 
     answer-same : factor_answer t season j k ≡ factor_answer s season i k
     unfolding factor_answer

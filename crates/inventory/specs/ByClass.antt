@@ -3,7 +3,7 @@
 use Rattle.std.specs.Prelude.{List, ◌≡◌, ℕ}
 use Rattle.exact.specs.declared.Canister.{Canister}
 use Rattle.exact.specs.declared.Equipment.TheVariants.{Fitted}
-use Rattle.sheet.specs.declared.Check.TheVariants.{Pass}
+use Rattle.refusals.specs.Check.{Pass}
 use Rattle.sheet.specs.Bytes.{row_place, equipment_at}
 use Rattle.sheet.specs.Sheet.{sheet_check}
 use Rattle.sheet.specs.ByClass.{Written}

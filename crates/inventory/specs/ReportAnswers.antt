@@ -1,11 +1,11 @@
 -- Need not be believed: the answer of the report call as the program computes it, a function of the bytes and the buffer's length. What it says of
 -- the sheet is in ReportCall.
 use Rattle.std.specs.Prelude.{List, ℕ, ltb}
-use Rattle.sheet.specs.declared.Check.{Check}
-use Rattle.sheet.specs.Check.{refuse, ◌then◌}
+use Rattle.refusals.specs.declared.Rule.TheVariants as rule
+use Rattle.refusals.specs.Check.{Check, refuse, ◌then◌}
 use Rattle.sheet.specs.Sheet.{sheet_check}
 use Rattle.report_words.specs.Categories.{report_length}
 
 -- Call | 22 report buffer short | 0, after every check of the sheet
 unfoldable pub report_check : List ℕ → ℕ → Check
-report_check s room = sheet_check s then refuse (ltb room (report_length s)) 22 0
+report_check s room = sheet_check s then refuse (ltb room (report_length s)) rule.Room 0

@@ -1,8 +1,7 @@
 -- What the report call answers and what it leaves in the buffer. Definitions only.
-use Rattle.std.specs.Prelude.{List, ◌++◌, ◌≡◌, ℕ, ◌≤◌, length, drop}
-use Rattle.sheet.specs.declared.Check.{Check}
-use Rattle.sheet.specs.declared.Check.TheVariants.{Pass, Refused}
-use Rattle.sheet.specs.Check.{number_of, place_of}
+use Rattle.std.specs.Prelude.{List, ◌++◌, ◌≡◌, ℕ, ◌≤◌, length, drop, Ok, Err}
+use Rattle.refusals.specs.declared.Rule.TheVariants as rule
+use Rattle.refusals.specs.Check.{Check, Pass, Refused, number_of, place_of}
 use Rattle.sheet.specs.Demands.{Demands, demand, ◌next◌, Says, demands}
 use Rattle.report_words.specs.Report.{report}
 use Rattle.report_words.specs.Categories.{report_length}
@@ -11,12 +10,12 @@ use Rattle.inventory.specs.ReportAnswers.{report_check}
 
 -- Call | 22 report buffer short | 0, after every check of the sheet
 abbrev pub report_demands : List ℕ → ℕ → Demands
-report_demands s room = demands s next demand 22 0 (report_length s ≤ room)
+report_demands s room = demands s next demand rule.Room 0 (report_length s ≤ room)
 
 -- "The buffer keeps its words, as do words beyond an accepted report."
 unfoldable pub written : Check → List ℕ → List ℕ → List ℕ
-written Pass new old = new ++ drop (length new) old
-written (Refused number place) new old = old
+written (Ok _) new old = new ++ drop (length new) old
+written (Err refusal) new old = old
 
 -- What holds after the call, with the words that stood in the buffer before it and those that stand there now.
 pub record ReportCall (s old words : List ℕ) (r : Check) : Type 0 where

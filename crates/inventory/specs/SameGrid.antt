@@ -3,7 +3,7 @@
 use Rattle.std.specs.Prelude.{◌≡◌, List, ℕ, ◌<◌}
 use Rattle.exact.specs.Factors.{Factor, factor}
 use Rattle.exact.specs.Masses.{Mechanism, mass}
-use Rattle.sheet.specs.declared.Check.TheVariants.{Pass}
+use Rattle.refusals.specs.Check.{Pass}
 use Rattle.sheet.specs.Bytes.{seasons_of, rows_of, cells_of, season_at, season_list, row_at}
 use Rattle.sheet.specs.Sheet.{sheet_check}
 use Rattle.sheet.specs.SameGrid.{GridOf}

@@ -8,7 +8,7 @@ ghost use Rattle.inventory.specs.ReportAnswers.{report_check};
 
 use checks::check_sheet;
 use fields::{rows_of, seasons_of};
-use sheet::Check;
+use refusals::{Check, Rule, refuse};
 
 // The words of a report: six for each row, 24 of subtotals and two of totals.
 fn report_length(s: &[u8]) -> usize
@@ -19,17 +19,12 @@ fn report_length(s: &[u8]) -> usize
 }
 
 // The sheet, and the room for its report.
+#[tactic(auto, using(refusals::proofs::Chain::chained, sheet::proofs::Places::head_there), unfolding(crate::specs::ReportAnswers::report_check))]
 pub fn report_check(s: &[u8], room: usize) -> Check
     ensures { result ≡ report_check s.now room }
 {
-    let sheet = check_sheet(s);
-    if let Check::Refused(_, _) = sheet {
-        return sheet;
-    }
-    if room < report_length(s) {
-        return Check::Refused(22, 0);
-    }
-    Check::Pass
+    check_sheet(s)?;
+    refuse(room < report_length(s), Rule::Room, 0)
 }
 
 // The season, the row or the factor is not there.
@@ -41,15 +36,10 @@ fn absent(s: &[u8], season: u64, row: u64, k: u64) -> bool
 }
 
 // The sheet, and the season, row and factor that are asked for.
+#[tactic(auto, using(refusals::proofs::Chain::chained, sheet::proofs::Places::head_there), unfolding(crate::specs::FactorAnswers::factor_check))]
 pub fn factor_check(s: &[u8], season: u64, row: u64, k: u64) -> Check
     ensures { result ≡ factor_check s.now season row k }
 {
-    let sheet = check_sheet(s);
-    if let Check::Refused(_, _) = sheet {
-        return sheet;
-    }
-    if absent(s, season, row, k) {
-        return Check::Refused(23, 0);
-    }
-    Check::Pass
+    check_sheet(s)?;
+    refuse(absent(s, season, row, k), Rule::Absent, 0)
 }

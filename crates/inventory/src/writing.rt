@@ -1,6 +1,6 @@
 // The words of an accepted sheet's report, for the calls that have made its checks: `report`, and the opening of a shared ledger.
 ghost use Rattle.std.specs.Prelude.{◌≡◌, length};
-ghost use Rattle.sheet.specs.declared.Check.TheVariants.{Pass};
+ghost use Rattle.refusals.specs.Check.{Pass};
 ghost use Rattle.report_words.specs.Report.{report};
 ghost use Rattle.inventory.specs.ReportCall.{written};
 ghost use Rattle.inventory.specs.ReportAnswers.{report_check};

@@ -14,10 +14,9 @@ use Rattle.sheet.specs.Limits.{vehicles_limit, fleet_limit}
 use Rattle.sheet.specs.Versions.{version_of, has_many_rows}
 use Rattle.sheet.specs.Bytes.{rows_of}
 use Rattle.sheet.specs.Counts.{counts_of}
-use Rattle.sheet.specs.Check.{number_of, place_of}
+use Rattle.refusals.specs.Check.{number_of, place_of}
 use Rattle.sheet.specs.Demands.{FirstUnmet, Says}
 use Rattle.sheet.proofs.Checks.{Tests, Judges, judges-refuse, judges-then, ltb-tests, leb-shows, ||-tests, guarded, says}
-use Rattle.sheet.proofs.Conditions.{no_zero}
 use Rattle.inventory.proofs.CallConditions.{report-judged}
 use Rattle.ledger.specs.declared.Call.{Call}
 use Rattle.ledger.specs.declared.Call.TheVariants.{Arrival, Departure}
@@ -46,10 +45,6 @@ change-judged : (s : List ℕ) (room : ℕ) (call : Call) → Judges (change_che
 unfolding change_check
 change-judged s room call = judges-then (report-judged s room) (judges-refuse (call-tests s call))
 
--- number 0 stands for a call that is answered alone
-never-zero : (s : List ℕ) (room : ℕ) (call : Call) (p : ℕ) → FirstUnmet 0 p (change_demands s room call) → ⊥
-never-zero s room call p u = ⊎_elim (λ r. ⊎_elim (no_zero s p) (λ m. omega (arith, m.1.0)) r) (λ m. omega (arith, m.1.0)) u
-
 pub change-says : (s : List ℕ) (room : ℕ) (call : Call)
     → Says (change_demands s room call) (number_of (change_check s room call)) (place_of (change_check s room call))
-change-says s room call = says (change_check s room call) (change-judged s room call) (never-zero s room call)
+change-says s room call = says (change_check s room call) (change-judged s room call)

@@ -1,6 +1,7 @@
 -- For every list of calls from a freshly opened ledger the counts are the plain machine's, and the words are the report of the sheet with
 -- those counts, computed afresh.
 -- Assumes nothing.
+use Rattle.std.proofs.Common.{Err}
 use mathlib.Core.Bool.{Bool, true, false}
 use mathlib.Core.List.{List, [], ◌∷◌, ◌++◌, map}
 use mathlib.Core.Logic.{⊎_elim}
@@ -11,11 +12,12 @@ use lib.Dec.{ltb}
 use lib.ListN.{length, drop}
 use lib.Seq.{drop_at}
 use Rattle.numbers.specs.Lists.{at}
-use Rattle.sheet.specs.declared.Check.TheVariants.{Pass, Refused}
+use Rattle.refusals.specs.declared.Rule.TheVariants as rule
+use Rattle.refusals.specs.declared.Refusal.{Refusal}
+use Rattle.refusals.specs.Check.{Pass, Refused, refuse, ◌then◌}
 use Rattle.sheet.specs.Versions.{has_many_rows}
 use Rattle.sheet.specs.Bytes.{rows_of, row_place}
 use Rattle.sheet.specs.Counts.{counts_of, with_count}
-use Rattle.sheet.specs.Check.{refuse, ◌then◌}
 use Rattle.sheet.proofs.Accepted.{Bytes}
 use Rattle.sheet.proofs.Checks.{then-pass}
 use Rattle.sheet.proofs.BeforeRows.{BeforeRows, version, start, seasons, rows, season-list, cells}
@@ -72,12 +74,12 @@ module _ (t : List ℕ) (i v : ℕ) (bits : v < 2 ^ 32) (inside : row_place t i 
 
 -- The answer to a call, where the ledger's own checks pass.
 pub answer-open : (s : List ℕ) (room : ℕ) (call : Call) → report_check s room ≡ Pass
-    → change_check s room call ≡ refuse (wrong (has_many_rows s) (counts_of s) call) 29 0
+    → change_check s room call ≡ refuse (wrong (has_many_rows s) (counts_of s) call) rule.Count 0
 unfolding change_check ◌then◌
 answer-open s room call h = rw h refl
 
 -- number 22 alone
-room-passes : (t : List ℕ) (room : ℕ) → report_check t room ≡ Pass → refuse (ltb room (report_length t)) 22 0 ≡ Pass
+room-passes : (t : List ℕ) (room : ℕ) → report_check t room ≡ Pass → refuse (ltb room (report_length t)) rule.Room 0 ≡ Pass
 unfolding report_check
 room-passes t room h = (then-pass _ _ h).1
 
@@ -122,7 +124,7 @@ module _ (s w : List ℕ) (x : Ledger) (inv : Inv s w x) where
   many : has_many_rows t ≡ has_many_rows s
   many = rw (version inv.alike)
 
-  answer-is : (call : Call) → answer x call ≡ refuse (wrong (has_many_rows s) (counts_of t) call) 29 0
+  answer-is : (call : Call) → answer x call ≡ refuse (wrong (has_many_rows s) (counts_of t) call) rule.Count 0
   unfolding answer
   answer-is call = rw (room, ← many) (answer-open t (length w) call inv.opens)
 
@@ -131,7 +133,7 @@ module _ (s w : List ℕ) (x : Ledger) (inv : Inv s w x) where
       × (counts_of (after x call).sheet ≡ step (has_many_rows s) (counts_of t) call)
   unfolding after step sheet_after words_after refuse
   refused call h =
-      let c : answer x call ≡ Refused 29 0 = answer-is call ∙ rw h refl in (
+      let c : answer x call ≡ Refused rule.Count 0 = answer-is call ∙ rw h refl in (
         record {
           bytes = rw c inv.bytes;
           alike = rw c inv.alike;
@@ -246,8 +248,8 @@ ledger-kept s w bytes h calls =
     }
 
 -- What opening would refuse stays as it is.
-module _ (x : Ledger) {number place : ℕ} (h : report_check x.sheet (length x.words) ≡ Refused number place) where
-  not-open : (call : Call) → answer x call ≡ Refused number place
+module _ (x : Ledger) {refusal : Refusal} (h : report_check x.sheet (length x.words) ≡ Err refusal) where
+  not-open : (call : Call) → answer x call ≡ Err refusal
   unfolding answer change_check ◌then◌
   not-open call = rw h refl
 
@@ -255,7 +257,7 @@ module _ (x : Ledger) {number place : ℕ} (h : report_check x.sheet (length x.w
   unfolding after sheet_after words_after
   stays call = rw (not-open call) refl
 
-  all-stays : (calls : List Call) → (run calls x ≡ x) × (answers calls x ≡ map (λ (call : Call). Refused number place) calls)
+  all-stays : (calls : List Call) → (run calls x ≡ x) × (answers calls x ≡ map (λ (call : Call). Err refusal) calls)
   unfolding run answers
   all-stays [] = (refl, refl)
   all-stays (call ∷ calls) =
@@ -263,4 +265,4 @@ module _ (x : Ledger) {number place : ℕ} (h : report_check x.sheet (length x.w
       (ap (run calls) (stays call) ∙ sheet, rw (not-open call, stays call) (cc))
 
 pub refused-kept : RefusedTheorem
-refused-kept x number place h = all-stays x h
+refused-kept x r place h = all-stays x h

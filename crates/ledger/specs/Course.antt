@@ -1,8 +1,7 @@
 -- A ledger in use: it is opened by the report call, and then calls are made one after another, each on the bytes and words that the one
 -- before it left. Every step is what the function's contract says of it. Definitions only.
 use Rattle.std.specs.Prelude.{List, [], ◌∷◌, ◌≡◌, ℕ, ◌<◌}
-use Rattle.sheet.specs.declared.Check.{Check}
-use Rattle.sheet.specs.declared.Check.TheVariants.{Pass}
+use Rattle.refusals.specs.Check.{Check, Pass}
 use Rattle.sheet.specs.Integers.{u8_at}
 use Rattle.sheet.specs.Versions.{has_many_rows}
 use Rattle.sheet.specs.Counts.{counts_of}

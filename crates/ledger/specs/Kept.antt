@@ -1,13 +1,13 @@
 -- The theorem of the ledger: "For every list of these calls from a freshly opened ledger, the counts are that machine's, and the report is word
 -- by word the one computed afresh from the sheet with those counts." Definitions only.
 use Rattle.std.specs.Prelude.{Bool, List, [], ◌∷◌, map, ◌⊎◌, ◌≡◌, ℕ, ◌+◌, ◌≤◌, ◌<◌, length}
-use Rattle.sheet.specs.declared.Check.{Check}
-use Rattle.sheet.specs.declared.Check.TheVariants.{Pass, Refused}
+use Rattle.refusals.specs.declared.Rule.{Rule}
+use Rattle.refusals.specs.declared.Rule.TheVariants as rule
+use Rattle.refusals.specs.Check.{Check, Pass, Refused, refuse}
 use Rattle.sheet.specs.Integers.{u8_at}
 use Rattle.sheet.specs.Versions.{has_many_rows}
 use Rattle.sheet.specs.Bytes.{rows_of, row_place}
 use Rattle.sheet.specs.Counts.{counts_of}
-use Rattle.sheet.specs.Check.{refuse}
 use Rattle.report_words.specs.Report.{report}
 use Rattle.report_words.specs.Promise.{ReportPromise}
 use Rattle.inventory.specs.ReportCall.{written}
@@ -24,7 +24,7 @@ pub record SameButCounts (s t : List ℕ) : Type 0 where
 -- what the machine's calls are answered: 29 where the machine refuses
 unfoldable pub machine_answers : Bool → List Call → List ℕ → List Check
 machine_answers many [] counts = []
-machine_answers many (call ∷ calls) counts = refuse (wrong many counts call) 29 0 ∷ machine_answers many calls (step many counts call)
+machine_answers many (call ∷ calls) counts = refuse (wrong many counts call) rule.Count 0 ∷ machine_answers many calls (step many counts call)
 
 -- after these calls on the ledger of s, opened in the words w
 pub record Kept (s w : List ℕ) (calls : List Call) : Type 0 where
@@ -43,5 +43,5 @@ LedgerTheorem = (s w : List ℕ) → ((k : ℕ) → u8_at s k < 256) → report_
 
 -- and what opening would refuse stays as it is, each call being refused alike; words that are not the report of the sheet are not noticed
 abbrev pub RefusedTheorem : Type 0
-RefusedTheorem = (x : Ledger) (number place : ℕ) → report_check x.sheet (length x.words) ≡ Refused number place
-    → (calls : List Call) → (run calls x ≡ x) × (answers calls x ≡ map (λ (call : Call). Refused number place) calls)
+RefusedTheorem = (x : Ledger) (r : Rule) (place : ℕ) → report_check x.sheet (length x.words) ≡ Refused r place
+    → (calls : List Call) → (run calls x ≡ x) × (answers calls x ≡ map (λ (call : Call). Refused r place) calls)

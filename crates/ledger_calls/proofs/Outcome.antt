@@ -1,5 +1,6 @@
 -- What the code of the ledger's calls needs: condition 29 from the count of the row, and each outcome as the definition has it.
 -- Assumes nothing.
+use Rattle.std.proofs.Common.{Err}
 use mathlib.Core.Bool.{Bool, true, false, true≢false}
 use mathlib.Core.List.{List}
 use mathlib.Core.Path.{◌≡◌, refl, sym, ap, ◌∙◌}
@@ -11,15 +12,16 @@ use lib.Dec.{ltb}
 use lib.ListN.{length}
 use Rattle.numbers.specs.Lists.{at}
 use Rattle.exact.specs.Factors.{total}
-use Rattle.sheet.specs.declared.Check.{Check}
-use Rattle.sheet.specs.declared.Check.TheVariants.{Pass, Refused}
+use Rattle.refusals.specs.declared.Rule.TheVariants as rule
+use Rattle.refusals.specs.declared.Refusal.{Refusal}
+use Rattle.refusals.specs.Check.{Check, Pass, Refused, refuse, ◌then◌}
 use Rattle.sheet.specs.Limits.{vehicles_limit}
 use Rattle.sheet.specs.Versions.{has_many_rows}
 use Rattle.sheet.specs.Bytes.{rows_of, row_at}
 use Rattle.sheet.specs.Counts.{counts_of, with_count}
-use Rattle.sheet.specs.Check.{refuse, ◌then◌}
 use Rattle.sheet.specs.Sheet.{sheet_check}
 use Rattle.sheet.proofs.Accepted.{accepted}
+use Rattle.sheet.proofs.Checks.{then-pass, refuse-pass}
 use Rattle.report_words.specs.Categories.{report_length}
 use Rattle.inventory.specs.ReportAnswers.{report_check}
 use Rattle.inventory.proofs.CallConditions.{report-sheet, report-accepted}
@@ -80,24 +82,25 @@ module _ (s : List ℕ) (pass : sheet_check s ≡ Pass) (call : Call) where
 pub with-count-same : (s : List ℕ) {i j v w : ℕ} → i ≡ j → v ≡ w → with_count s i v ≡ with_count s j w
 with-count-same s {j} {v} e f = ap (λ (k : ℕ). with_count s k v) e ∙ ap (with_count s j) f
 
--- The three outcomes of a call.
+-- The two outcomes of a call.
 module _ (s w : List ℕ) (call : Call) where
   answered : {after words : List ℕ} {r : Check} → r ≡ change_check s (length w) call → after ≡ sheet_after r s call
       → words ≡ words_after r after call w
       → ChangeCall s w call after words r
   answered e b c = record { answer-is = e; sheet-is = b; words_are = c; says = rw e (change-says s (length w) call) }
 
-  -- opening would refuse them,
-  pub not-open : {r : Check} {n p : ℕ} → r ≡ report_check s (length w) → r ≡ Refused n p → ChangeCall s w call s w r
-  unfolding change_check sheet_after words_after ◌then◌
-  not-open {r} {n} {p} e h =
-      let c : report_check s (length w) ≡ Refused n p = sym e ∙ h in
-      answered (rw (h, c) refl) (rw h refl) (rw h refl)
+  -- refused,
+  pub call-refused : {r : Check} {refusal : Refusal} → r ≡ change_check s (length w) call → r ≡ Err refusal → ChangeCall s w call s w r
+  unfolding sheet_after words_after
+  call-refused e h = answered e (rw h refl) (rw h refl)
 
-  -- 29,
-  pub wrong-call : report_check s (length w) ≡ Pass → wrong (has_many_rows s) (counts_of s) call ≡ true → ChangeCall s w call s w (Refused 29 0)
-  unfolding sheet_after words_after refuse
-  wrong-call opens h = answered (sym (answer-open s (length w) call opens ∙ rw h refl)) refl refl
+  -- what a call that passes says
+  pub call-passes : change_check s (length w) call ≡ Pass
+      → (report_check s (length w) ≡ Pass) × (wrong (has_many_rows s) (counts_of s) call ≡ false)
+  unfolding change_check
+  call-passes h =
+      let (opens, right) = then-pass _ _ h in
+      (opens, refuse-pass _ rule.Count 0 right)
 
   -- and done
   pub right-call : {after words : List ℕ} → report_check s (length w) ≡ Pass → wrong (has_many_rows s) (counts_of s) call ≡ false

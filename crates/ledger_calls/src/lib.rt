@@ -2,28 +2,32 @@
 #![tactic(auto)]
 
 ghost use Rattle.ledger.specs.declared.Call.TheVariants.{Arrival, Departure};
-ghost use Rattle.ledger.specs.Ledger.{ChangeCall};
+ghost use Rattle.std.specs.Prelude.{◌≡◌};
+ghost use Rattle.ledger.specs.Ledger.{ChangeCall, change_check};
 
 use crate::steps::{apply, call_wrong};
 use inventory::check::report_check;
 use ledger::Call;
-use sheet::Check;
+use refusals::{Check, Rule, refuse};
 
 pub mod steps;
+
+// What opening would refuse, then 29.
+#[tactic(auto, using(refusals::proofs::Chain::chained), unfolding(ledger::specs::Ledger::change_check))]
+fn change_check(s: &[u8], room: usize, call: Call) -> Check
+    ensures { result ≡ change_check s.now room call }
+{
+    report_check(s, room)?;
+    refuse(call_wrong(s, call), Rule::Count, 0)
+}
 
 // A call on a ledger. Whatever the buffers hold is checked first, as opening them would; a refused call changes neither.
 pub fn change(s: &mut [u8], words: &mut [u64], call: Call) -> Check
     ensures { ChangeCall s.old words.old call s.new words.new result }
 {
-    let check = report_check(s, words.len());
-    if let Check::Refused(_, _) = check {
-        return check;
-    }
-    if call_wrong(s, call) {
-        return Check::Refused(29, 0);
-    }
+    change_check(s, words.len(), call)?;
     apply(s, words, call);
-    Check::Pass
+    Ok(())
 }
 
 // Vehicles arrive at a row.

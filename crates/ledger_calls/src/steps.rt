@@ -3,7 +3,7 @@
 ghost use Rattle.std.specs.Prelude.{false, ◌&&◌, ◌||◌, ◌≡◌, ◌+◌, ◌≤◌, ltb, length};
 ghost use Rattle.std.proofs.lemmas.List.Edits.{sets};
 ghost use Rattle.exact.specs.Factors.{total};
-ghost use Rattle.sheet.specs.declared.Check.TheVariants.{Pass};
+ghost use Rattle.refusals.specs.Check.{Pass};
 ghost use Rattle.sheet.specs.Limits.{vehicles_limit, fleet_limit};
 ghost use Rattle.sheet.specs.Versions.{has_many_rows};
 ghost use Rattle.sheet.specs.Bytes.{row_place};

@@ -1,11 +1,10 @@
 -- Cells may be added in any order, refusals included.
+use Rattle.std.proofs.Common.{Option, Some, None}
 use Rattle.std.proofs.Common.{◌≡◌, ℕ, ◌+◌, ◌<◌, ◌≤◌, Bool, true, false, cond, eqb, leb, sym, refl, ap, ◌∙◌, add_comm, arith, lt-ltb, eqb-true}
 use Rattle.std.proofs.Common.{leb-false, leb-true}
 use borrow.Author.Tests.{lt-leb, eqb-false}
 use Rattle.map_cells.specs.declared.Cell.{Cell}
 use Rattle.map_cells.specs.declared.Cell.TheVariants.{Empty, Exact, Band}
-use Rattle.map_cells.specs.declared.Masses.{Masses}
-use Rattle.map_cells.specs.declared.Masses.TheVariants.{Between, Wrong}
 use Rattle.map_cells.specs.declared.CellAnswer.{CellAnswer}
 use Rattle.map_cells.specs.declared.CellAnswer.TheVariants.{Sum, Refused}
 use Rattle.map_cells.specs.Doubles.{mass_limit, double}
@@ -15,7 +14,7 @@ use Rattle.map_cells.proofs.WholeDoubles.{double-mass}
 use Rattle.map_cells.proofs.Between.{InOrder, masses-in-order}
 
 -- a cell that is given back may be handed in, and has its low and high
-pub masses-of-cell : (low high : ℕ) → low ≤ high → high ≤ mass_limit → masses_of (cell_of low high) ≡ Between low high
+pub masses-of-cell : (low high : ℕ) → low ≤ high → high ≤ mass_limit → masses_of (cell_of low high) ≡ Some (low, high)
 unfolding cell_of masses_of exact_masses band_masses
 masses-of-cell low high o h = empty (eqb high 0) (eqb-true high 0) (eqb-false high 0)
   where
@@ -23,7 +22,7 @@ masses-of-cell low high o h = empty (eqb high 0) (eqb-true high 0) (eqb-false hi
     l = omega arith
 
     band : (t : Bool) → (t ≡ true → low ≡ high) → (t ≡ false → low ≡ high → ⊥) → 0 < high
-        → masses_of (cond t (Exact (double low)) (Band (double low) (double high))) ≡ Between low high
+        → masses_of (cond t (Exact (double low)) (Band (double low) (double high))) ≡ Some (low, high)
     band true e f p =
         let s : low ≡ high = e refl in
         rw (double-mass low l, lt-ltb 0 low (omega arith), s)
@@ -33,7 +32,7 @@ masses-of-cell low high o h = empty (eqb high 0) (eqb-true high 0) (eqb-false hi
         below n = omega arith
 
     empty : (t : Bool) → (t ≡ true → high ≡ 0) → (t ≡ false → high ≡ 0 → ⊥)
-        → masses_of (cond t Empty (cond (eqb low high) (Exact (double low)) (Band (double low) (double high)))) ≡ Between low high
+        → masses_of (cond t Empty (cond (eqb low high) (Exact (double low)) (Band (double low) (double high)))) ≡ Some (low, high)
     empty true e f =
         let z : high ≡ 0 = e refl in
         let y : low ≡ 0 = omega arith in
@@ -43,12 +42,12 @@ masses-of-cell low high o h = empty (eqb high 0) (eqb-true high 0) (eqb-false hi
         some : (high ≡ 0 → ⊥) → 0 < high
         some n = omega arith
 
-swap : (m n : Masses) → masses_sum m n ≡ masses_sum n m
+swap : (m n : Option (ℕ × ℕ)) → masses_sum m n ≡ masses_sum n m
 unfolding masses_sum
-swap Wrong Wrong = refl
-swap Wrong (Between l h) = refl
-swap (Between l h) Wrong = refl
-swap (Between l h) (Between l' h') = rw (add_comm l l', add_comm h h')
+swap None None = refl
+swap None (Some (l, h)) = refl
+swap (Some (l, h)) None = refl
+swap (Some (l, h)) (Some (l', h')) = rw (add_comm l l', add_comm h h')
 
 -- two cells may be exchanged
 pub sum-commutes : (a b : Cell) → cell_sum a b ≡ cell_sum b a
@@ -56,45 +55,45 @@ unfolding cell_sum
 sum-commutes a b = swap (masses_of a) (masses_of b)
 
 -- the sum of three, from their lows and highs
-unfoldable three_sum : Masses → Masses → Masses → CellAnswer
-three_sum Wrong n k = Refused 27 0
-three_sum (Between l h) Wrong k = Refused 27 0
-three_sum (Between l h) (Between l' h') Wrong = Refused 27 0
-three_sum (Between l h) (Between l' h') (Between l'' h'') =
+unfoldable three_sum : Option (ℕ × ℕ) → Option (ℕ × ℕ) → Option (ℕ × ℕ) → CellAnswer
+three_sum None n k = Refused 27 0
+three_sum (Some (l, h)) None k = Refused 27 0
+three_sum (Some (l, h)) (Some (l', h')) None = Refused 27 0
+three_sum (Some (l, h)) (Some (l', h')) (Some (l'', h'')) =
     cond (leb (h + h' + h'') mass_limit) (Sum (cell_of (l + l' + l'') (h + h' + h''))) (Refused 27 0)
 
 three : (a b c : Cell) → add_to (cell_sum a b) c ≡ three_sum (masses_of a) (masses_of b) (masses_of c)
 unfolding cell_sum add_to masses_sum three_sum
 three a b c = go (masses_of a) (masses_of b) (masses-in-order a) (masses-in-order b)
   where
-    go : (m n : Masses) → ((l h : ℕ) → m ≡ Between l h → InOrder l h) → ((l h : ℕ) → n ≡ Between l h → InOrder l h)
+    go : (m n : Option (ℕ × ℕ)) → ((l h : ℕ) → m ≡ Some (l, h) → InOrder l h) → ((l h : ℕ) → n ≡ Some (l, h) → InOrder l h)
         → add_to (masses_sum m n) c ≡ three_sum m n (masses_of c)
-    go Wrong n f g = refl
-    go (Between l h) Wrong f g = refl
-    go (Between l h) (Between l' h') f g = tests (leb (h + h') mass_limit) (leb-true (h + h') mass_limit) (leb-false (h + h') mass_limit)
+    go None n f g = refl
+    go (Some (l, h)) None f g = refl
+    go (Some (l, h)) (Some (l', h')) f g = tests (leb (h + h') mass_limit) (leb-true (h + h') mass_limit) (leb-false (h + h') mass_limit)
       where
-        within : (k : Masses) → masses_sum (Between (l + l') (h + h')) k ≡ three_sum (Between l h) (Between l' h') k
-        within Wrong = refl
-        within (Between l'' h'') = refl
+        within : (k : Option (ℕ × ℕ)) → masses_sum (Some (l + l', h + h')) k ≡ three_sum (Some (l, h)) (Some (l', h')) k
+        within None = refl
+        within (Some (l'', h'')) = refl
 
-        over : mass_limit < h + h' → (k : Masses) → Refused 27 0 ≡ three_sum (Between l h) (Between l' h') k
-        over p Wrong = refl
-        over p (Between l'' h'') = rw (lt-leb (h + h' + h'') mass_limit (omega arith))
+        over : mass_limit < h + h' → (k : Option (ℕ × ℕ)) → Refused 27 0 ≡ three_sum (Some (l, h)) (Some (l', h')) k
+        over p None = refl
+        over p (Some (l'', h'')) = rw (lt-leb (h + h' + h'') mass_limit (omega arith))
 
         tests : (t : Bool) → (t ≡ true → h + h' ≤ mass_limit) → (t ≡ false → mass_limit < h + h')
-            → add_to (cond t (Sum (cell_of (l + l') (h + h'))) (Refused 27 0)) c ≡ three_sum (Between l h) (Between l' h') (masses_of c)
+            → add_to (cond t (Sum (cell_of (l + l') (h + h'))) (Refused 27 0)) c ≡ three_sum (Some (l, h)) (Some (l', h')) (masses_of c)
         tests true p q =
             let o : l + l' ≤ h + h' = omega (arith, (f l h refl).order, (g l' h' refl).order) in
             rw (masses-of-cell (l + l') (h + h') o (p refl)) (within (masses_of c))
         tests false p q = over (q refl) (masses_of c)
 
-swap-last : (m n k : Masses) → three_sum m n k ≡ three_sum m k n
+swap-last : (m n k : Option (ℕ × ℕ)) → three_sum m n k ≡ three_sum m k n
 unfolding three_sum
-swap-last Wrong n k = refl
-swap-last (Between l h) Wrong Wrong = refl
-swap-last (Between l h) Wrong (Between l'' h'') = refl
-swap-last (Between l h) (Between l' h') Wrong = refl
-swap-last (Between l h) (Between l' h') (Between l'' h'') =
+swap-last None n k = refl
+swap-last (Some (l, h)) None None = refl
+swap-last (Some (l, h)) None (Some (l'', h'')) = refl
+swap-last (Some (l, h)) (Some (l', h')) None = refl
+swap-last (Some (l, h)) (Some (l', h')) (Some (l'', h'')) =
     let low : l + l' + l'' ≡ l + l'' + l' = omega arith in
     let high : h + h' + h'' ≡ h + h'' + h' = omega arith in
     rw (low, high)

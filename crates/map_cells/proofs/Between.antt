@@ -1,14 +1,11 @@
 -- A cell and its low and high: a cell made of two whole doubles, and what is known of a cell taken apart.
+use Rattle.std.proofs.Common.{Option, Some, None}
 use Rattle.std.proofs.Common.{◌≡◌, ℕ, zero, suc, ◌+◌, ◌*◌, ◌<◌, ◌≤◌, Bool, true, false, cond, ◌&&◌, eqb, ltb, pos, sym, refl, ap, ◌∙◌, arith}
-use Rattle.std.proofs.Common.{ltb-true, le-ltb, lt-ltb, ne_eqb, le-leb}
+use Rattle.std.proofs.Common.{ltb-true, ne_eqb, le-leb}
 use borrow.Author.Tests.{lt-leb}
 use lib.Ieee.{Float, fin, eq}
-use Rattle.map_cells.specs.declared.Whole.{Whole}
-use Rattle.map_cells.specs.declared.Whole.TheVariants.{Mass, Other}
 use Rattle.map_cells.specs.declared.Cell.{Cell}
 use Rattle.map_cells.specs.declared.Cell.TheVariants.{Empty, Exact, Band}
-use Rattle.map_cells.specs.declared.Masses.{Masses}
-use Rattle.map_cells.specs.declared.Masses.TheVariants.{Between, Wrong}
 use Rattle.map_cells.specs.Doubles.{mass_limit, double, whole_of}
 use Rattle.map_cells.specs.Cells.{cell_of, exact_masses, band_masses, masses_of}
 use Rattle.map_cells.specs.Between.{cell_between}
@@ -41,31 +38,56 @@ pub record InOrder (low high : ℕ) : Type 0 where
   pub order : low ≤ high
   pub limit : high ≤ mass_limit
 
-pub wrong-between : (low high : ℕ) → Wrong ≡ Between low high → ⊥
+-- the two numbers of a low and a high that are equal to others
+abbrev low-of : Option (ℕ × ℕ) → ℕ
+low-of (Some (low, high)) = low
+low-of None = 0
+
+abbrev high-of : Option (ℕ × ℕ) → ℕ
+high-of (Some (low, high)) = high
+high-of None = 0
+
+module _ {low high low' high' : ℕ} (e : ◌≡◌ {A = Option (ℕ × ℕ)} (Some (low, high)) (Some (low', high'))) where
+  pub equal-lows : low ≡ low'
+  equal-lows = ap low-of e
+
+  pub equal-highs : high ≡ high'
+  equal-highs = ap high-of e
+
+pub wrong-between : (low high : ℕ) → ◌≡◌ {A = Option (ℕ × ℕ)} None (Some (low, high)) → ⊥
 wrong-between low high e = let z : ◌≡◌ {A = ℕ} 0 1 = cc in omega arith
 
-pub masses-in-order : (c : Cell) (low high : ℕ) → masses_of c ≡ Between low high → InOrder low high
+pub masses-in-order : (c : Cell) (low high : ℕ) → masses_of c ≡ Some (low, high) → InOrder low high
 unfolding masses_of exact_masses band_masses
-masses-in-order Empty low high e = let a : 0 ≡ low = cc in let b : 0 ≡ high = cc in record { order = omega arith; limit = omega arith }
+masses-in-order Empty low high e =
+    let a : 0 ≡ low = equal-lows e in
+    let b : 0 ≡ high = equal-highs e in
+    record { order = omega arith; limit = omega arith }
 masses-in-order (Exact m) low high e = exact (whole_of m) (whole-limit m) e
   where
-    exact : (w : Whole) → ((n : ℕ) → w ≡ Mass n → n ≤ mass_limit) → exact_masses w ≡ Between low high → InOrder low high
-    exact Other f e = absurd (wrong-between low high e)
-    exact (Mass n) f e = tests (ltb 0 n) e
+    exact : (w : Option ℕ) → ((n : ℕ) → w ≡ Some n → n ≤ mass_limit) → exact_masses w ≡ Some (low, high) → InOrder low high
+    exact None f e = absurd (wrong-between low high e)
+    exact (Some n) f e = tests (ltb 0 n) e
       where
-        tests : (t : Bool) → cond t (Between n n) Wrong ≡ Between low high → InOrder low high
+        tests : (t : Bool) → cond {A = Option (ℕ × ℕ)} t (Some (n, n)) None ≡ Some (low, high) → InOrder low high
         tests false e = absurd (wrong-between low high e)
-        tests true e = let a : n ≡ low = cc in let b : n ≡ high = cc in record { order = omega arith; limit = omega (arith, f n refl) }
+        tests true e =
+            let a : n ≡ low = equal-lows e in
+            let b : n ≡ high = equal-highs e in
+            record { order = omega arith; limit = omega (arith, f n refl) }
 masses-in-order (Band l h) low high e = band (whole_of l) (whole_of h) (whole-limit h) e
   where
-    band : (v w : Whole) → ((n : ℕ) → w ≡ Mass n → n ≤ mass_limit) → band_masses v w ≡ Between low high → InOrder low high
-    band Other w f e = absurd (wrong-between low high e)
-    band (Mass m) Other f e = absurd (wrong-between low high e)
-    band (Mass m) (Mass n) f e = tests (ltb m n) (ltb-true m n) e
+    band : (v w : Option ℕ) → ((n : ℕ) → w ≡ Some n → n ≤ mass_limit) → band_masses v w ≡ Some (low, high) → InOrder low high
+    band None w f e = absurd (wrong-between low high e)
+    band (Some m) None f e = absurd (wrong-between low high e)
+    band (Some m) (Some n) f e = tests (ltb m n) (ltb-true m n) e
       where
-        tests : (t : Bool) → (t ≡ true → m < n) → cond t (Between m n) Wrong ≡ Between low high → InOrder low high
+        tests : (t : Bool) → (t ≡ true → m < n) → cond {A = Option (ℕ × ℕ)} t (Some (m, n)) None ≡ Some (low, high) → InOrder low high
         tests false g e = absurd (wrong-between low high e)
-        tests true g e = let a : m ≡ low = cc in let b : n ≡ high = cc in record { order = omega (arith, g refl); limit = omega (arith, f n refl) }
+        tests true g e =
+            let a : m ≡ low = equal-lows e in
+            let b : n ≡ high = equal-highs e in
+            record { order = omega (arith, g refl); limit = omega (arith, f n refl) }
 
 -- The cases of the definitions, as the program meets them.
 module _ (low high : Float) where
@@ -81,59 +103,43 @@ module _ (low high : Float) where
   unfolding cell_between
   between-band e f = rw (e, f)
 
-pub band-low : {v : Whole} (w : Whole) → v ≡ Other → Wrong ≡ band_masses v w
-unfolding band_masses
-band-low w e = rw e
-
-module _ {v w : Whole} (m : ℕ) (e : v ≡ Mass m) where
-  pub band-high : w ≡ Other → Wrong ≡ band_masses v w
-  unfolding band_masses
-  band-high f = rw (e, f)
-
-  pub band-yes : (n : ℕ) → w ≡ Mass n → m < n → Between m n ≡ band_masses v w
-  unfolding band_masses
-  band-yes n f h = rw (e, f, lt-ltb m n h)
-
-  pub band-no : (n : ℕ) → w ≡ Mass n → n ≤ m → Wrong ≡ band_masses v w
-  unfolding band_masses
-  band-no n f h = rw (e, f, le-ltb m n h)
-
 module _ {c : Cell} where
-  pub masses-empty : c ≡ Empty → Between 0 0 ≡ masses_of c
+  pub masses-empty : c ≡ Empty → Some (0, 0) ≡ masses_of c
   unfolding masses_of
   masses-empty e = rw e
 
-  pub masses-exact : {r : Masses} {w : Whole} (m : Float) → c ≡ Exact m → w ≡ whole_of m → r ≡ exact_masses w → r ≡ masses_of c
+  pub masses-exact : {r : Option (ℕ × ℕ)} {w : Option ℕ} (m : Float) → c ≡ Exact m → w ≡ whole_of m → r ≡ exact_masses w → r ≡ masses_of c
   unfolding masses_of
   masses-exact m e f g = rw e (g ∙ ap exact_masses f)
 
-  pub masses-band : {r : Masses} {v w : Whole} (l h : Float) → c ≡ Band l h → v ≡ whole_of l → w ≡ whole_of h → r ≡ band_masses v w → r ≡ masses_of c
+  pub masses-band : {r : Option (ℕ × ℕ)} {v w : Option ℕ} (l h : Float) → c ≡ Band l h → v ≡ whole_of l → w ≡ whole_of h
+      → r ≡ band_masses v w → r ≡ masses_of c
   unfolding masses_of
-  masses-band {r} {v} {w} l h e f k g = rw e (g ∙ ap (λ (x : Whole). band_masses x w) f ∙ ap (λ (x : Whole). band_masses (whole_of l) x) k)
+  masses-band {r} {v} {w} l h e f k g = rw e (g ∙ ap (λ (x : Option ℕ). band_masses x w) f ∙ ap (λ (x : Option ℕ). band_masses (whole_of l) x) k)
 
 module _ (low high low' high' : ℕ) where
-  pub sum_over : mass_limit < high + high' → Refused 27 0 ≡ masses_sum (Between low high) (Between low' high')
+  pub sum_over : mass_limit < high + high' → Refused 27 0 ≡ masses_sum (Some (low, high)) (Some (low', high'))
   unfolding masses_sum
   sum_over h = rw (lt-leb (high + high') mass_limit h)
 
   pub sum-within : (x y : Float) (r : Cell) → low ≤ high → low' ≤ high' → high + high' ≤ mass_limit
       → x ≡ double (low + low') → y ≡ double (high + high')
-      → r ≡ cell_between x y → Sum r ≡ masses_sum (Between low high) (Between low' high')
+      → r ≡ cell_between x y → Sum r ≡ masses_sum (Some (low, high)) (Some (low', high'))
   unfolding masses_sum
   sum-within x y r g g' h e f k =
       let o : low + low' ≤ high + high' = omega arith in
       rw (le-leb (high + high') mass_limit h) (ap Sum (k ∙ rw (e, f) (between_is (low + low') (high + high') o h)))
 
-module _ (a b : Cell) {first : Masses} (e : first ≡ masses_of a) where
-  pub sum_first : first ≡ Wrong → Refused 27 0 ≡ cell_sum a b
+module _ (a b : Cell) {first : Option (ℕ × ℕ)} (e : first ≡ masses_of a) where
+  pub sum_first : first ≡ None → Refused 27 0 ≡ cell_sum a b
   unfolding cell_sum masses_sum
   sum_first f = rw (← e, f)
 
-  pub sum-second : {second : Masses} (l h : ℕ) → first ≡ Between l h → second ≡ masses_of b → second ≡ Wrong → Refused 27 0 ≡ cell_sum a b
+  pub sum-second : {second : Option (ℕ × ℕ)} (l h : ℕ) → first ≡ Some (l, h) → second ≡ masses_of b → second ≡ None → Refused 27 0 ≡ cell_sum a b
   unfolding cell_sum masses_sum
   sum-second l h f g k = rw (← e, f, ← g, k)
 
-  pub sum_both : {second : Masses} (l h l' h' : ℕ) → first ≡ Between l h → second ≡ masses_of b → second ≡ Between l' h'
-      → cell_sum a b ≡ masses_sum (Between l h) (Between l' h')
+  pub sum_both : {second : Option (ℕ × ℕ)} (l h l' h' : ℕ) → first ≡ Some (l, h) → second ≡ masses_of b → second ≡ Some (l', h')
+      → cell_sum a b ≡ masses_sum (Some (l, h)) (Some (l', h'))
   unfolding cell_sum
   sum_both l h l' h' f g k = rw (← e, f, ← g, k)

@@ -1,20 +1,18 @@
 -- What lies between a low and a high lies in their cell, and the sum of two cells holds the sums of what lies in them.
+use Rattle.std.proofs.Common.{Option, Some, None}
 use Rattle.std.proofs.Common.{◌≡◌, ℕ, ◌+◌, ◌*◌, ◌≤◌, Bool, true, false, cond, eqb, ltb, sym, refl, subst, arith, eqb→eq, eqb-true}
 use lib.Ieee.{Float, nan, inf, fin, up}
 use Rattle.numbers.specs.Fraction.{Fraction, ◌≤ᶠ◌, ◌≈ᶠ◌, ◌+ᶠ◌, whole}
 use Rattle.numbers.proofs.Order.{≤_trans, ≤-antisym, ≈-sym, ≈-trans, ≈→≤, ≈→≥, +-mono}
-use Rattle.map_cells.specs.declared.Whole.{Whole}
-use Rattle.map_cells.specs.declared.Whole.TheVariants.{Mass, Other}
 use Rattle.map_cells.specs.declared.Cell.{Cell}
 use Rattle.map_cells.specs.declared.Cell.TheVariants.{Empty, Exact, Band}
-use Rattle.map_cells.specs.declared.Masses.TheVariants.{Between, Wrong}
 use Rattle.map_cells.specs.declared.CellAnswer.TheVariants.{Sum}
 use Rattle.map_cells.specs.Doubles.{mass_limit, double, whole_of}
 use Rattle.map_cells.specs.Cells.{cell_of, exact_masses, band_masses, masses_of}
 use Rattle.map_cells.specs.Sums.{cell_sum}
 use Rattle.map_cells.specs.Values.{value_of, InCell}
 use Rattle.map_cells.proofs.WholeDoubles.{IsWhole, whole_is, double-whole}
-use Rattle.map_cells.proofs.Between.{wrong-between}
+use Rattle.map_cells.proofs.Between.{wrong-between, equal-lows, equal-highs}
 use Rattle.map_cells.proofs.GivenSum.{given-sum}
 
 -- a double that is n, a minus zero too, has the value n
@@ -53,40 +51,40 @@ record BetweenWhole (low high : ℕ) (x : Fraction) : Type 0 where
   pub below : x ≤ᶠ whole high
 
 -- what lies in a cell handed in lies between its low and its high
-between-whole : (c : Cell) (low high : ℕ) (x : Fraction) → masses_of c ≡ Between low high → InCell c x → BetweenWhole low high x
+between-whole : (c : Cell) (low high : ℕ) (x : Fraction) → masses_of c ≡ Some (low, high) → InCell c x → BetweenWhole low high x
 unfolding masses_of exact_masses band_masses InCell
 between-whole Empty low high x e h =
-    let a : 0 ≡ low = cc in
-    let b : 0 ≡ high = cc in
+    let a : 0 ≡ low = equal-lows e in
+    let b : 0 ≡ high = equal-highs e in
     record { above = subst (λ (n : ℕ). whole n ≤ᶠ x) a (≈→≥ h); below = subst (λ (n : ℕ). x ≤ᶠ whole n) b (≈→≤ h) }
 between-whole (Exact m) low high x e h = exact (whole_of m) (λ n k. value-of m n (whole_is m n k)) e
   where
-    exact : (w : Whole) → ((n : ℕ) → w ≡ Mass n → value_of m ≈ᶠ whole n) → exact_masses w ≡ Between low high → BetweenWhole low high x
-    exact Other f e = absurd (wrong-between low high e)
-    exact (Mass n) f e = tests (ltb 0 n) e
+    exact : (w : Option ℕ) → ((n : ℕ) → w ≡ Some n → value_of m ≈ᶠ whole n) → exact_masses w ≡ Some (low, high) → BetweenWhole low high x
+    exact None f e = absurd (wrong-between low high e)
+    exact (Some n) f e = tests (ltb 0 n) e
       where
-        tests : (t : Bool) → cond t (Between n n) Wrong ≡ Between low high → BetweenWhole low high x
+        tests : (t : Bool) → cond {A = Option (ℕ × ℕ)} t (Some (n, n)) None ≡ Some (low, high) → BetweenWhole low high x
         tests false e = absurd (wrong-between low high e)
         tests true e =
-            let a : n ≡ low = cc in
-            let b : n ≡ high = cc in
+            let a : n ≡ low = equal-lows e in
+            let b : n ≡ high = equal-highs e in
             let v : x ≈ᶠ whole n = ≈-trans h (f n refl) in
             record { above = subst (λ (k : ℕ). whole k ≤ᶠ x) a (≈→≥ v); below = subst (λ (k : ℕ). x ≤ᶠ whole k) b (≈→≤ v) }
 between-whole (Band l u) low high x e h =
     band (whole_of l) (whole_of u) (λ n k. value-of l n (whole_is l n k)) (λ n k. value-of u n (whole_is u n k)) e
   where
-    band : (v w : Whole) → ((n : ℕ) → v ≡ Mass n → value_of l ≈ᶠ whole n) → ((n : ℕ) → w ≡ Mass n → value_of u ≈ᶠ whole n)
-        → band_masses v w ≡ Between low high
+    band : (v w : Option ℕ) → ((n : ℕ) → v ≡ Some n → value_of l ≈ᶠ whole n) → ((n : ℕ) → w ≡ Some n → value_of u ≈ᶠ whole n)
+        → band_masses v w ≡ Some (low, high)
         → BetweenWhole low high x
-    band Other w f g e = absurd (wrong-between low high e)
-    band (Mass m) Other f g e = absurd (wrong-between low high e)
-    band (Mass m) (Mass n) f g e = tests (ltb m n) e
+    band None w f g e = absurd (wrong-between low high e)
+    band (Some m) None f g e = absurd (wrong-between low high e)
+    band (Some m) (Some n) f g e = tests (ltb m n) e
       where
-        tests : (t : Bool) → cond t (Between m n) Wrong ≡ Between low high → BetweenWhole low high x
+        tests : (t : Bool) → cond {A = Option (ℕ × ℕ)} t (Some (m, n)) None ≡ Some (low, high) → BetweenWhole low high x
         tests false e = absurd (wrong-between low high e)
         tests true e =
-            let a : m ≡ low = cc in
-            let b : n ≡ high = cc in
+            let a : m ≡ low = equal-lows e in
+            let b : n ≡ high = equal-highs e in
             record {
               above = subst (λ (k : ℕ). whole k ≤ᶠ x) a (≤_trans (≈→≥ (f m refl)) h.above);
               below = subst (λ (k : ℕ). x ≤ᶠ whole k) b (≤_trans h.below (≈→≤ (g n refl)));

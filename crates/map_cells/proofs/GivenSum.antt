@@ -1,8 +1,7 @@
 -- What is known where the sum of two cells is given.
+use Rattle.std.proofs.Common.{Option, Some, None}
 use Rattle.std.proofs.Common.{◌≡◌, ℕ, ◌+◌, ◌≤◌, Bool, true, false, cond, leb, refl, arith, leb-true}
 use Rattle.map_cells.specs.declared.Cell.{Cell}
-use Rattle.map_cells.specs.declared.Masses.{Masses}
-use Rattle.map_cells.specs.declared.Masses.TheVariants.{Between, Wrong}
 use Rattle.map_cells.specs.declared.CellAnswer.TheVariants.{Sum, Refused}
 use Rattle.map_cells.specs.Doubles.{mass_limit}
 use Rattle.map_cells.specs.Cells.{cell_of, masses_of}
@@ -15,8 +14,8 @@ pub record GivenSum (a b c : Cell) : Type 0 where
   pub high : ℕ
   pub low' : ℕ
   pub high' : ℕ
-  pub first : masses_of a ≡ Between low high
-  pub second : masses_of b ≡ Between low' high'
+  pub first : masses_of a ≡ Some (low, high)
+  pub second : masses_of b ≡ Some (low', high')
   pub order : low + low' ≤ high + high'
   pub room : high + high' ≤ mass_limit
   pub cell-is : cell_of (low + low') (high + high') ≡ c
@@ -28,10 +27,10 @@ pub given-sum : (a b c : Cell) → cell_sum a b ≡ Sum c → GivenSum a b c
 unfolding cell_sum masses_sum
 given-sum a b c e = go (masses_of a) (masses_of b) refl refl e
   where
-    go : (m n : Masses) → masses_of a ≡ m → masses_of b ≡ n → masses_sum m n ≡ Sum c → GivenSum a b c
-    go Wrong n f g e = absurd (no-sum c 27 0 e)
-    go (Between l h) Wrong f g e = absurd (no-sum c 27 0 e)
-    go (Between l h) (Between l' h') f g e = tests (leb (h + h') mass_limit) (leb-true (h + h') mass_limit) e
+    go : (m n : Option (ℕ × ℕ)) → masses_of a ≡ m → masses_of b ≡ n → masses_sum m n ≡ Sum c → GivenSum a b c
+    go None n f g e = absurd (no-sum c 27 0 e)
+    go (Some (l, h)) None f g e = absurd (no-sum c 27 0 e)
+    go (Some (l, h)) (Some (l', h')) f g e = tests (leb (h + h') mass_limit) (leb-true (h + h') mass_limit) e
       where
         tests : (t : Bool) → (t ≡ true → h + h' ≤ mass_limit) → cond t (Sum (cell_of (l + l') (h + h'))) (Refused 27 0) ≡ Sum c → GivenSum a b c
         tests false k e = absurd (no-sum c 27 0 e)

@@ -1,16 +1,15 @@
 -- The promise of every answer: what the number means, and what the cell holds.
 -- Assumes nothing.
+use Rattle.std.proofs.Common.{Option, Some, None}
 use Rattle.std.proofs.Common.{◌≡◌, ℕ, ◌+◌, ◌<◌, ◌≤◌, Bool, true, false, cond, leb, sym, refl, ◌∙◌, inl, inr, arith, leb-false, leb-true}
 use Rattle.map_cells.specs.declared.Cell.{Cell}
-use Rattle.map_cells.specs.declared.Masses.{Masses}
-use Rattle.map_cells.specs.declared.Masses.TheVariants.{Between, Wrong}
 use Rattle.map_cells.specs.declared.CellAnswer.{CellAnswer}
 use Rattle.map_cells.specs.declared.CellAnswer.TheVariants.{Sum, Refused}
 use Rattle.map_cells.specs.Doubles.{mass_limit}
 use Rattle.map_cells.specs.Cells.{cell_of, masses_of}
 use Rattle.map_cells.specs.Sums.{masses_sum, cell_sum}
 use Rattle.map_cells.specs.Promise.{sum_number_of, sum_place_of, SumIn, SumSays, SumCell, SumPromise}
-use Rattle.map_cells.proofs.Between.{wrong-between}
+use Rattle.map_cells.proofs.Between.{wrong-between, equal-lows, equal-highs}
 use Rattle.map_cells.proofs.Enclosed.{sum-encloses}
 use Rattle.map_cells.proofs.GivenSum.{given-sum}
 use Rattle.map_cells.proofs.Signs.{sum-no-minus}
@@ -20,15 +19,15 @@ says : (a b : Cell) → SumSays a b (sum_number_of (cell_sum a b)) (sum_place_of
 unfolding cell_sum masses_sum sum_number_of sum_place_of
 says a b = go (masses_of a) (masses_of b) refl refl
   where
-    go : (m n : Masses) → masses_of a ≡ m → masses_of b ≡ n → SumSays a b (sum_number_of (masses_sum m n)) (sum_place_of (masses_sum m n))
-    go Wrong n f g = record { place_is = refl; meaning = inr (refl, λ s. wrong-between s.low s.high (sym f ∙ s.first)) }
-    go (Between l h) Wrong f g = record { place_is = refl; meaning = inr (refl, λ s. wrong-between s.low' s.high' (sym g ∙ s.second)) }
-    go (Between l h) (Between l' h') f g = tests (leb (h + h') mass_limit) (leb-true (h + h') mass_limit) (leb-false (h + h') mass_limit)
+    go : (m n : Option (ℕ × ℕ)) → masses_of a ≡ m → masses_of b ≡ n → SumSays a b (sum_number_of (masses_sum m n)) (sum_place_of (masses_sum m n))
+    go None n f g = record { place_is = refl; meaning = inr (refl, λ s. wrong-between s.low s.high (sym f ∙ s.first)) }
+    go (Some (l, h)) None f g = record { place_is = refl; meaning = inr (refl, λ s. wrong-between s.low' s.high' (sym g ∙ s.second)) }
+    go (Some (l, h)) (Some (l', h')) f g = tests (leb (h + h') mass_limit) (leb-true (h + h') mass_limit) (leb-false (h + h') mass_limit)
       where
         high_is : (s : SumIn a b) → s.high + s.high' ≡ h + h'
         high_is s =
-            let one : s.high ≡ h = cc (f, s.first) in
-            let two : s.high' ≡ h' = cc (g, s.second) in
+            let one : s.high ≡ h = equal-highs (sym s.first ∙ f) in
+            let two : s.high' ≡ h' = equal-highs (sym s.second ∙ g) in
             omega arith
 
         tests : (t : Bool) → (t ≡ true → h + h' ≤ mass_limit) → (t ≡ false → mass_limit < h + h')
@@ -49,10 +48,10 @@ sum-cell a b c e =
     let g = given-sum a b c e in
     record {
       exact = λ s.
-          let one : s.low ≡ g.low = cc (s.first, g.first) in
-          let two : s.low' ≡ g.low' = cc (s.second, g.second) in
-          let three : s.high ≡ g.high = cc (s.first, g.first) in
-          let four : s.high' ≡ g.high' = cc (s.second, g.second) in
+          let one : s.low ≡ g.low = equal-lows (sym s.first ∙ g.first) in
+          let two : s.low' ≡ g.low' = equal-lows (sym s.second ∙ g.second) in
+          let three : s.high ≡ g.high = equal-highs (sym s.first ∙ g.first) in
+          let four : s.high' ≡ g.high' = equal-highs (sym s.second ∙ g.second) in
           rw (one, two, three, four) (sym g.cell-is);
       holds = λ x y p q. sum-encloses a b c x y e p q;
       no_minus = sum-no-minus a b c e;

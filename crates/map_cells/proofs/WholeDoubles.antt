@@ -1,4 +1,5 @@
 -- Doubles that are whole numbers: their sum, their comparison, and how a double handed in is recognised as one.
+use Rattle.std.proofs.Common.{Some, None}
 use Rattle.std.proofs.Common.{◌≡◌, ℕ, zero, suc, ◌+◌, ◌-◌, ◌*◌, ◌/◌, ◌%◌, ◌^◌, ◌<◌, ◌≤◌, Bool, true, false, cond, not, ◌&&◌, ◌||◌, T, eqb, leb, ℤ}
 use Rattle.std.proofs.Common.{pos, sym, refl, ap, ◌∙◌, subst, true≢false, mul-le-mul_right, zero-lt-suc, mul-pos, mul-div_cancel, arith, le→leb}
 use Rattle.std.proofs.Common.{eqb→eq, leb→le, lt-ltb, eq-eqb, ne_eqb, eqb-true}
@@ -12,7 +13,6 @@ use lib.Ieee.Fits.{down_pos, and_l, and_r}
 use lib.Ieee.Exact.{HasValue}
 use lib.Ieee.Back.{round_whole}
 use lib.Ieee.Scale.{round_same}
-use Rattle.map_cells.specs.declared.Whole.TheVariants.{Mass, Other}
 use Rattle.map_cells.specs.Doubles.{mass_limit, double, whole_of, zero_bits}
 
 -- a whole number up to 2⁵³ is a double
@@ -61,7 +61,7 @@ IsWhole (fin s m e) n = (m * up e ≡ n * down e) × (n ≤ mass_limit) × T (no
 quotient_is : (v n d : ℕ) → 0 < d → v ≡ n * d → v / d ≡ n
 quotient_is v n d h e = ap (λ (x : ℕ). x / d) e ∙ mul-div_cancel n h
 
-mass-of : (x : Float) (n : ℕ) → IsWhole x n → whole_of x ≡ Mass n
+mass-of : (x : Float) (n : ℕ) → IsWhole x n → whole_of x ≡ Some n
 unfolding whole_of
 mass-of nan n h = elim h [ ]
 mass-of (inf _) n h = elim h [ ]
@@ -70,13 +70,13 @@ mass-of (fin s m e) n h =
     rw q (tests (eqb (m * up e) (n * down e)) (leb n mass_limit) (not s || eqb n 0)
     (subst (λ (y : ℕ). T (eqb (m * up e) y)) h.0 (eqb_refl (m * up e))) (le→leb n mass_limit h.1) h.2)
   where
-    tests : (a b c : Bool) → T a → T b → T c → cond (a && b && c) (Mass n) Other ≡ Mass n
+    tests : (a b c : Bool) → T a → T b → T c → cond (a && b && c) (Some n) None ≡ Some n
     tests true true true x y z = refl
     tests true true false x y z = absurd z
     tests true false c x y z = absurd y
     tests false b c x y z = absurd x
 
-none_of : (x : Float) → ((n : ℕ) → IsWhole x n → ⊥) → whole_of x ≡ Other
+none_of : (x : Float) → ((n : ℕ) → IsWhole x n → ⊥) → whole_of x ≡ None
 unfolding whole_of
 none_of nan h = refl
 none_of (inf s) h = refl
@@ -85,7 +85,7 @@ none_of (fin s m e) h =
     tests n (eqb (m * up e) (n * down e)) (leb n mass_limit) (not s || eqb n 0) (eqb→eq (m * up e) (n * down e)) (leb→le n mass_limit) (h n)
   where
     tests : (n : ℕ) (a b c : Bool) → (T a → m * up e ≡ n * down e) → (T b → n ≤ mass_limit)
-        → ((m * up e ≡ n * down e) × (n ≤ mass_limit) × T c → ⊥) → cond (a && b && c) (Mass n) Other ≡ Other
+        → ((m * up e ≡ n * down e) × (n ≤ mass_limit) × T c → ⊥) → cond (a && b && c) (Some n) None ≡ None
     tests n true true true x y z = absurd (z (x tt, y tt, tt))
     tests n true true false x y z = refl
     tests n true false c x y z = refl
@@ -204,14 +204,14 @@ eq-whole (fin s m e) n h t =
       and_r (eqb (m * up e) (n * down e)) (not s || eqb n 0) b,
     )
 
-other-mass : (n : ℕ) → Other ≡ Mass n → ⊥
+other-mass : (n : ℕ) → None ≡ Some n → ⊥
 other-mass n e = let z : ◌≡◌ {A = ℕ} 0 1 = cc in omega arith
 
 -- A whole number is no negative one, no fraction and not above 2⁵³: where a test of the program fails, the double is none.
-pub none_below : (x : Float) → lt (fin true 1 (pos 0)) x ≡ false → whole_of x ≡ Other
+pub none_below : (x : Float) → lt (fin true 1 (pos 0)) x ≡ false → whole_of x ≡ None
 none_below x t = none_of x (λ n h. false≢true (sym t ∙ above_minus_one x n h))
 
-pub none_above : (x : Float) → lt x (fin false 1 (pos 64)) ≡ false → whole_of x ≡ Other
+pub none_above : (x : Float) → lt x (fin false 1 (pos 64)) ≡ false → whole_of x ≡ None
 none_above x t = none_of x (λ n h. false≢true (sym t ∙ below_top x n h))
 
 limit-of : (x : Float) (n : ℕ) → IsWhole x n → n ≤ mass_limit
@@ -219,16 +219,16 @@ limit-of nan n h = elim h [ ]
 limit-of (inf _) n h = elim h [ ]
 limit-of (fin s m e) n h = h.1
 
-pub none-large : (x : Float) (k : ℕ) → k ≡ to_unsigned 64 x → mass_limit < k → whole_of x ≡ Other
+pub none-large : (x : Float) (k : ℕ) → k ≡ to_unsigned 64 x → mass_limit < k → whole_of x ≡ None
 none-large x k e l = none_of x (λ n h. not-large k n (e ∙ cut-is x n h) l (limit-of x n h))
   where
     not-large : (k n : ℕ) → k ≡ n → mass_limit < k → n ≤ mass_limit → ⊥
     not-large k n e l h = omega arith
 
-pub none-unequal : (x : Float) (k : ℕ) → k ≡ to_unsigned 64 x → eq (double k) x ≡ false → whole_of x ≡ Other
+pub none-unequal : (x : Float) (k : ℕ) → k ≡ to_unsigned 64 x → eq (double k) x ≡ false → whole_of x ≡ None
 none-unequal x k e t = none_of x (λ n h. false≢true (sym t ∙ ap (λ (j : ℕ). eq (double j) x) (e ∙ cut-is x n h) ∙ whole-eq x n h))
 
-pub mass-equal : (x : Float) (k : ℕ) → k ≤ mass_limit → eq (double k) x ≡ true → whole_of x ≡ Mass k
+pub mass-equal : (x : Float) (k : ℕ) → k ≤ mass_limit → eq (double k) x ≡ true → whole_of x ≡ Some k
 mass-equal x k h t = mass-of x k (eq-whole x k h t)
 
 -- the bits of 0, plus or minus
@@ -252,7 +252,7 @@ zero_bits_lem (fin s m e) h =
     either-zero false = refl
 
 -- what is cut to 0 and has other bits is a fraction
-pub none-small : (x : Float) (k : ℕ) → k ≡ to_unsigned 64 x → k ≡ 0 → zero_bits x ≡ false → whole_of x ≡ Other
+pub none-small : (x : Float) (k : ℕ) → k ≡ to_unsigned 64 x → k ≡ 0 → zero_bits x ≡ false → whole_of x ≡ None
 none-small x k e z t =
     none_of x (λ n h. let same : n ≡ 0 = omega (arith, cut-is x n h) in false≢true (sym t ∙ zero_bits_lem x (rw same at h)))
 
@@ -261,7 +261,7 @@ pub passes : {b : Bool} → b ≡ true → T b
 passes e = subst T (sym e) tt
 
 -- a double that the definition takes for n is n
-pub whole_is : (x : Float) (n : ℕ) → whole_of x ≡ Mass n → IsWhole x n
+pub whole_is : (x : Float) (n : ℕ) → whole_of x ≡ Some n → IsWhole x n
 unfolding whole_of
 whole_is nan n h = absurd (other-mass n h)
 whole_is (inf s) n h = absurd (other-mass n h)
@@ -269,18 +269,18 @@ whole_is (fin s m e) n h =
     let k : ℕ = m * up e / down e in
     tests k (eqb (m * up e) (k * down e)) (leb k mass_limit) (not s || eqb k 0) (eqb→eq (m * up e) (k * down e)) (leb→le k mass_limit) (λ z. z) h
   where
-    same : (k : ℕ) → Mass k ≡ Mass n → k ≡ n
+    same : (k : ℕ) → Some k ≡ Some n → k ≡ n
     same k e' = cc
 
     tests : (k : ℕ) (a b c : Bool) → (T a → m * up e ≡ k * down e) → (T b → k ≤ mass_limit)
-        → (T c → T (not s || eqb k 0)) → cond (a && b && c) (Mass k) Other ≡ Mass n → IsWhole (fin s m e) n
+        → (T c → T (not s || eqb k 0)) → cond (a && b && c) (Some k) None ≡ Some n → IsWhole (fin s m e) n
     tests k true true true f g j e' = subst (λ (t : ℕ). IsWhole (fin s m e) t) (same k e') (f tt, g tt, j tt)
     tests k true true false f g j e' = absurd (other-mass n e')
     tests k true false c f g j e' = absurd (other-mass n e')
     tests k false b c f g j e' = absurd (other-mass n e')
 
 -- so it is at most 2⁵³
-pub whole-limit : (x : Float) (n : ℕ) → whole_of x ≡ Mass n → n ≤ mass_limit
+pub whole-limit : (x : Float) (n : ℕ) → whole_of x ≡ Some n → n ≤ mass_limit
 whole-limit x n h = limit-of x n (whole_is x n h)
 
 -- the double of n is n
@@ -293,7 +293,7 @@ double-whole n h = go (double n) (double-value n h)
     go (fin true m e) v = absurd (true≢false v.0)
     go (fin false m e) v = (omega (arith, v.1), h, tt)
 
-pub double-mass : (n : ℕ) → n ≤ mass_limit → whole_of (double n) ≡ Mass n
+pub double-mass : (n : ℕ) → n ≤ mass_limit → whole_of (double n) ≡ Some n
 double-mass n h = mass-of (double n) n (double-whole n h)
 
 -- two whole doubles are equal where their numbers are

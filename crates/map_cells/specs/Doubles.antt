@@ -1,9 +1,7 @@
 -- Doubles that are whole numbers of milligrams. Definitions only.
-use Rattle.std.specs.Prelude.{ℕ, ◌+◌, ◌-◌, ◌*◌, ◌/◌, ◌%◌, ◌^◌, Bool, cond, not, ◌&&◌, ◌||◌, pos, ◌==◌, nat_le, to_bits, Float}
+use Rattle.std.specs.Prelude.{Option, Some, None, ℕ, ◌+◌, ◌-◌, ◌*◌, ◌/◌, ◌%◌, ◌^◌, Bool, cond, not, ◌&&◌, ◌||◌, pos, ◌==◌, nat_le, to_bits, Float}
 use Rattle.std.specs.Float.{nan, inf, fin, binary64}
 use Rattle.std.specs.Float.Ieee.{up, down, of_int}
-use Rattle.map_cells.specs.declared.Whole.{Whole}
-use Rattle.map_cells.specs.declared.Whole.TheVariants.{Mass, Other}
 
 -- "above 2⁵³": up to here every whole number is a double
 abbrev pub mass_limit : ℕ
@@ -15,12 +13,12 @@ double n = of_int binary64 (pos n)
 
 -- The whole number from 0 to 2⁵³ that a double is, where it is one: `fin s m e` is m·2ᵉ, below 0 where s holds, and 2ᵉ is up e / down e.
 -- "A minus zero handed in counts as 0".
-unfoldable pub whole_of : Float → Whole
-whole_of nan = Other
-whole_of (inf s) = Other
+unfoldable pub whole_of : Float → Option ℕ
+whole_of nan = None
+whole_of (inf s) = None
 whole_of (fin s m e) =
     let n = m * up e / down e in
-    cond (m * up e == n * down e && nat_le n mass_limit && (not s || n == 0)) (Mass n) Other
+    cond (m * up e == n * down e && nat_le n mass_limit && (not s || n == 0)) (Some n) None
 
 -- For the code alone, which holds a double below 1 against 0 by its bits too: those of 0, plus or minus, are 0 and 2⁶³, and those of 1 are
 -- 1023·2⁵².

@@ -1,8 +1,7 @@
 -- What is promised of the sum of two cells, or of its refusal. Definitions only.
-use Rattle.std.specs.Prelude.{◌≡◌, ℕ, ◌+◌, ◌≤◌, ◌⊎◌}
+use Rattle.std.specs.Prelude.{Some, ◌≡◌, ℕ, ◌+◌, ◌≤◌, ◌⊎◌}
 use Rattle.numbers.specs.Fraction.{Fraction, ◌+ᶠ◌}
 use Rattle.map_cells.specs.declared.Cell.{Cell}
-use Rattle.map_cells.specs.declared.Masses.TheVariants.{Between}
 use Rattle.map_cells.specs.declared.CellAnswer.{CellAnswer}
 use Rattle.map_cells.specs.declared.CellAnswer.TheVariants.{Sum, Refused}
 use Rattle.map_cells.specs.Doubles.{mass_limit}
@@ -24,8 +23,8 @@ pub record SumIn (a b : Cell) : Type 0 where
   pub high : ℕ
   pub low' : ℕ
   pub high' : ℕ
-  pub first : masses_of a ≡ Between low high
-  pub second : masses_of b ≡ Between low' high'
+  pub first : masses_of a ≡ Some (low, high)
+  pub second : masses_of b ≡ Some (low', high')
   pub room : high + high' ≤ mass_limit
 
 -- what an answer's number means, "place 0": "27 .. a cell handed in that is none of these .. or a .. sum above 2⁵³"

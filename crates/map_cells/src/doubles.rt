@@ -2,8 +2,6 @@
 ghost use Rattle.std.specs.Prelude.{◌≡◌, ◌+◌, ◌≤◌, not, T, is_nan};
 ghost use Rattle.map_cells.specs.Doubles.{mass_limit, double, whole_of, zero_bits};
 
-use crate::Whole;
-
 // 2^53 mg. A sum is held against it as a whole number: the double of 2^53 + 1 is that of 2^53.
 pub const MASS_LIMIT: u64 = 9007199254740992;
 
@@ -31,31 +29,27 @@ fn zero_bits(x: f64) -> bool
     ONE_BITS <= (bits % MINUS_ZERO + (MINUS_ZERO - 1)) % MINUS_ZERO
 }
 
-// The whole number that a double handed in is. A NaN fails the first test, an infinity one of the first two, a fraction or a number
-// below 0 the last; a minus zero passes as 0.
-pub fn whole_of(x: f64) -> Whole
+// The whole number of milligrams up to 2^53 that a double handed in is, if it is one. A NaN fails the first test, an infinity one of the
+// first two, a fraction or a number below 0 the last; a minus zero passes as 0.
+pub fn whole_of(x: f64) -> Option<u64>
     ensures { result ≡ whole_of x }
 {
     if !(x > -1.0) {
-        return Whole::Other;
+        return None;
     }
     if !(x < 18446744073709551616.0) {
-        return Whole::Other;
+        return None;
     }
     let n = std::num::truncating_f64_to_u64(x);
     if MASS_LIMIT < n {
-        return Whole::Other;
+        return None;
     }
     if n == 0 {
         if !zero_bits(x) {
-            return Whole::Other;
+            return None;
         }
     }
-    if double_of(n) == x {
-        Whole::Mass(n)
-    } else {
-        Whole::Other
-    }
+    if double_of(n) == x { Some(n) } else { None }
 }
 
 // Two masses, added as doubles.

@@ -1,18 +1,17 @@
 // The sum of two cells.
-ghost use Rattle.std.specs.Prelude.{◌≡◌, ◌≤◌};
-ghost use Rattle.map_cells.specs.declared.Masses.TheVariants.{Between};
+ghost use Rattle.std.specs.Prelude.{◌≡◌, ◌≤◌, Some};
 ghost use Rattle.map_cells.specs.Doubles.{mass_limit};
 ghost use Rattle.map_cells.specs.Sums.{masses_sum, cell_sum};
 ghost use Rattle.map_cells.specs.Promise.{SumPromise};
 
 use crate::doubles::{MASS_LIMIT, add_whole};
 use crate::kinds::{cell_between, masses_of};
-use crate::{Cell, CellAnswer, Masses};
+use crate::{Cell, CellAnswer};
 
 // Lows and highs, added as doubles.
 fn add_masses(low: u64, high: u64, low2: u64, high2: u64) -> CellAnswer
     requires { (low ≤ high) × (high ≤ mass_limit) × (low2 ≤ high2) × (high2 ≤ mass_limit) }
-    ensures { result ≡ masses_sum (Between low high) (Between low2 high2) }
+    ensures { result ≡ masses_sum (Some (low, high)) (Some (low2, high2)) }
 {
     if MASS_LIMIT < high + high2 {
         return CellAnswer::Refused(27, 0);
@@ -25,11 +24,11 @@ pub fn add_cells(a: Cell, b: Cell) -> CellAnswer
     ensures { (result ≡ cell_sum a b) × SumPromise a b result }
 {
     let first = masses_of(a);
-    let Masses::Between(low, high) = first else {
+    let Some((low, high)) = first else {
         return CellAnswer::Refused(27, 0);
     };
     let second = masses_of(b);
-    let Masses::Between(low2, high2) = second else {
+    let Some((low2, high2)) = second else {
         return CellAnswer::Refused(27, 0);
     };
     add_masses(low, high, low2, high2)

@@ -3,8 +3,7 @@ use Rattle.std.specs.Prelude.{List, ◌≡◌, ℕ, ◌+◌, ◌*◌, ◌≤◌,
 use Rattle.numbers.specs.Fraction.{Fraction, ◌*ᶠ◌, whole}
 use Rattle.numbers.specs.Lists.{at}
 use Rattle.exact.specs.Masses.{Mechanism, diurnal, soak, running, mass}
-use Rattle.sheet.specs.declared.Check.{Check}
-use Rattle.sheet.specs.Check.{number_of}
+use Rattle.refusals.specs.Check.{Check, number_of}
 use Rattle.sheet.specs.Bytes.{rows_of, cells_of, season_list, row_at}
 use Rattle.inventory.specs.ReportCall.{ReportCall}
 use Rattle.map_cells.specs.declared.Cell.{Cell}

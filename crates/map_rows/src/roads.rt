@@ -1,16 +1,9 @@
 // What part of a row's masses falls on each road kind.
 ghost use Rattle.std.specs.Prelude.{cond, ◌≡◌, ◌*◌, ◌^◌, ◌≤◌};
 ghost use Rattle.map_shares.specs.Demands.{travel_limit, TravelIn};
-ghost use Rattle.map_shares.specs.Roads.{urban_road, rural_road, highway_road};
+ghost use Rattle.map_shares.specs.Roads.{rural_time, highway_time, rest_parts, all_mileage, urban_road, rural_road, highway_road};
 
 use map_shares::{Part, Road, Travel};
-
-// One number for a row in town, another for any other.
-fn in_town(town: bool, a: u64, b: u64) -> u64
-    ensures { result ≡ cond town a b }
-{
-    if town { a } else { b }
-}
 
 // A mileage times a speed.
 fn crossed(mileage: u64, speed: u64) -> u64
@@ -20,26 +13,56 @@ fn crossed(mileage: u64, speed: u64) -> u64
     mileage * speed
 }
 
+// The time on rural roads, times both speeds.
+fn rural_time(t: Travel) -> u64
+    requires { TravelIn t }
+    ensures { (result ≡ rural_time t) × (result ≤ 10 ^ 12) }
+{
+    crossed(t.mileage.rural, t.speed.highway)
+}
+
+// The time on highways, times both speeds.
+fn highway_time(t: Travel) -> u64
+    requires { TravelIn t }
+    ensures { (result ≡ highway_time t) × (result ≤ 10 ^ 12) }
+{
+    crossed(t.mileage.highway, t.speed.rural)
+}
+
+// So much time of that outside towns: the rest of a town row's diurnal mass is a twelfth.
+fn rest_part(t: Travel, time: u64) -> Part
+    requires { TravelIn t }
+    ensures { result ≡ record { part = time; all = rest_parts t } }
+{
+    let both = rural_time(t) + highway_time(t);
+    let all = if t.town { 12 * both } else { both };
+    Part { part: time, all }
+}
+
+// So much of the whole mileage.
+fn mileage_part(t: Travel, mileage: u64) -> Part
+    requires { TravelIn t }
+    ensures { result ≡ record { part = mileage; all = all_mileage t } }
+{
+    Part {
+        part: mileage,
+        all: t.mileage.urban + t.mileage.rural + t.mileage.highway,
+    }
+}
+
 pub fn urban_road(t: Travel) -> Road
     requires { TravelIn t }
     ensures { result ≡ urban_road t }
 {
-    let diurnal = Part {
-        part: in_town(t.town, 11, 0),
-        all: 12,
-    };
-    let soak = Part {
-        part: in_town(t.town, 1, 0),
-        all: 1,
-    };
-    let running = Part {
-        part: t.mileage.urban,
-        all: t.mileage.urban + t.mileage.rural + t.mileage.highway,
-    };
+    let diurnal = if t.town { 11 } else { 0 };
+    let soak = if t.town { 1 } else { 0 };
     Road {
-        diurnal,
-        soak,
-        running,
+        diurnal: Part {
+            part: diurnal,
+            all: 12,
+        },
+        soak: Part { part: soak, all: 1 },
+        running: mileage_part(t, t.mileage.urban),
     }
 }
 
@@ -47,24 +70,11 @@ pub fn rural_road(t: Travel) -> Road
     requires { TravelIn t }
     ensures { result ≡ rural_road t }
 {
-    let rural = crossed(t.mileage.rural, t.speed.highway);
-    let both = rural + crossed(t.mileage.highway, t.speed.rural);
-    let diurnal = Part {
-        part: rural,
-        all: in_town(t.town, 12 * both, both),
-    };
-    let soak = Part {
-        part: in_town(t.town, 0, 1),
-        all: 1,
-    };
-    let running = Part {
-        part: t.mileage.rural,
-        all: t.mileage.urban + t.mileage.rural + t.mileage.highway,
-    };
+    let soak = if t.town { 0 } else { 1 };
     Road {
-        diurnal,
-        soak,
-        running,
+        diurnal: rest_part(t, rural_time(t)),
+        soak: Part { part: soak, all: 1 },
+        running: mileage_part(t, t.mileage.rural),
     }
 }
 
@@ -72,20 +82,9 @@ pub fn highway_road(t: Travel) -> Road
     requires { TravelIn t }
     ensures { result ≡ highway_road t }
 {
-    let highway = crossed(t.mileage.highway, t.speed.rural);
-    let both = crossed(t.mileage.rural, t.speed.highway) + highway;
-    let diurnal = Part {
-        part: highway,
-        all: in_town(t.town, 12 * both, both),
-    };
-    let soak = Part { part: 0, all: 1 };
-    let running = Part {
-        part: t.mileage.highway,
-        all: t.mileage.urban + t.mileage.rural + t.mileage.highway,
-    };
     Road {
-        diurnal,
-        soak,
-        running,
+        diurnal: rest_part(t, highway_time(t)),
+        soak: Part { part: 0, all: 1 },
+        running: mileage_part(t, t.mileage.highway),
     }
 }

@@ -1,38 +1,21 @@
 // A row's shares in whole milligrams, computed in 64 bits.
 ghost use Rattle.std.specs.Prelude.{◌≡◌};
-ghost use Rattle.map_shares.specs.Demands.{TravelIn, WordsIn};
-ghost use Rattle.map_shares.specs.Range.{RoadIn, SharesIn, RowIn};
-ghost use Rattle.map_shares.specs.Shares.{low_shares, high_shares, road_shares, row_shares};
+ghost use Rattle.map_shares.specs.Demands.{TravelIn, SpanIn, WordsIn};
+ghost use Rattle.map_shares.specs.Range.{PartIn, RoadIn, SharesIn, RowIn};
+ghost use Rattle.map_shares.specs.Shares.{share_down, share_up, road_shares, row_shares};
 
 use crate::roads::{highway_road, rural_road, urban_road};
 use crate::split::{share_down, share_up};
-use map_shares::{Road, RoadShares, RowShares, Shares, Travel, Words};
+use map_shares::{Part, Road, RoadShares, RowShares, Shares, Span, Travel, Words};
 
-fn low_shares(w: Words, k: Road) -> Shares
-    requires { WordsIn w × RoadIn k }
-    ensures { result ≡ low_shares w k }
+// A mechanism's share: of its low, cut down, and of its high, cut up.
+fn span_share(s: Span, p: Part) -> Span
+    requires { SpanIn s × PartIn p }
+    ensures { result ≡ record { low = share_down s.low p; high = share_up s.high p } }
 {
-    let d = k.diurnal;
-    let s = k.soak;
-    let r = k.running;
-    Shares {
-        diurnal: share_down(w.diurnal.low, d),
-        soak: share_down(w.soak.low, s),
-        running: share_down(w.running.low, r),
-    }
-}
-
-fn high_shares(w: Words, k: Road) -> Shares
-    requires { WordsIn w × RoadIn k }
-    ensures { result ≡ high_shares w k }
-{
-    let d = k.diurnal;
-    let s = k.soak;
-    let r = k.running;
-    Shares {
-        diurnal: share_up(w.diurnal.high, d),
-        soak: share_up(w.soak.high, s),
-        running: share_up(w.running.high, r),
+    Span {
+        low: share_down(s.low, p),
+        high: share_up(s.high, p),
     }
 }
 
@@ -40,9 +23,20 @@ fn road_shares(w: Words, k: Road) -> RoadShares
     requires { WordsIn w × RoadIn k }
     ensures { (result ≡ road_shares w k) × SharesIn result }
 {
+    let diurnal = span_share(w.diurnal, k.diurnal);
+    let soak = span_share(w.soak, k.soak);
+    let running = span_share(w.running, k.running);
     RoadShares {
-        low: low_shares(w, k),
-        high: high_shares(w, k),
+        low: Shares {
+            diurnal: diurnal.low,
+            soak: soak.low,
+            running: running.low,
+        },
+        high: Shares {
+            diurnal: diurnal.high,
+            soak: soak.high,
+            running: running.high,
+        },
     }
 }
 

@@ -55,25 +55,12 @@ fn exponent_of(unit: Unit) -> u64
     }
 }
 
-// The difference of two numbers, 0 where the second is the larger.
-fn cut_difference(a: u64, b: u64) -> u64
-    ensures { result ≡ a - b }
-{
-    if a < b { 0 } else { a - b }
-}
-
 // A power of ten.
 fn power_of_ten(k: u64) -> u64
     requires { k ≤ 18 }
     ensures { (result ≡ 10 ^ k) × (result ≤ 10 ^ 18) }
 {
-    let mut power: u64 = 1;
-    let mut i: u64 = 0;
-    while i < k {
-        power *= 10;
-        i += 1;
-    }
-    power
+    10u64.pow(k as u32)
 }
 
 // The verdict on a figure from (middle - half) / scale to (middle + half) / scale milligrams.
@@ -81,18 +68,18 @@ fn compare(middle: u64, half: u64, scale: u64, low: u64, high: u64) -> Verdict
     requires { (middle ≤ 2 * 10 ^ 18) × (half ≤ 10 ^ 18) × (1 ≤ scale) × (scale ≤ 2 * 10 ^ 18) }
     ensures { result ≡ compared middle half scale low high }
 {
-    let least = cut_difference(middle, half);
+    let least = middle.saturating_sub(half);
     let most = middle + half;
-    let from = (least + (scale - 1)) / scale;
+    let from = least.div_ceil(scale);
     let to = most / scale;
     if (from <= low) & (high <= to) {
         return Verdict::Agrees;
     }
     if to < low {
-        return Verdict::Low(cut_difference(low, (most + (scale - 1)) / scale));
+        return Verdict::Low(low.saturating_sub(most.div_ceil(scale)));
     }
     if high < from {
-        return Verdict::High(cut_difference(least / scale, high));
+        return Verdict::High((least / scale).saturating_sub(high));
     }
     Verdict::Fits
 }
@@ -108,8 +95,8 @@ pub fn mark(filed: Filed, low: u64, high: u64) -> Verdict
     if power + PLACES_LIMIT < places {
         return Verdict::Unreadable;
     }
-    let above = cut_difference(power, places);
-    let below = cut_difference(places, power);
+    let above = power.saturating_sub(places);
+    let below = places.saturating_sub(power);
     if power_of_ten(POWER_LIMIT - above) <= digits {
         return Verdict::Unreadable;
     }

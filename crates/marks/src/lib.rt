@@ -14,10 +14,10 @@ ghost use Rattle.marks.specs.Marks.{heat, raised_error, pressure_factor, bracket
 use bounds::exp::{ExpTables, ZERO, exponential};
 use bounds::fixed::mul_shift;
 use bounds::hours::{WARMEST, apart, weights_table};
-use bounds::order::minus;
 use bounds::power::power;
 use exact::Season;
 use fields::warmth;
+use std::array;
 
 // A season at its marks 0 to 47.
 #[derive(Clone, Copy)]
@@ -78,13 +78,7 @@ fn temperatures(lowest: u64, span: u64, weights: [u64; 48]) -> [u64; 48]
     requires { (lowest ≤ warmth_limit) × (span ≤ warmth_limit) × AllAtMost (10 ^ 9) weights }
     ensures { result ≡ tab (λ (i : ℕ). lowest * 10 ^ 9 + span * at weights i) 48 }
 {
-    let mut out = [0u64; 48];
-    let mut i: usize = 0;
-    while i < 48 {
-        out[i] = between(lowest, span, weights[i]);
-        i += 1;
-    }
-    out
+    array::from_fn(|i| between(lowest, span, weights[i]))
 }
 
 // The temperatures at a season's marks.
@@ -101,27 +95,14 @@ fn season_temperatures(season: Season) -> [u64; 48]
 pub fn by_distance(values: &[u64; 48]) -> [u64; 25]
     ensures { result ≡ tab (λ (d : ℕ). at values.now (ahead d)) 25 }
 {
-    let mut out = [0u64; 25];
-    let mut d: usize = 0;
-    while d < 25 {
-        out[d] = values[WARMEST - d];
-        d += 1;
-    }
-    out
+    array::from_fn(|d| values[WARMEST - d])
 }
 
 // At each mark the value of its distance from 14:00.
 fn by_mark(values: &[u64; 25]) -> [u64; 48]
     ensures { result ≡ tab (λ (i : ℕ). at values.now (apart i)) 48 }
 {
-    let mut out = [0u64; 48];
-    let mut i: usize = 0;
-    while i < 48 {
-        let d = apart(i);
-        out[i] = values[d];
-        i += 1;
-    }
-    out
+    array::from_fn(|i| values[apart(i)])
 }
 
 // E(0.0716 T), up to 56 °C.
@@ -137,34 +118,14 @@ fn heats(tables: &ExpTables, warmths: [u64; 25]) -> [u64; 25]
     requires { (tables.now ≡ entries) × AllAtMost (80 * 10 ^ 10) warmths }
     ensures { (result ≡ tab (λ (d : ℕ). heat (at warmths d)) 25) × AllAtMost (56 * 2 ^ 40) result }
 {
-    let mut out = [0u64; 25];
-    let mut d: usize = 0;
-    while d < 25 {
-        out[d] = heat_at(tables, warmths[d]);
-        d += 1;
-    }
-    out
-}
-
-// What a is surely above b, which may be too low by the error; 0 where that is nothing.
-fn above(a: u64, b: u64, error: u64) -> u64
-    requires { (b ≤ 56 * 2 ^ 40) × (error ≤ 2 ^ 10) }
-    ensures { result ≡ a - (b + error) }
-{
-    if a < b + error { 0 } else { a - (b + error) }
+    array::from_fn(|d| heat_at(tables, warmths[d]))
 }
 
 // The rise of E(0.0716 T) from each mark to the next, where it rises.
 fn steps(heats: [u64; 48]) -> [u64; 48]
     ensures { result ≡ tab (λ (i : ℕ). at heats ((i + 1) % 48) - at heats i) 48 }
 {
-    let mut out = [0u64; 48];
-    let mut i: usize = 0;
-    while i < 48 {
-        out[i] = minus(heats[(i + 1) % 48], heats[i]);
-        i += 1;
-    }
-    out
+    array::from_fn(|i| heats[(i + 1) % 48].saturating_sub(heats[i]))
 }
 
 // The rise of E(0.0716 T) at each distance when T is raised.
@@ -172,13 +133,7 @@ fn raises(tables: &ExpTables, warmths: [u64; 25], heats: [u64; 25], raise: u64) 
     requires { (tables.now ≡ entries) × AllAtMost (80 * 10 ^ 10) warmths × AllAtMost (56 * 2 ^ 40) heats × (raise ≤ 6 * 10 ^ 10) }
     ensures { result ≡ tab (λ (d : ℕ). heat (at warmths d + raise) - (at heats d + raised_error)) 25 }
 {
-    let mut out = [0u64; 25];
-    let mut d: usize = 0;
-    while d < 25 {
-        out[d] = above(heat_at(tables, warmths[d] + raise), heats[d], RAISED_ERROR);
-        d += 1;
-    }
-    out
+    array::from_fn(|d| heat_at(tables, warmths[d] + raise).saturating_sub(heats[d] + RAISED_ERROR))
 }
 
 // E(0.004 vp), vp in tenths of kPa.
@@ -205,13 +160,7 @@ fn rates(pressure: u64, warmths: [u64; 25], raise: u64) -> [u64; 25]
     requires { (pressure < 2 ^ 46) × AllAtMost (80 * 10 ^ 10) warmths × (raise ≤ 15 * 10 ^ 10) }
     ensures { result ≡ tab (λ (d : ℕ). pressure * bracket_units (at warmths d + raise) / 2 ^ 40) 25 }
 {
-    let mut out = [0u64; 25];
-    let mut d: usize = 0;
-    while d < 25 {
-        out[d] = rate_at(pressure, warmths[d] + raise);
-        d += 1;
-    }
-    out
+    array::from_fn(|d| rate_at(pressure, warmths[d] + raise))
 }
 
 // The same at the marks.

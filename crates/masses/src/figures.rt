@@ -6,7 +6,7 @@ ghost use Rattle.breakthrough.specs.Curves.{KeptOf};
 ghost use Rattle.row_factors.specs.Season.{Lent, ListFor};
 ghost use Rattle.masses.specs.Figures.{blended};
 ghost use Rattle.masses.specs.Day.{UnitsInRange, MicrogramsInRange, UseInRange, trip_limit};
-ghost use Rattle.masses.specs.Day.{rounded, rounded_all, three_figures, six_figures, day_figures};
+ghost use Rattle.masses.specs.Day.{three_figures, six_figures, day_figures};
 
 use bounds::exp::ExpTables;
 use exact::Row;
@@ -39,38 +39,13 @@ fn three_figures(factors: [u64; 7], row: Row) -> [u64; 3]
     ]
 }
 
-// A factor in micrograms, cut up or cut down.
-fn rounded(units: u64, up: bool) -> u64
-    requires { units < 2 ^ 44 }
-    ensures { result ≡ rounded up units }
-{
-    if up {
-        high_micrograms(units)
-    } else {
-        low_micrograms(units)
-    }
-}
-
-fn rounded_all(units: [u64; 7], up: bool) -> [u64; 7]
-    requires { UnitsInRange units }
-    ensures { result ≡ rounded_all up units }
-{
-    let mut out = [0u64; 7];
-    let mut k: usize = 0;
-    while k < 7 {
-        out[k] = rounded(units[k], up);
-        k += 1;
-    }
-    out
-}
-
 // Diurnal, soak and running, each low then high.
 pub fn six_figures(units: [u64; 7], row: Row) -> [u64; 6]
     requires { UnitsInRange units × UseInRange row }
     ensures { result ≡ six_figures row units }
 {
-    let low = three_figures(rounded_all(units, false), row);
-    let high = three_figures(rounded_all(units, true), row);
+    let low = three_figures(units.map(low_micrograms), row);
+    let high = three_figures(units.map(high_micrograms), row);
     [low[0], high[0], low[1], high[1], low[2], high[2]]
 }
 

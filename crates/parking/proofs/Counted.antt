@@ -3,14 +3,14 @@
 use mathlib.Core.Bool.{Bool, true, false, cond, ◌&&◌}
 use mathlib.Core.List.{List, [], ◌∷◌, ◌++◌}
 use mathlib.Core.Path.{◌≡◌, refl, sym, subst, ◌∙◌, ap}
-use Prim.Native.Nat.{ℕ, suc, ◌+◌, ◌*◌, ◌-◌, ◌^◌, ◌≤◌, ◌<◌, zero-le}
+use Prim.Native.Nat.{ℕ, suc, ◌+◌, ◌*◌, ◌^◌, ◌≤◌, ◌<◌, zero-le}
 use native.Mathlib.Decide.{ℕ_discrete, dec_le}
 use native.Mathlib.Nat.{add-mul}
 use native.Mathlib.Numerals.{add-one}
 use native.Mathlib.Omega.{arith}
 use borrow.Author.Tests.{eqb-true, eq-eqb, ne_eqb}
 use lib.Dec.{T, eqb}
-use lib.ListN.{length, set, replicate, length-set, length-replicate, length-append, get_or-append}
+use lib.ListN.{length, set, replicate, length-set, length-replicate, get_or-append}
 use lib.Seq.{get_or-set_same, get_or-set_other, get_or-append-add}
 use Rattle.numbers.specs.Lists.{at, sum, AllAtMost}
 use Rattle.numbers.proofs.Lists.{sum-none, sum-ext, sum-le}
@@ -202,6 +202,15 @@ module _ {cells rises : List ℕ} {n : ℕ} {starts values counts : List ℕ} {l
         either true = omega arith
         either false = omega (arith, c.few)
 
+-- the program counts the cell there
+pub placed_at : {cells rises : List ℕ} {n : ℕ} {starts values counts : List ℕ} {len : ℕ} → Counted cells rises n starts values counts len → n < 576
+    → (entry : ℕ) → entry < 577 → {start rise place : ℕ} {found : Bool} → start ≡ apart_of false n → rise ≡ at rises n
+    → found ≡ same starts values entry start rise → place ≡ slot rise found entry len
+    → (place ≡ slot (at rises n) (same starts values entry (apart_of false n) (at rises n)) entry len) × (place ≤ 576)
+placed_at {cells} {rises} {n} {starts} {values} {counts} {len} c h entry inside {start} {rise} {place} em er ef ep =
+    let there : place ≡ slot (at rises n) (same starts values entry (apart_of false n) (at rises n)) entry len = rw (← em, ← er, ← ef) ep in
+    (there, rw there (place-most c h entry inside))
+
 -- no more is counted at a place than in the cells
 pub counted-most : {cells rises : List ℕ} {n : ℕ} {starts values counts : List ℕ} {len : ℕ} → Counted cells rises n starts values counts len
     → CellsInRange cells → n < 576 → (place : ℕ) → place < 577 → at counts place + at cells n ≤ 10 ^ 6
@@ -224,12 +233,7 @@ module _ (starts values counts : List ℕ) (len : ℕ) (m : length starts ≡ 57
   abbrev all : List ℕ
   all = starts ++ (values ++ (counts ++ (len ∷ [])))
 
-  pub entries-length : length (starts ++ (values ++ (counts ++ (len ∷ [])))) ≡ 1732
-  entries-length =
-      length-append starts (values ++ (counts ++ (len ∷ []))) ∙
-      omega (arith, length-append values (counts ++ (len ∷ [])), length-append counts (len ∷ []))
-
-  pub start-place : (k : ℕ) → k < 577 → at all k ≡ at starts k
+  start-place : (k : ℕ) → k < 577 → at all k ≡ at starts k
   start-place k h = get_or-append starts (values ++ (counts ++ (len ∷ []))) 0 k (rw m h)
 
   rise-place : (k : ℕ) → k < 577 → at all (577 + k) ≡ at values k
@@ -243,22 +247,11 @@ module _ (starts values counts : List ℕ) (len : ℕ) (m : length starts ≡ 57
       get_or-append-add starts (values ++ (counts ++ (len ∷ []))) (length values + k) 0 ∙ get_or-append-add values (counts ++ (len ∷ [])) k 0 ∙
       get_or-append counts (len ∷ []) 0 k (rw c h)
 
-  pub length-place : at all 1731 ≡ len
+  length-place : at all 1731 ≡ len
   length-place =
       ap (at all) {x = 1731} {y = length starts + (length values + (length counts + 0))} (omega arith) ∙
       get_or-append-add starts (values ++ (counts ++ (len ∷ []))) (length values + (length counts + 0)) 0 ∙
       get_or-append-add values (counts ++ (len ∷ [])) (length counts + 0) 0 ∙ get_or-append-add counts (len ∷ []) 0 0
-
-  -- the same by the place in the array
-  pub rise-from : (k : ℕ) → 577 ≤ k → k < 1154 → at values (k - 577) ≡ at all k
-  rise-from k l h =
-      let e : 577 + (k - 577) ≡ k = omega arith in
-      sym (rw e at (rise-place (k - 577) (omega arith)))
-
-  pub count-from : (k : ℕ) → 1154 ≤ k → k < 1731 → at counts (k - 1154) ≡ at all k
-  count-from k l h =
-      let e : 1154 + (k - 1154) ≡ k = omega arith in
-      sym (rw e at (count-place (k - 1154) (omega arith)))
 
 -- all cells counted: the array is the list of the season
 pub counted-all : {cells rises : List ℕ} {n : ℕ} {starts values counts : List ℕ} {len : ℕ} → Counted cells rises n starts values counts len → n ≡ 576

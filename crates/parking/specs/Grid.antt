@@ -5,6 +5,8 @@ use Rattle.bounds.specs.Weights.{apart}
 use Rattle.exact.specs.Factors.{total, end_hour, duration}
 use Rattle.marks.specs.Marks.{passed}
 use Rattle.factors.specs.Units.{start_of, end_of}
+use Rattle.parking.specs.declared.cells.Moment.{Moment}
+use Rattle.parking.specs.declared.cells.Moment.TheVariants.{Start, End}
 
 -- what is asked of the counts of the 576 cells: some parking is counted, and at most a million
 pub record CellsInRange (cells : List ℕ) : Type 0 where
@@ -16,6 +18,11 @@ pub record CellsInRange (cells : List ℕ) : Type 0 where
 abbrev pub mark_of : Bool → ℕ → ℕ
 mark_of true = end_of
 mark_of false = start_of
+
+-- whether a moment of a parking is its end
+abbrev pub is_end : Moment → Bool
+is_end Start = false
+is_end End = true
 
 -- how far from 14:00 that mark is, in half-hours: as far from it, marks have one temperature, so that a day has 25
 abbrev pub apart_of : Bool → ℕ → ℕ

@@ -3,9 +3,11 @@
 ghost use Rattle.std.specs.Prelude.{[], ◌∷◌, ◌++◌, ◌≡◌, ◌<◌, length};
 ghost use Rattle.numbers.specs.Lists.{at};
 ghost use Rattle.exact.specs.Factors.{total};
-ghost use Rattle.parking.specs.Grid.{CellsInRange, apart_of, tally, cells_in, GridReady};
+ghost use Rattle.parking.specs.Grid.{CellsInRange, is_end, apart_of, tally, cells_in, GridReady};
 
-use crate::cells::apart_of;
+use crate::cells::{Moment, apart_of};
+
+// The loops of this file go over ranges: with iterators over the arrays a report took 10 kB more stack.
 
 // Where the distances stand of starts, where those of ends, and where the sum stands.
 pub const STARTS: usize = 576;
@@ -20,25 +22,21 @@ fn total(cells: &[u64; 576]) -> u64
     ensures { result ≡ total cells.now }
 {
     let mut sum: u64 = 0;
-    let mut cell: usize = 0;
-    while cell < 576 {
+    for cell in 0..576 {
         sum += cells[cell];
-        cell += 1;
     }
     sum
 }
 
-// How much each distance from 14:00 counts at the end, or the start, of a parking.
-fn apart_counts(cells: &[u64; 576], ends: bool) -> [u64; 25]
+// How much each distance from 14:00 counts at the start, or the end, of a parking.
+fn apart_counts(cells: &[u64; 576], moment: Moment) -> [u64; 25]
     requires { CellsInRange cells.now }
-    ensures { result ≡ tally 25 (apart_of ends) cells.now 576 }
+    ensures { result ≡ tally 25 (apart_of (is_end moment)) cells.now 576 }
 {
     let mut out = [0u64; 25];
-    let mut cell: usize = 0;
-    while cell < 576 {
-        let d = apart_of(cell, ends);
+    for cell in 0..576 {
+        let d = apart_of(cell, moment);
         out[d] += cells[cell];
-        cell += 1;
     }
     out
 }
@@ -63,10 +61,8 @@ fn joined(cells: &[u64; 576], starts: [u64; 25], ends: [u64; 25], sum: u64) -> [
     ensures { result ≡ cells.now ++ (starts ++ (ends ++ (sum ∷ []))) }
 {
     let mut out = [0u64; 627];
-    let mut k: usize = 0;
-    while k < 627 {
+    for k in 0..627 {
         out[k] = part(cells, starts, ends, sum, k);
-        k += 1;
     }
     out
 }
@@ -76,8 +72,8 @@ pub fn grid_of(cells: [u64; 576]) -> [u64; 627]
     requires { CellsInRange cells }
     ensures { GridReady result × (cells_in result ≡ cells) }
 {
-    let starts = apart_counts(&cells, false);
-    let ends = apart_counts(&cells, true);
+    let starts = apart_counts(&cells, Moment::Start);
+    let ends = apart_counts(&cells, Moment::End);
     let sum = total(&cells);
     joined(&cells, starts, ends, sum)
 }

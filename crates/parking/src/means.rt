@@ -4,8 +4,9 @@ ghost use Rattle.std.specs.Prelude.{◌≡◌, ℕ, ◌^◌, ◌≤◌};
 ghost use Rattle.numbers.specs.Lists.{at, AllAtMost};
 ghost use Rattle.bounds.specs.Ahead.{ahead};
 ghost use Rattle.factors.specs.Means.{mean_units};
-ghost use Rattle.parking.specs.Grid.{apart_of, cells_in, apart_place, GridReady};
+ghost use Rattle.parking.specs.Grid.{is_end, apart_of, cells_in, apart_place, GridReady};
 
+use crate::cells::Moment;
 use crate::grid::{ENDS, STARTS, SUM};
 use marks::by_distance;
 
@@ -18,41 +19,40 @@ pub fn mean_by_cell(grid: &[u64; 627], values: &[u64; 576]) -> u64
     ensures { result ≡ mean_units (cells_in grid.now) (at values.now) }
 {
     let mut sum: u64 = 0;
-    let mut cell: usize = 0;
-    while cell < 576 {
-        sum += grid[cell] * (values[cell] / CUT);
-        cell += 1;
+    for (cell, &value) in values.iter().enumerate() {
+        sum += grid[cell] * (value / CUT);
     }
     sum / grid[SUM]
 }
 
-// Where the counts of the distances start, at ends or at starts of parkings.
-pub fn apart_place(ends: bool) -> usize
-    ensures { (result ≡ apart_place ends) × (result ≤ 601) }
+// Where the counts of the distances start, at starts or at ends of parkings.
+pub fn apart_place(moment: Moment) -> usize
+    ensures { (result ≡ apart_place (is_end moment)) × (result ≤ 601) }
 {
-    if ends { ENDS } else { STARTS }
+    match moment {
+        Moment::Start => STARTS,
+        Moment::End => ENDS,
+    }
 }
 
-// The mean of values by distance from 14:00, taken at the end, or the start, of each parking.
-pub fn mean_by_distance(grid: &[u64; 627], ends: bool, values: &[u64; 25]) -> u64
+// The mean of values by distance from 14:00, taken at the start, or the end, of each parking.
+pub fn mean_by_distance(grid: &[u64; 627], moment: Moment, values: &[u64; 25]) -> u64
     requires { GridReady grid.now × AllAtMost (2 ^ 54) values.now }
-    ensures { result ≡ mean_units (cells_in grid.now) (λ (cell : ℕ). at values.now (apart_of ends cell)) }
+    ensures { result ≡ mean_units (cells_in grid.now) (λ (cell : ℕ). at values.now (apart_of (is_end moment) cell)) }
 {
-    let first = apart_place(ends);
+    let first = apart_place(moment);
     let mut sum: u64 = 0;
-    let mut d: usize = 0;
-    while d < 25 {
-        sum += grid[first + d] * (values[d] / CUT);
-        d += 1;
+    for (d, &value) in values.iter().enumerate() {
+        sum += grid[first + d] * (value / CUT);
     }
     sum / grid[SUM]
 }
 
 // The mean of values by mark, each taken from the mark before 14:00 that is as far from it.
-pub fn mean_by_mark(grid: &[u64; 627], ends: bool, values: &[u64; 48]) -> u64
+pub fn mean_by_mark(grid: &[u64; 627], moment: Moment, values: &[u64; 48]) -> u64
     requires { GridReady grid.now × AllAtMost (2 ^ 54) values.now }
-    ensures { result ≡ mean_units (cells_in grid.now) (λ (cell : ℕ). at values.now (ahead (apart_of ends cell))) }
+    ensures { result ≡ mean_units (cells_in grid.now) (λ (cell : ℕ). at values.now (ahead (apart_of (is_end moment) cell))) }
 {
     let by = by_distance(values);
-    mean_by_distance(grid, ends, &by)
+    mean_by_distance(grid, moment, &by)
 }

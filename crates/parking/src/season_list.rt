@@ -1,11 +1,11 @@
 // The parkings that breathe, as a list made once a season: cells that start at one temperature and have one rise are one entry, and cells
 // without rise or with a count of 0 are none.
-ghost use Rattle.std.specs.Prelude.{cond, ◌&&◌, [], ◌∷◌, ◌++◌, ◌≡◌, suc, ◌<◌, ◌≤◌, eqb, length};
+ghost use Rattle.std.specs.Prelude.{cond, ◌&&◌, [], ◌∷◌, ◌++◌, ◌≡◌, suc, ◌+◌, ◌<◌, ◌≤◌, eqb, length};
 ghost use Rattle.numbers.specs.Lists.{at};
 ghost use Rattle.parking.specs.Grid.{cells_in, GridReady};
 ghost use Rattle.parking.specs.SeasonList.{counted_rise, ListReady};
 
-use crate::cells::mark_of;
+use crate::cells::{Moment, mark_of};
 use bounds::hours::apart;
 
 // In the array stand the starts of the entries, by their distance from 14:00, the rises and the counts, and how many entries there are.
@@ -51,42 +51,18 @@ fn grown(place: usize, len: usize) -> usize
     if place == len { len + 1 } else { len }
 }
 
-// What stands at a place of the array.
-fn entry_part(
-    starts: &[u64; 577],
-    rises: &[u64; 577],
-    counts: &[u64; 577],
-    len: u64,
-    k: usize,
-) -> u64
-    requires { (length starts.now ≡ 577) × (length rises.now ≡ 577) × (length counts.now ≡ 577) × (k < 1732) }
-    ensures { result ≡ at (starts.now ++ (rises.now ++ (counts.now ++ (len ∷ [])))) k }
+// Three lists and a number are written one after another.
+pub fn join(first: &[u64], second: &[u64], third: &[u64], last: u64, out: &mut [u64])
+    requires { length out.old ≡ length first.now + length second.now + length third.now + 1 }
+    ensures { out.new ≡ first.now ++ (second.now ++ (third.now ++ (last ∷ []))) }
 {
-    if k < RISES {
-        return starts[k];
-    }
-    if k < COUNTS {
-        return rises[k - RISES];
-    }
-    if k < LENGTH { counts[k - COUNTS] } else { len }
-}
-
-// The parts are written one after another.
-fn join_entries(
-    starts: &[u64; 577],
-    rises: &[u64; 577],
-    counts: &[u64; 577],
-    len: u64,
-    out: &mut [u64; 1732],
-)
-    requires { (length starts.now ≡ 577) × (length rises.now ≡ 577) × (length counts.now ≡ 577) }
-    ensures { out.new ≡ starts.now ++ (rises.now ++ (counts.now ++ (len ∷ []))) }
-{
-    let mut k: usize = 0;
-    while k < 1732 {
-        out[k] = entry_part(starts, rises, counts, len, k);
-        k += 1;
-    }
+    let seconds = first.len();
+    let thirds = seconds + second.len();
+    let end = thirds + third.len();
+    out[..seconds].copy_from_slice(first);
+    out[seconds..thirds].copy_from_slice(second);
+    out[thirds..end].copy_from_slice(third);
+    out[end] = last;
 }
 
 // The list of a season, from the grid and the rises of its parkings, is written where it is wanted. `last` says where to look for an
@@ -100,12 +76,11 @@ pub fn write_list(grid: &[u64; 627], rises: &[u64; 576], out: &mut [u64; 1732])
     let mut counts = [0u64; 577];
     let mut last = [0usize; 48];
     let mut len: usize = 0;
-    let mut cell: usize = 0;
-    while cell < 576 {
-        let mark = mark_of(cell, false);
+    for (cell, &rise) in rises.iter().enumerate() {
+        let mark = mark_of(cell, Moment::Start);
         let start = apart(mark);
         let count = grid[cell];
-        let rise = counted_rise(count, rises[cell]);
+        let rise = counted_rise(count, rise);
         let entry = last[mark];
         let found = same(&starts, &values, entry, start, rise);
         let place = slot(rise, found, entry, len);
@@ -114,9 +89,8 @@ pub fn write_list(grid: &[u64; 627], rises: &[u64; 576], out: &mut [u64; 1732])
         counts[place] += count;
         last[mark] = place;
         len = grown(place, len);
-        cell += 1;
     }
-    join_entries(&starts, &values, &counts, len as u64, out);
+    join(&starts, &values, &counts, len as u64, out);
 }
 
 // The same list as a value.

@@ -7,7 +7,6 @@ ghost use Rattle.parking.specs.Grid.{passed_in};
 ghost use Rattle.parking.specs.Walk.{steps_most, steps_back, walked};
 
 use crate::cells::start_mark;
-use bounds::order::minus;
 
 // How many end hours there are, and how many durations each has.
 const HOURS: usize = 24;
@@ -44,12 +43,10 @@ fn column(values: &[u64; 48], hour: usize, out: &mut [u64]) -> u64
         passed: 0,
         steps: 0,
     };
-    let mut d: usize = 0;
-    while d < DURATIONS {
+    for (d, passed) in out.iter_mut().enumerate() {
         let mark = start_mark(hour, d + 1);
         carried = step_back(carried, values[mark]);
-        out[d] = carried.passed;
-        d += 1;
+        *passed = carried.passed;
     }
     carried.steps
 }
@@ -68,12 +65,10 @@ pub fn walk(values: &[u64; 48]) -> Walked
 {
     let mut passed = [0u64; 576];
     let mut steps: u64 = 0;
-    let mut hour: usize = 0;
-    while hour < HOURS {
+    for hour in 0..HOURS {
         let from = DURATIONS * hour;
         let to = from + DURATIONS;
         steps += column(values, hour + 1, &mut passed[from..to]);
-        hour += 1;
     }
     Walked { passed, steps }
 }
@@ -83,10 +78,8 @@ fn lowered(values: &[u64; 576]) -> [u64; 576]
     ensures { result ≡ tab (λ (cell : ℕ). at values.now cell - rise_error) 576 }
 {
     let mut out = [0u64; 576];
-    let mut cell: usize = 0;
-    while cell < 576 {
-        out[cell] = minus(values[cell], RISE_ERROR);
-        cell += 1;
+    for (cell, lower) in out.iter_mut().enumerate() {
+        *lower = values[cell].saturating_sub(RISE_ERROR);
     }
     out
 }
@@ -105,10 +98,8 @@ pub fn halved(values: &[u64; 576]) -> [u64; 576]
     ensures { result ≡ tab (λ (cell : ℕ). at values.now cell / 2) 576 }
 {
     let mut out = [0u64; 576];
-    let mut cell: usize = 0;
-    while cell < 576 {
-        out[cell] = values[cell] / 2;
-        cell += 1;
+    for (cell, half) in out.iter_mut().enumerate() {
+        *half = values[cell] / 2;
     }
     out
 }

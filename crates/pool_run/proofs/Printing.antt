@@ -1,19 +1,17 @@
 -- What the program prints where what it reads and writes is known: told of all bytes of its two sources, though of each it reads only one more than
 -- the longest sheet has.
 -- Assumes nothing.
-use Rattle.std.proofs.Common.{◌≡◌, ℕ, ◌<◌, Bool, true, false, leb, List, [], Option, None, Some, IfSome}
+use Rattle.std.proofs.Common.{◌≡◌, ℕ, ◌<◌, Bool, true, false, leb, List, [], Option, None, Some, IfSome, Ok, Err}
 use Rattle.std.proofs.Common.{refl, ap, sym, ◌∙◌, length, take, take_all, arith, subst}
 use Rattle.std.specs.Io.KnownBytes.{Keeps}
 use Rattle.std.proofs.KnownBytes.{Keeps-refl, Keeps-trans}
 use Rattle.std.proofs.lemmas.Bool.{leb-true, leb-false}
-use Rattle.sheet.specs.declared.Check.{Check}
-use Rattle.sheet.specs.declared.Check.TheVariants.{Pass, Refused}
+use Rattle.refusals.specs.Check.{Check, Pass, Refused}
 use Rattle.sheet.specs.Limits.{longest}
 use Rattle.sheet.specs.Sheet.{sheet_check}
 use Rattle.sheet.proofs.Checks.{then-pass}
-use Rattle.pooling.specs.declared.PoolAnswer.TheVariants.{Accepted}
 use Rattle.pooling.specs.Pool.{pool, region_check, pair_check}
-use Rattle.pooling.specs.PoolCall.{pool_answered, pool_answer}
+use Rattle.pooling.specs.PoolCall.{PoolAnswer, Accepted, pool_answered, pool_answer}
 use Rattle.program.specs.Printed.{Wrote}
 use Rattle.program.proofs.Overlong.{BothRefused, overlong}
 use Rattle.pool_run.specs.Refusal.{refusal_text, status_of}
@@ -99,15 +97,15 @@ record SamePool (a b a' b' : List ℕ) : Type 0 where
 -- by what is known of the two sheets
 answered-same : (c d : Check) {e e' : Check} → (c ≡ Pass → d ≡ Pass → e' ≡ e) → pool_answered c d e' ≡ pool_answered c d e
 unfolding pool_answered
-answered-same (Refused n p) d h = refl
-answered-same Pass (Refused n p) h = refl
-answered-same Pass Pass h = ap (pool_answered Pass Pass) (h refl refl)
+answered-same (Err refusal) d h = refl
+answered-same (Ok _) (Err refusal) h = refl
+answered-same (Ok _) (Ok _) h = ap (pool_answered Pass Pass) (h refl refl)
 
 accepted-passes : (c d e : Check) → pool_answered c d e ≡ Accepted → (c ≡ Pass) × (d ≡ Pass)
 unfolding pool_answered
-accepted-passes (Refused n p) d e h = cc
-accepted-passes Pass (Refused n p) e h = cc
-accepted-passes Pass Pass e h = (refl, refl)
+accepted-passes (Err refusal) d e h = cc
+accepted-passes (Ok _) (Err refusal) e h = cc
+accepted-passes (Ok _) (Ok _) e h = (refl, refl)
 
 same_pool : {a b a' b' : List ℕ} → Front a a' → Front b b' → SamePool a b a' b'
 unfolding pool_answer

@@ -1,5 +1,6 @@
 -- The refusals of two sheets: their lines, and how the program ends with one.
 -- Assumes nothing.
+use Rattle.std.proofs.Common.{Err}
 use mathlib.Core.Bool.{Bool, true, false}
 use mathlib.Core.List.{List, []}
 use mathlib.Core.Path.{◌≡◌, refl, ◌∙◌}
@@ -15,10 +16,12 @@ use Rattle.text.specs.Put.{Room, Put}
 use Rattle.text.proofs.Putting.{put_front}
 use Rattle.text.proofs.LineSizes.{pair-most}
 use Rattle.sheet.specs.Limits.{longest}
-use Rattle.pooling.specs.declared.PoolAnswer.{PoolAnswer}
-use Rattle.pooling.specs.declared.PoolAnswer.TheVariants.{Accepted, First, Second, Pooled}
+use Rattle.pooling.specs.declared.PoolRefusal.{PoolRefusal}
+use Rattle.pooling.specs.declared.PoolRefusal.TheVariants.{First, Second, Pooled}
 use Rattle.pooling.specs.Pool.{pool}
-use Rattle.pooling.specs.PoolCall.{pool_answer}
+use Rattle.refusals.specs.declared.Refusal.{Refusal}
+use Rattle.refusals.specs.Rule.{number}
+use Rattle.pooling.specs.PoolCall.{PoolAnswer, Accepted, pool_answer}
 use Rattle.pool_run.specs.Refusal.{refusal_text, status_of}
 use Rattle.pool_run.specs.Ran.{Sheets, PoolRan, pooled, refused, pool-stopped, refusal-stopped}
 
@@ -31,30 +34,25 @@ module _ (front : List ℕ) (number place : ℕ) (h : length front ≤ 22) (n : 
   line-room = record { fits = omega (arith, line-most) }
 
 -- The text of each answer.
-module _ {answer : PoolAnswer} {number place : ℕ} where
-  pub first-text : answer ≡ First number place → pair_line (bytes "first sheet: refused ") number (bytes " at ") place ≡ refusal_text answer
+module _ {answer : PoolAnswer} {refusal : Refusal} where
+  pub first-text : answer ≡ Err (First refusal)
+      → pair_line (bytes "first sheet: refused ") (number refusal.rule) (bytes " at ") refusal.place ≡ refusal_text answer
   unfolding refusal_text
   first-text e = rw e refl
 
-  pub second-text : answer ≡ Second number place → pair_line (bytes "second sheet: refused ") number (bytes " at ") place ≡ refusal_text answer
+  pub second-text : answer ≡ Err (Second refusal)
+      → pair_line (bytes "second sheet: refused ") (number refusal.rule) (bytes " at ") refusal.place ≡ refusal_text answer
   unfolding refusal_text
   second-text e = rw e refl
 
-  pub pooled-text : answer ≡ Pooled number place → pair_line (bytes "pooled sheet: refused ") number (bytes " at ") place ≡ refusal_text answer
+  pub pooled-text : answer ≡ Err (Pooled refusal)
+      → pair_line (bytes "pooled sheet: refused ") (number refusal.rule) (bytes " at ") refusal.place ≡ refusal_text answer
   unfolding refusal_text
   pooled-text e = rw e refl
 
-  pub first-status : answer ≡ First number place → status_of answer ≡ 1
-  unfolding status_of
-  first-status e = rw e refl
-
-  pub second-status : answer ≡ Second number place → status_of answer ≡ 1
-  unfolding status_of
-  second-status e = rw e refl
-
-  pub pooled-status : answer ≡ Pooled number place → status_of answer ≡ 1
-  unfolding status_of
-  pooled-status e = rw e refl
+pub refused-status : {answer : PoolAnswer} {refusal : PoolRefusal} → answer ≡ Err refusal → status_of answer ≡ 1
+unfolding status_of
+refused-status e = rw e refl
 
 -- It stands at the front of the buffer.
 pub none_told : {answer : PoolAnswer} → answer ≡ Accepted → ([] ≡ refusal_text answer) × (0 ≤ 67)

@@ -5,9 +5,8 @@ use Rattle.program.specs.Reads.{Taken, Unread}
 use Rattle.program.specs.Writes.{standard_output, standard_error, Written, Unwritten}
 use Rattle.program.specs.Printed.{Wrote}
 use Rattle.sheet.specs.Limits.{longest}
-use Rattle.pooling.specs.declared.PoolAnswer.TheVariants.{Accepted}
 use Rattle.pooling.specs.Pool.{pool}
-use Rattle.pooling.specs.PoolCall.{pool_answer}
+use Rattle.pooling.specs.PoolCall.{PoolAnswer, Accepted, pool_answer}
 use Rattle.pool_run.specs.Refusal.{refusal_text, status_of}
 
 -- Two sheets were read, all of each: the first from argument 1, the second from argument 2.

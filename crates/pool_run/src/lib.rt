@@ -7,16 +7,19 @@
 ghost use Rattle.std.specs.Prelude.{◌≡◌, ◌≤◌, length, take};
 ghost use Rattle.program.specs.Reads.{Taken};
 ghost use Rattle.sheet.specs.Limits.{longest};
-ghost use Rattle.pooling.specs.declared.PoolAnswer.TheVariants.{Accepted};
+ghost use Rattle.text.specs.Ascii.{bytes};
+ghost use Rattle.text.specs.Lines.{pair_line};
+ghost use Rattle.refusals.specs.Rule.{number};
 ghost use Rattle.pooling.specs.Pool.{pool};
-ghost use Rattle.pooling.specs.PoolCall.{pool_answer};
+ghost use Rattle.pooling.specs.PoolCall.{PoolAnswer, Accepted, pool_answer};
 ghost use Rattle.pool_run.specs.Refusal.{refusal_text, status_of};
 ghost use Rattle.pool_run.specs.Ran.{PoolRan, RefusalPrinted, PoolPrinted, PoolPrints};
 
-use pooling::PoolAnswer;
+use pooling::PoolRefusal;
 use pooling_calls::length::pool_length;
 use program::sources::Sources;
 use program::{LONGEST, NEITHER, ROOM};
+use refusals::Refusal;
 use std::io::Write;
 use text::lines::put_pair;
 
@@ -68,34 +71,26 @@ fn write_refusal<E: Write>(
     NEITHER
 }
 
-// The line of a refusal, at the front of a buffer that has room for it; the answer is its length.
-fn put_answer(line: &mut [u8], answer: PoolAnswer) -> usize
+// The line of a refusal: which sheet is refused, and behind it the number and the place.
+fn put_refusal(line: &mut [u8], named: &[u8], refusal: Refusal) -> usize
+    requires { (67 ≤ length line.old) × (length named.now ≤ 22) }
+    ensures { (take result line.new ≡ pair_line named.now (number refusal.rule) (bytes " at ") refusal.place) × (result ≤ 67) }
+{
+    let number = refusal.rule.number();
+    let place = refusal.place;
+    put_pair(line, named, number, b" at ", place)
+}
+
+// The line of a refusal at the front of a buffer; of two sheets that pool there is none.
+fn put_answer(line: &mut [u8], answer: Result<(), PoolRefusal>) -> usize
     requires { 67 ≤ length line.old }
     ensures { (take result line.new ≡ refusal_text answer) × (result ≤ 67) }
 {
     match answer {
-        PoolAnswer::Accepted => 0,
-        PoolAnswer::First(number, place) => put_pair(
-            line,
-            b"first sheet: refused ",
-            number,
-            b" at ",
-            place,
-        ),
-        PoolAnswer::Second(number, place) => put_pair(
-            line,
-            b"second sheet: refused ",
-            number,
-            b" at ",
-            place,
-        ),
-        PoolAnswer::Pooled(number, place) => put_pair(
-            line,
-            b"pooled sheet: refused ",
-            number,
-            b" at ",
-            place,
-        ),
+        Ok(()) => 0,
+        Err(PoolRefusal::First(refusal)) => put_refusal(line, b"first sheet: refused ", refusal),
+        Err(PoolRefusal::Second(refusal)) => put_refusal(line, b"second sheet: refused ", refusal),
+        Err(PoolRefusal::Pooled(refusal)) => put_refusal(line, b"pooled sheet: refused ", refusal),
     }
 }
 
@@ -105,7 +100,7 @@ fn refuse<E: Write>(
     n: usize,
     second: &[u8],
     m: usize,
-    answer: PoolAnswer,
+    answer: Result<(), PoolRefusal>,
     err: &mut E,
 ) -> u8
     requires taken { Taken 1 n first.now × Taken 2 m second.now }
@@ -137,13 +132,11 @@ fn answer<W: Write, E: Write>(
     let b = &second[..m];
     let reply = pooling_calls::pool(a, b, &mut bytes);
     match reply {
-        PoolAnswer::Accepted => {
+        Ok(()) => {
             let end = pool_length(a, b);
             write_pool(first, n, second, m, &bytes[..end], out, err)
         }
-        PoolAnswer::First(_, _) => refuse(first, n, second, m, reply, err),
-        PoolAnswer::Second(_, _) => refuse(first, n, second, m, reply, err),
-        PoolAnswer::Pooled(_, _) => refuse(first, n, second, m, reply, err),
+        Err(_) => refuse(first, n, second, m, reply, err),
     }
 }
 

@@ -1,6 +1,7 @@
 -- What pooling answers: the first sheet's checks, then the second's, then those of the two together, each with its number and place; and what
 -- is known where they pass.
 -- Assumes nothing.
+use Rattle.std.proofs.Common.{Ok, Err}
 use mathlib.Core.Bool.{Bool, true, false}
 use mathlib.Core.List.{List}
 use mathlib.Core.Path.{◌≡◌, refl, sym}
@@ -8,18 +9,19 @@ use Prim.Native.Nat.{ℕ, suc, zero, ◌+◌, ◌*◌, ◌≤◌, ◌<◌}
 use native.Mathlib.Omega.{arith}
 use lib.Dec.{ltb}
 use lib.ListN.{length}
-use Rattle.sheet.specs.declared.Check.{Check}
-use Rattle.sheet.specs.declared.Check.TheVariants.{Pass, Refused}
+use Rattle.refusals.specs.declared.Rule.{Rule}
+use Rattle.refusals.specs.declared.Rule.TheVariants as rule
+use Rattle.refusals.specs.declared.Refusal.{Refusal}
+use Rattle.refusals.specs.Check.{Check, Pass, Refused, refuse, ◌then◌}
 use Rattle.sheet.specs.Integers.{u8_at}
 use Rattle.sheet.specs.Bytes.{seasons_of, rows_of}
-use Rattle.sheet.specs.Check.{refuse, ◌then◌}
 use Rattle.sheet.specs.Sheet.{sheet_check}
 use Rattle.sheet.proofs.Checks.{Tests, Judges, then-pass, below_suc, tests-as, ||-tests, not-tests, eqb-shows}
 use Rattle.sheet.proofs.Checks.{ltb-tests, true-is-not-false, judges-refuse, judges-then, ◌⊳◌}
 use Rattle.sheet.proofs.Conditions.{mark-judged, sheet-judged, met-accepted}
-use Rattle.pooling.specs.declared.PoolAnswer.TheVariants.{Accepted, First, Second, Pooled}
+use Rattle.pooling.specs.declared.PoolRefusal.TheVariants.{First, Second, Pooled}
 use Rattle.pooling.specs.Pool.{pool, region_check, shared_bytes, some_differs, differ, pair_check, pool_check}
-use Rattle.pooling.specs.PoolCall.{pool_answered, pool_answer, check_of, region_demands, Agree, pair_demands, PoolSays}
+use Rattle.pooling.specs.PoolCall.{Accepted, pool_answered, pool_answer, refusal_of, check_of, region_demands, Agree, pair_demands, PoolSays}
 use Rattle.pooling.specs.Late.{late_check}
 use Rattle.pooling.proofs.PoolBytes.{Region, Pair, pool-long}
 use Rattle.pooling.proofs.PoolChecks.{pooled-check}
@@ -49,28 +51,28 @@ pair-judged a b room = differ-tests a b ⊳ judges-then (sheet-judged (pool a b)
 
 -- the answer's number and place are those of the first check that applies
 answered-check : (first second together : Check) → check_of (pool_answered first second together) ≡ (first then second then together)
-unfolding check_of pool_answered ◌then◌
-answered-check (Refused number place) second together = refl
-answered-check Pass (Refused number place) together = refl
-answered-check Pass Pass (Refused number place) = refl
-answered-check Pass Pass Pass = refl
+unfolding check_of refusal_of pool_answered ◌then◌
+answered-check (Err refusal) second together = refl
+answered-check (Ok _) (Err refusal) together = refl
+answered-check (Ok _) (Ok _) (Err refusal) = refl
+answered-check (Ok _) (Ok _) (Ok _) = refl
 
 pub answer-check : (a b : List ℕ) (room : ℕ) → check_of (pool_answer a b room) ≡ pool_check a b room
 unfolding pool_answer pool_check
 answer-check a b room = answered-check _ _ _
 
 -- Each outcome of the checks is the answer.
-module _ (a b : List ℕ) (room : ℕ) {number place : ℕ} where
-  pub first-is : region_check a ≡ Refused number place → First number place ≡ pool_answer a b room
+module _ (a b : List ℕ) (room : ℕ) {refusal : Refusal} where
+  pub first-is : region_check a ≡ Err refusal → Err (First refusal) ≡ pool_answer a b room
   unfolding pool_answer pool_answered
   first-is p = rw p
 
-  pub second_is : region_check a ≡ Pass → region_check b ≡ Refused number place → Second number place ≡ pool_answer a b room
+  pub second_is : region_check a ≡ Pass → region_check b ≡ Err refusal → Err (Second refusal) ≡ pool_answer a b room
   unfolding pool_answer pool_answered
   second_is p q = rw (p, q)
 
-  pub pooled-is : region_check a ≡ Pass → region_check b ≡ Pass → pair_check a b room ≡ Refused number place
-      → Pooled number place ≡ pool_answer a b room
+  pub pooled-is : region_check a ≡ Pass → region_check b ≡ Pass → pair_check a b room ≡ Err refusal
+      → Err (Pooled refusal) ≡ pool_answer a b room
   unfolding pool_answer pool_answered
   pooled-is p q r = rw (p, q, r)
 
@@ -83,11 +85,11 @@ accepted-is a b room p q r = rw (p, q, r)
 told : (a b : List ℕ) (room : ℕ) (c d e : Check) → region_check a ≡ c → region_check b ≡ d → pair_check a b room ≡ e
     → PoolSays a b room (pool_answered c d e)
 unfolding pool_answered
-told a b room (Refused number place) d e p q r = (region-judged a).refuses number place p
-told a b room Pass (Refused number place) e p q r = ((region-judged a).passes p, (region-judged b).refuses number place q)
-told a b room Pass Pass (Refused number place) p q r =
-    ((region-judged a).passes p, (region-judged b).passes q, (pair-judged a b room).refuses number place r)
-told a b room Pass Pass Pass p q r = ((region-judged a).passes p, (region-judged b).passes q, (pair-judged a b room).passes r)
+told a b room (Err refusal) d e p q r = (region-judged a).refuses refusal.rule refusal.place p
+told a b room (Ok _) (Err refusal) e p q r = ((region-judged a).passes p, (region-judged b).refuses refusal.rule refusal.place q)
+told a b room (Ok _) (Ok _) (Err refusal) p q r =
+    ((region-judged a).passes p, (region-judged b).passes q, (pair-judged a b room).refuses refusal.rule refusal.place r)
+told a b room (Ok _) (Ok _) (Ok _) p q r = ((region-judged a).passes p, (region-judged b).passes q, (pair-judged a b room).passes r)
 
 pub answer-says : (a b : List ℕ) (room : ℕ) → PoolSays a b room (pool_answer a b room)
 unfolding pool_answer
@@ -128,12 +130,12 @@ poolable a b room h =
     }
 
 -- Of two sheets that pass, the checks together are these four numbers.
-after : (d : Bool) (number place : ℕ) {c e : Check} → (d ≡ false → c ≡ e) → (refuse d number place then c) ≡ (refuse d number place then e)
+after : (d : Bool) (r : Rule) (place : ℕ) {c e : Check} → (d ≡ false → c ≡ e) → (refuse d r place then c) ≡ (refuse d r place then e)
 unfolding refuse ◌then◌
-after true number place f = refl
-after false number place f = f refl
+after true r place f = refl
+after false r place f = f refl
 
 pub late : (a b : List ℕ) (room : ℕ) → region_check a ≡ Pass → region_check b ≡ Pass
-    → pair_check a b room ≡ (refuse (differ a b) 32 0 then late_check a b then refuse (ltb room (length a + 24 * rows_of b)) 22 0)
+    → pair_check a b room ≡ (refuse (differ a b) rule.Differ 0 then late_check a b then refuse (ltb room (length a + 24 * rows_of b)) rule.Room 0)
 unfolding pair_check
-late a b room p q = after (differ a b) 32 0 (λ d. let both = pair a b p q d in rw (pooled-check both, pool-long a both.second))
+late a b room p q = after (differ a b) rule.Differ 0 (λ d. let both = pair a b p q d in rw (pooled-check both, pool-long a both.second))

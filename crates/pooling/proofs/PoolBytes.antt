@@ -8,7 +8,7 @@ use Prim.Native.Nat.{ℕ, suc, zero, ◌+◌, ◌*◌, ◌/◌, ◌%◌, ◌≤�
 use native.Mathlib.Omega.{arith}
 use lib.ListN.{length, get_or, set, drop, length-append, length-drop, get_or-append}
 use lib.Seq.{sets, length-sets, get_or-append-add, get_or-drop, get_or-set_same, get_or-set_other, lt-length-set}
-use Rattle.sheet.specs.declared.Check.TheVariants.{Pass}
+use Rattle.refusals.specs.Check.{Pass}
 use Rattle.sheet.specs.Limits.{many_rows_limit, longest}
 use Rattle.sheet.specs.Integers.{u8_at}
 use Rattle.sheet.specs.Versions.{version_of, has_grid, has_many_rows, seasons_start}

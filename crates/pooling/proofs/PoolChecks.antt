@@ -9,13 +9,13 @@ use native.Mathlib.Omega.{arith}
 use borrow.Author.Tests.{le-ltb}
 use lib.Dec.{ltb, eqb}
 use Rattle.exact.specs.declared.Season.{Season}
-use Rattle.sheet.specs.declared.Check.{Check}
-use Rattle.sheet.specs.declared.Check.TheVariants.{Pass}
+use Rattle.refusals.specs.declared.Rule.{Rule}
+use Rattle.refusals.specs.declared.Rule.TheVariants as rule
+use Rattle.refusals.specs.Check.{Check, Pass, refuse, ◌then◌, each}
 use Rattle.sheet.specs.Limits.{many_rows_limit, seasons_limit, vehicles_limit, fleet_limit, tank_limit, trips_limit, minutes_limit}
 use Rattle.sheet.specs.Integers.{u8_at, u16_at}
 use Rattle.sheet.specs.Versions.{version_of, has_mileage, has_many_rows}
 use Rattle.sheet.specs.Bytes.{seasons_of, rows_of, row_place, row_at, equipment_at}
-use Rattle.sheet.specs.Check.{refuse, ◌then◌, each}
 use Rattle.sheet.specs.Sheet.{outside, mark_check, numbers_check, head_check, length_check, parking_check, season_check}
 use Rattle.sheet.specs.Sheet.{is_absent, code_wrong, percent_wrong, load_wrong, saturation_above, some_season}
 use Rattle.sheet.specs.RunningSums.{vehicles_before}
@@ -41,18 +41,18 @@ record Leaves (c d e : Check) : Type 0 where
   left : c ≡ Pass → d ≡ e
 
 -- a number that does not apply does not apply elsewhere
-skip : (b : Bool) (m p q : ℕ) {c d e : Check} → Leaves c d e → Leaves (refuse b m p then c) (refuse b m q then d) e
+skip : (b : Bool) (m : Rule) (p q : ℕ) {c d e : Check} → Leaves c d e → Leaves (refuse b m p then c) (refuse b m q then d) e
 unfolding refuse ◌then◌
 skip true m p q f = record { left = λ h. absurd (let z : ◌≡◌ {A = ℕ} 0 1 = cc in omega arith) }
 skip false m p q f = f
 
-last : (b : Bool) (m p q : ℕ) → Leaves (refuse b m p) (refuse b m q) Pass
+last : (b : Bool) (m : Rule) (p q : ℕ) → Leaves (refuse b m p) (refuse b m q) Pass
 unfolding refuse
 last true m p q = record { left = λ h. absurd (let z : ◌≡◌ {A = ℕ} 0 1 = cc in omega arith) }
 last false m p q = record { left = λ h. refl }
 
 -- one with another condition is all that is left, where those after it pass
-keep : (x y : Bool) (m p q : ℕ) {c d : Check} → Leaves c d Pass → Leaves (refuse x m p then c) (refuse y m q then d) (refuse y m q)
+keep : (x y : Bool) (m : Rule) (p q : ℕ) {c d : Check} → Leaves c d Pass → Leaves (refuse x m p then c) (refuse y m q then d) (refuse y m q)
 unfolding refuse ◌then◌
 keep true y m p q f = record { left = λ h. absurd (let z : ◌≡◌ {A = ℕ} 0 1 = cc in omega arith) }
 keep false true m p q f = record { left = λ h. refl }
@@ -63,28 +63,30 @@ unfoldable row_with : List ℕ → ℕ → Bool → ℕ → Check
 row_with s i exceeded place =
     let row = row_at s i in
     let p = row_place s i in
-    refuse (is_absent (equipment_at s p)) 13 place then
-    refuse (code_wrong (u8_at s (p + 2))) 14 place then
-    refuse (percent_wrong row) 15 place then
-    refuse (ltb vehicles_limit row.vehicles) 16 place then
-    refuse exceeded 26 place then
-    refuse (ltb tank_limit (u16_at s (p + 6))) 17 place then
-    refuse (ltb trips_limit row.trips || ltb minutes_limit row.minutes) 18 place then
-    refuse (load_wrong row.canister row.load row.saturation) 19 place then
-    refuse (some_season (saturation_above 3 row.canister row.saturation) s (seasons_of s)) 20 place then
-    refuse (not (has_mileage s) && not (eqb row.mileage 0)) 21 place then
-    refuse (has_mileage s && mileage_wrong s row) 25 place
+    refuse (is_absent (equipment_at s p)) rule.Class place then
+    refuse (code_wrong (u8_at s (p + 2))) rule.CanisterCode place then
+    refuse (percent_wrong row) rule.Percent place then
+    refuse (ltb vehicles_limit row.vehicles) rule.Vehicles place then
+    refuse exceeded rule.Fleet place then
+    refuse (ltb tank_limit (u16_at s (p + 6))) rule.Tank place then
+    refuse (ltb trips_limit row.trips || ltb minutes_limit row.minutes) rule.Trips place then
+    refuse (load_wrong row.canister row.load row.saturation) rule.Load place then
+    refuse (some_season (saturation_above 3 row.canister row.saturation) s (seasons_of s)) rule.Exponent place then
+    refuse (not (has_mileage s) && not (eqb row.mileage 0)) rule.RowZeros place then
+    refuse (has_mileage s && mileage_wrong s row) rule.Mileage place
 
 -- where no number applies, none does but 26 with its other answer
-only-fleet : (s : List ℕ) (i : ℕ) (x y : Bool) (p q : ℕ) → Leaves (row_with s i x p) (row_with s i y q) (refuse y 26 q)
+only-fleet : (s : List ℕ) (i : ℕ) (x y : Bool) (p q : ℕ) → Leaves (row_with s i x p) (row_with s i y q) (refuse y rule.Fleet q)
 unfolding row_with
 only-fleet s i x y p q =
-    skip _ 13 p q
-    (skip _ 14 p q
-    (skip _ 15 p q
-    (skip _ 16 p q
-    (keep x y 26 p q
-    (skip _ 17 p q (skip _ 18 p q (skip _ 19 p q (skip _ 20 p q (skip _ 21 p q (last _ 25 p q))))))))))
+    skip _ rule.Class p q
+    (skip _ rule.CanisterCode p q
+    (skip _ rule.Percent p q
+    (skip _ rule.Vehicles p q
+    (keep x y rule.Fleet p q
+    (skip _ rule.Tank p q
+    (skip _ rule.Trips p q
+    (skip _ rule.Load p q (skip _ rule.Exponent p q (skip _ rule.RowZeros p q (last _ rule.Mileage p q))))))))))
 
 -- the vehicles up to row i are too many
 abbrev exceeds : List ℕ → ℕ → Bool
@@ -124,7 +126,7 @@ module _ {a b : List ℕ} (h : Pair a b) where
       )
 
   -- and all of the head but the row count
-  head-left : head_check (pool a b) ≡ refuse (ltb many_rows_limit (rows_together a b)) 5 6
+  head-left : head_check (pool a b) ≡ refuse (ltb many_rows_limit (rows_together a b)) rule.Rows 6
   unfolding head_check numbers_check refuse ◌then◌ outside
   head-left =
       let (least, most) = met.0.1.1.0 in

@@ -5,16 +5,14 @@ use mathlib.Core.Path.{◌≡◌, sym, ap, ◌∙◌}
 use Prim.Native.Nat.{ℕ, ◌≤◌}
 use lib.ListN.{length, take, drop}
 use lib.Seq.{take-append_seam}
-use Rattle.sheet.specs.declared.Check.TheVariants.{Pass}
+use Rattle.refusals.specs.Check.{Pass}
 use Rattle.sheet.specs.Integers.{u8_at}
 use Rattle.report_words.specs.Years.{filled}
 use Rattle.report_words.proofs.Filled.{tab-get_d}
 use Rattle.inventory.specs.ReportCall.{written}
-use Rattle.pooling.specs.declared.PoolAnswer.{PoolAnswer}
-use Rattle.pooling.specs.declared.PoolAnswer.TheVariants.{Accepted}
 use Rattle.pooling.specs.Pool.{pool, pool_check}
 use Rattle.pooling.specs.Late.{Regions}
-use Rattle.pooling.specs.PoolCall.{pool_answer, check_of, PoolCall}
+use Rattle.pooling.specs.PoolCall.{PoolAnswer, Accepted, pool_answer, check_of, PoolCall}
 use Rattle.pooling.proofs.PoolAnswers.{answer-check, answer-says, regions, poolable}
 
 -- all bytes of the pooled sheet, one after another

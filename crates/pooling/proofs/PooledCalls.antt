@@ -1,5 +1,6 @@
 -- The bytes that the pool call left are the pooled sheet, so that what is said of its report holds of the words that a report call leaves.
 -- Assumes nothing.
+use Rattle.std.proofs.Common.{Ok, Err}
 use mathlib.Core.List.{List}
 use mathlib.Core.Path.{◌≡◌, refl, sym, ap, ap₂, ◌∙◌}
 use Prim.Native.Nat.{ℕ, ◌+◌, ◌*◌, ◌≤◌, ◌<◌}
@@ -7,10 +8,8 @@ use native.Mathlib.Omega.{arith}
 use lib.ListN.{length, take}
 use borrow.Author.Tests.{le-ltb}
 use Rattle.numbers.specs.Lists.{at}
-use Rattle.sheet.specs.declared.Check.{Check}
-use Rattle.sheet.specs.declared.Check.TheVariants.{Pass}
+use Rattle.refusals.specs.Check.{Check, Pass, refuse, ◌then◌}
 use Rattle.sheet.specs.Bytes.{rows_of}
-use Rattle.sheet.specs.Check.{refuse, ◌then◌}
 use Rattle.sheet.specs.Sheet.{sheet_check}
 use Rattle.report_words.specs.Report.{report}
 use Rattle.report_words.specs.Categories.{report_length}
@@ -18,10 +17,9 @@ use Rattle.report_words.proofs.ReportPlaces.{report-length}
 use Rattle.inventory.specs.ReportCall.{ReportCall}
 use Rattle.inventory.specs.ReportAnswers.{report_check}
 use Rattle.inventory.proofs.Written.{written-first}
-use Rattle.pooling.specs.declared.PoolAnswer.{PoolAnswer}
-use Rattle.pooling.specs.declared.PoolAnswer.TheVariants.{Accepted, First, Second, Pooled}
+use Rattle.pooling.specs.declared.PoolRefusal.TheVariants.{First, Second, Pooled}
 use Rattle.pooling.specs.Pool.{rows_together, pool}
-use Rattle.pooling.specs.PoolCall.{check_of, PoolCall}
+use Rattle.pooling.specs.PoolCall.{PoolAnswer, Accepted, check_of, PoolCall}
 use Rattle.pooling.specs.PooledCalls.{pooled_bytes, PoolCallsTheorem, OrderCallsTheorem}
 use Rattle.pooling.proofs.PoolBytes.{rows-pool, pool-long}
 use Rattle.pooling.proofs.PoolAnswers.{Poolable, poolable}
@@ -41,10 +39,8 @@ passes {s} {w} a accepted room = a.answer-is ∙ rw (accepted, le-ltb (length w)
 -- a number of an answer that is no refusal
 accepted-answer : (r : PoolAnswer) → check_of r ≡ Pass → r ≡ Accepted
 unfolding check_of
-accepted-answer Accepted e = refl
-accepted-answer (First number place) e = let z : ◌≡◌ {A = ℕ} 0 1 = cc in absurd (omega arith)
-accepted-answer (Second number place) e = let z : ◌≡◌ {A = ℕ} 0 1 = cc in absurd (omega arith)
-accepted-answer (Pooled number place) e = let z : ◌≡◌ {A = ℕ} 0 1 = cc in absurd (omega arith)
+accepted-answer (Ok _) e = refl
+accepted-answer (Err refused) e = let z : ◌≡◌ {A = ℕ} 0 1 = cc in absurd (omega arith)
 
 -- A pool that was accepted: the bytes that it left are the pooled sheet.
 module _ {a b old out : List ℕ} {answer : PoolAnswer} (call : PoolCall a b old out answer) (e : answer ≡ Accepted) where

@@ -6,10 +6,10 @@ use mathlib.Core.Path.{◌≡◌, refl, sym}
 use Prim.Native.Nat.{ℕ, suc, zero, ◌+◌, ◌≤◌}
 use native.Mathlib.Nat.{le_dest}
 use native.Mathlib.Omega.{arith}
-use Rattle.sheet.specs.declared.Check.TheVariants.{Pass}
+use Rattle.refusals.specs.Rule.{number}
+use Rattle.refusals.specs.Check.{Pass, ◌then◌}
 use Rattle.sheet.specs.Limits.{fleet_limit}
 use Rattle.sheet.specs.Bytes.{rows_of}
-use Rattle.sheet.specs.Check.{◌then◌}
 use Rattle.sheet.specs.RunningSums.{vehicles_before}
 use Rattle.sheet.specs.Demands.{FirstUnmet}
 use Rattle.sheet.proofs.Checks.{Judges, judges-refuse, judges-then, judges-each, ltb-tests, met-passes, says, ◌⊳◌}
@@ -36,22 +36,19 @@ left-judged a b room p q =
 
 -- the numbers of these demands
 numbers : (a b : List ℕ) (room n p : ℕ) → FirstUnmet n p (left_demands a b room) → (n ≡ 32) ⊎ ((n ≡ 5) ⊎ ((n ≡ 26) ⊎ (n ≡ 22)))
+unfolding number
 numbers a b room n p u =
     ⊎_elim (λ e. inl e.0)
     (λ (_, v).
     ⊎_elim (⊎_elim (λ e. inr (inl e.0)) (λ (_, (i, l, before, e)). inr (inr (inl e.0))))
     (λ (_, e). inr (inr (inr e.0))) v) u
 
-no_zero : (a b : List ℕ) (room p : ℕ) → FirstUnmet 0 p (left_demands a b room) → ⊥
-no_zero a b room p u =
-    ⊎_elim (λ e. omega arith) (⊎_elim (λ e. omega arith) (⊎_elim (λ e. omega arith) (λ e. omega arith))) (numbers a b room 0 p u)
-
 pub refused-only : OnlyTheorem
 refused-only a b room p q =
     let judged = left-judged a b room p q in
     record {
-      says = says (pool_check a b room) judged (no_zero a b room);
-      numbers = λ n place h. numbers a b room n place (judged.refuses n place h);
+      says = says (pool_check a b room) judged;
+      numbers = λ r place h. numbers a b room (number r) place (judged.refuses r place h);
     }
 
 -- The other order.

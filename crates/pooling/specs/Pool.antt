@@ -1,11 +1,11 @@
 -- "Two version 4 sheets with equal seasons and parking bytes are pooled": the pooled sheet, and where pooling stops. Definitions only.
 use Rattle.std.specs.Prelude.{Bool, false, not, ◌||◌, List, [], ◌∷◌, ◌++◌, ℕ, suc, zero, ◌+◌, ◌*◌, ◌/◌, ◌%◌, ltb, eqb, length, drop}
 use Rattle.std.proofs.lemmas.List.Edits.{sets}
-use Rattle.sheet.specs.declared.Check.{Check}
+use Rattle.refusals.specs.declared.Rule.TheVariants as rule
+use Rattle.refusals.specs.Check.{Check, refuse, ◌then◌}
 use Rattle.sheet.specs.Integers.{u8_at}
 use Rattle.sheet.specs.Versions.{version_of}
 use Rattle.sheet.specs.Bytes.{seasons_of, rows_of, row_place}
-use Rattle.sheet.specs.Check.{refuse, ◌then◌}
 use Rattle.sheet.specs.Sheet.{mark_check, sheet_check}
 
 -- the version that is pooled
@@ -24,7 +24,7 @@ pool a b = sets a 6 (rows_together a b % 256 ∷ rows_together a b / 256 ∷ [])
 unfoldable pub region_check : List ℕ → Check
 region_check s =
     mark_check s then
-    refuse (not (eqb (version_of s) region_version)) 3 3 then
+    refuse (not (eqb (version_of s) region_version)) rule.Version 3 then
     sheet_check s
 
 -- the bytes of the parking and of n seasons: a grid of 1,152, and 8 for each season
@@ -44,9 +44,9 @@ differ a b = not (eqb (seasons_of a) (seasons_of b)) || some_differs a b (shared
 -- checks on the pooled sheet"; "a short buffer as 22, last"
 unfoldable pub pair_check : List ℕ → List ℕ → ℕ → Check
 pair_check a b room =
-    refuse (differ a b) 32 0 then
+    refuse (differ a b) rule.Differ 0 then
     sheet_check (pool a b) then
-    refuse (ltb room (length (pool a b))) 22 0
+    refuse (ltb room (length (pool a b))) rule.Room 0
 
 -- all of them, with this much room in the output buffer. Each is of its own bytes: "A place counts from the start of the sheet under check."
 unfoldable pub pool_check : List ℕ → List ℕ → ℕ → Check

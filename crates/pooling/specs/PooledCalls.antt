@@ -2,14 +2,11 @@
 -- has both sheets' row words and every subtotal is the sum of theirs". Definitions only.
 use Rattle.std.specs.Prelude.{List, ◌≡◌, ℕ, ◌+◌, ◌*◌, ◌≤◌, ◌<◌, length, take}
 use Rattle.numbers.specs.Lists.{at}
-use Rattle.sheet.specs.declared.Check.{Check}
-use Rattle.sheet.specs.declared.Check.TheVariants.{Pass}
+use Rattle.refusals.specs.Check.{Check, Pass}
 use Rattle.sheet.specs.Bytes.{rows_of}
 use Rattle.inventory.specs.ReportCall.{ReportCall}
-use Rattle.pooling.specs.declared.PoolAnswer.{PoolAnswer}
-use Rattle.pooling.specs.declared.PoolAnswer.TheVariants.{Accepted}
 use Rattle.pooling.specs.Pool.{rows_together}
-use Rattle.pooling.specs.PoolCall.{PoolCall}
+use Rattle.pooling.specs.PoolCall.{PoolAnswer, Accepted, PoolCall}
 
 -- the bytes that the pool call wrote into this buffer: the first sheet, and 24 for each row of the second
 abbrev pub pooled_bytes : List ℕ → List ℕ → List ℕ → List ℕ

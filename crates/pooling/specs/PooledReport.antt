@@ -4,11 +4,13 @@
 use Rattle.std.specs.Prelude.{List, ◌⊎◌, ◌≡◌, ℕ, suc, ◌+◌, ◌*◌, ◌≤◌, ◌<◌, length}
 use Rattle.numbers.specs.Lists.{at}
 use Rattle.exact.specs.Masses.{Mechanism, mass}
-use Rattle.sheet.specs.declared.Check.TheVariants.{Pass, Refused}
+use Rattle.refusals.specs.declared.Rule.{Rule}
+use Rattle.refusals.specs.declared.Rule.TheVariants as rule
+use Rattle.refusals.specs.Rule.{number}
+use Rattle.refusals.specs.Check.{Pass, Refused, number_of, place_of}
 use Rattle.sheet.specs.Limits.{many_rows_limit, fleet_limit}
 use Rattle.sheet.specs.Integers.{u8_at}
 use Rattle.sheet.specs.Bytes.{rows_of, cells_of, row_place, season_list, row_at}
-use Rattle.sheet.specs.Check.{number_of, place_of}
 use Rattle.sheet.specs.RunningSums.{vehicles_before}
 use Rattle.sheet.specs.Demands.{Demands, demand, ◌next◌, every, Says}
 use Rattle.report_words.specs.Report.{report}
@@ -53,17 +55,18 @@ OrderTheorem = (a b : List ℕ) (room : ℕ) → pool_check a b room ≡ Pass �
 -- the second where that happens, by its place in the pooled sheet
 abbrev pub late_demands : List ℕ → List ℕ → Demands
 late_demands a b =
-    demand 5 6 (rows_together a b ≤ many_rows_limit) next
-    every (rows_of b) (λ (i : ℕ). demand 26 (row_place a (rows_of a + i)) (vehicles_before a (rows_of a) + vehicles_before b (suc i) ≤ fleet_limit))
+    demand rule.Rows 6 (rows_together a b ≤ many_rows_limit) next
+    every (rows_of b) (λ (i : ℕ).
+    demand rule.Fleet (row_place a (rows_of a + i)) (vehicles_before a (rows_of a) + vehicles_before b (suc i) ≤ fleet_limit))
 
 -- and the two together: they do not agree, or there is no room
 abbrev pub left_demands : List ℕ → List ℕ → ℕ → Demands
-left_demands a b room = demand 32 0 (Agree a b) next late_demands a b next demand 22 0 (length a + 24 * rows_of b ≤ room)
+left_demands a b room = demand rule.Differ 0 (Agree a b) next late_demands a b next demand rule.Room 0 (length a + 24 * rows_of b ≤ room)
 
 -- so these and no others are the numbers with which it is refused
 pub record RefusedOnly (a b : List ℕ) (room : ℕ) : Type 0 where
   pub says : Says (left_demands a b room) (number_of (pool_check a b room)) (place_of (pool_check a b room))
-  pub numbers : (n p : ℕ) → pool_check a b room ≡ Refused n p → (n ≡ 32) ⊎ ((n ≡ 5) ⊎ ((n ≡ 26) ⊎ (n ≡ 22)))
+  pub numbers : (r : Rule) (p : ℕ) → pool_check a b room ≡ Refused r p → (number r ≡ 32) ⊎ ((number r ≡ 5) ⊎ ((number r ≡ 26) ⊎ (number r ≡ 22)))
 
 abbrev pub OnlyTheorem : Type 0
 OnlyTheorem = (a b : List ℕ) (room : ℕ) → region_check a ≡ Pass → region_check b ≡ Pass → RefusedOnly a b room

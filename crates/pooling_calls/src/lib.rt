@@ -2,18 +2,17 @@
 #![tactic(auto)]
 
 ghost use Rattle.std.specs.Prelude.{◌≡◌, ◌≤◌, ◌<◌, length};
-ghost use Rattle.sheet.specs.declared.Check.TheVariants.{Pass};
+ghost use Rattle.refusals.specs.Check.{Pass};
 ghost use Rattle.sheet.specs.Integers.{u8_at};
 ghost use Rattle.inventory.specs.ReportCall.{written};
 ghost use Rattle.pooling.specs.Pool.{pool};
-ghost use Rattle.pooling.specs.PoolCall.{check_of, PoolCall};
+ghost use Rattle.pooling.specs.PoolCall.{PoolCall};
 ghost use Rattle.pooling.specs.Late.{Regions};
 
 use crate::check::pool_answer;
 use crate::length::pool_length;
 use fields::{row_place, rows_of};
-use pooling::PoolAnswer;
-use sheet::Check;
+use pooling::PoolRefusal;
 
 mod check;
 pub mod length;
@@ -47,34 +46,16 @@ fn write_pool(a: &[u8], b: &[u8], out: &mut [u8])
     requires { Regions a.now b.now × (length (pool a.now b.now) ≤ length out.old) }
     ensures { out.new ≡ written Pass (pool a.now b.now) out.old }
 {
-    let n = pool_length(a, b);
-    let mut i: usize = 0;
-    while i < n {
+    for i in 0..pool_length(a, b) {
         out[i] = pool_byte(a, b, i);
-        i += 1;
-    }
-}
-
-// An answer's number and place, of whichever sheet.
-fn check_of(answer: PoolAnswer) -> Check
-    ensures { result ≡ check_of answer }
-{
-    match answer {
-        PoolAnswer::Accepted => Check::Pass,
-        PoolAnswer::First(number, place) => Check::Refused(number, place),
-        PoolAnswer::Second(number, place) => Check::Refused(number, place),
-        PoolAnswer::Pooled(number, place) => Check::Refused(number, place),
     }
 }
 
 // The pooled sheet's bytes, or a refusal that leaves the buffer as it is.
-pub fn pool(a: &[u8], b: &[u8], out: &mut [u8]) -> PoolAnswer
+pub fn pool(a: &[u8], b: &[u8], out: &mut [u8]) -> Result<(), PoolRefusal>
     ensures { PoolCall a.now b.now out.old out.new result }
 {
-    let answer = pool_answer(a, b, out.len());
-    if let Check::Refused(_, _) = check_of(answer) {
-        return answer;
-    }
+    pool_answer(a, b, out.len())?;
     write_pool(a, b, out);
-    answer
+    Ok(())
 }

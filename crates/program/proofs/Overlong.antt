@@ -1,26 +1,25 @@
 -- A sheet that is longer than the longest is refused, by its head or by its length, and so is any front of it that is longer than the longest,
 -- with the same number and place.
 -- Assumes nothing.
-use Rattle.std.proofs.Common.{◌≡◌, ℕ, ◌+◌, ◌*◌, ◌≤◌, ◌<◌, List, length, take, refl, ◌∙◌, arith, length-take-le}
+use Rattle.std.proofs.Common.{◌≡◌, ℕ, ◌+◌, ◌*◌, ◌≤◌, ◌<◌, List, length, take, refl, ◌∙◌, arith, length-take-le, Ok, Err}
 use Rattle.std.proofs.lemmas.List.{get_or-take}
 use Rattle.std.proofs.lemmas.Bool.{le-ltb, ne_eqb}
-use Rattle.sheet.specs.declared.Check.{Check}
-use Rattle.sheet.specs.declared.Check.TheVariants.{Pass, Refused}
+use Rattle.refusals.specs.declared.Rule.TheVariants as rule
+use Rattle.refusals.specs.declared.Refusal.{Refusal}
+use Rattle.refusals.specs.Check.{Check, Pass, Refused, refuse, ◌then◌}
 use Rattle.sheet.specs.Integers.{u8_at}
 use Rattle.sheet.specs.Limits.{longest}
 use Rattle.sheet.specs.Versions.{version_of, rows_most, seasons_start}
 use Rattle.sheet.specs.Bytes.{seasons_of, rows_of}
-use Rattle.sheet.specs.Check.{◌then◌, refuse}
 use Rattle.sheet.specs.Sheet.{letters_missing, mark_check, numbers_check, head_check, length_check, sheet_check}
 use Rattle.sheet.proofs.Versions.{rows-limit, start_between}
 use Rattle.sheet.proofs.Conditions.{head-judged}
 
 -- two sheets are refused with the same number and place,
 pub record BothRefused (s s' : List ℕ) : Type 0 where
-  pub number : ℕ
-  pub place : ℕ
-  pub first : sheet_check s ≡ Refused number place
-  pub second : sheet_check s' ≡ Refused number place
+  pub refusal : Refusal
+  pub first : sheet_check s ≡ Err refusal
+  pub second : sheet_check s' ≡ Err refusal
   -- and their marks and versions are the same
   pub mark : mark_check s' ≡ mark_check s
   pub version : version_of s' ≡ version_of s
@@ -59,18 +58,13 @@ module _ {s s' : List ℕ} (h : SameHead s s') where
     h.early 7 (omega arith),
   )
 
--- a check that does not pass refuses
-refuses : (c : Check) → ¬ (c ≡ Pass) → (n : ℕ) × (p : ℕ) × (c ≡ Refused n p)
-refuses Pass h = absurd (h refl)
-refuses (Refused n p) h = (n, p, refl)
-
 -- a length that is wrong
-wrong : (s : List ℕ) → ¬ (length s ≡ seasons_start s + 8 * seasons_of s + 24 * rows_of s) → length_check s ≡ Refused 7 0
+wrong : (s : List ℕ) → ¬ (length s ≡ seasons_start s + 8 * seasons_of s + 24 * rows_of s) → length_check s ≡ Refused rule.Length 0
 unfolding length_check refuse
 wrong s h = rw (ne_eqb (length s) (seasons_start s + 8 * seasons_of s + 24 * rows_of s) h) refl
 
 -- where the head of a longer sheet than the longest passes, its length is wrong
-refused_by_length : (s : List ℕ) → head_check s ≡ Pass → longest < length s → length_check s ≡ Refused 7 0
+refused_by_length : (s : List ℕ) → head_check s ≡ Pass → longest < length s → length_check s ≡ Refused rule.Length 0
 refused_by_length s h l =
     let (mark, (version, (seasons, (rows, zero)))) = (head-judged s).passes h in
     let most = rows-limit s in
@@ -78,11 +72,11 @@ refused_by_length s h l =
     wrong s (λ e. omega arith)
 
 -- a sheet whose head is refused, and one whose head passes and whose length is wrong
-by_head : (s : List ℕ) {n p : ℕ} → head_check s ≡ Refused n p → sheet_check s ≡ Refused n p
+by_head : (s : List ℕ) {refusal : Refusal} → head_check s ≡ Err refusal → sheet_check s ≡ Err refusal
 unfolding sheet_check ◌then◌
 by_head s h = rw h refl
 
-by_length : (s : List ℕ) {n p : ℕ} → head_check s ≡ Pass → length_check s ≡ Refused n p → sheet_check s ≡ Refused n p
+by_length : (s : List ℕ) {refusal : Refusal} → head_check s ≡ Pass → length_check s ≡ Err refusal → sheet_check s ≡ Err refusal
 unfolding sheet_check ◌then◌
 by_length s h l = rw (h, l) refl
 
@@ -90,17 +84,15 @@ both : (s s' : List ℕ) → SameHead s s' → longest < length s → longest < 
 both s s' same l l' = go (head_check s) refl
   where
     go : (c : Check) → head_check s ≡ c → BothRefused s s'
-    go Pass e = record {
-      number = 7;
-      place = 0;
+    go (Ok _) e = record {
+      refusal = record { rule = rule.Length; place = 0 };
       first = by_length s e (refused_by_length s e l);
       second = by_length s' (head same ∙ e) (refused_by_length s' (head same ∙ e) l');
       mark = mark same;
       version = version same;
     }
-    go (Refused n p) e = record {
-      number = n;
-      place = p;
+    go (Err refusal) e = record {
+      refusal = refusal;
       first = by_head s e;
       second = by_head s' (head same ∙ e);
       mark = mark same;

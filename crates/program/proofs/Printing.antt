@@ -1,15 +1,15 @@
 -- What a program prints is stated for all bytes of its source, though it reads only one more than the longest sheet has; and where its sheet
 -- could not be read, nothing is printed.
 -- Assumes nothing.
-use Rattle.std.proofs.Common.{◌≡◌, ℕ, ◌<◌, Bool, true, false, leb, List, [], Option, None, Some, IfSome, refl, ap, ◌∙◌, length, take, take_all}
+use Rattle.std.proofs.Common.{◌≡◌, ℕ, ◌<◌, Bool, true, false, leb, List, [], Option, None, Some, refl, ap, ◌∙◌, length, take, take_all}
 use Rattle.std.proofs.Common.{arith, inl, inr, subst}
 use Rattle.std.proofs.KnownBytes.{Appends-nil}
 use Rattle.std.proofs.lemmas.Bool.{leb-true, leb-false}
-use Rattle.sheet.specs.Check.{◌then◌}
+use Rattle.refusals.specs.Check.{◌then◌}
 use Rattle.sheet.specs.Limits.{longest}
 use Rattle.inventory.specs.ReportAnswers.{report_check}
 use Rattle.program.specs.Ends.{sheet_status}
-use Rattle.program.specs.Printed.{Wrote, SheetPrinted, Prints}
+use Rattle.program.specs.Printed.{Wrote, SheetPrinted, PrintsRead, Prints}
 use Rattle.program.proofs.Overlong.{BothRefused, overlong}
 
 -- a sheet that is too long has the exit status of its front
@@ -42,14 +42,13 @@ module _ {text_of : List ℕ → List ℕ} (f : OfFront text_of) where
           let all : take n bytes ≡ bytes = take_all n bytes (omega (arith, leb-false n (length bytes) h)) in
           (ap sheet_status all, ap text_of all)
 
-  pub prints : (source : Option (List ℕ)) (s : List ℕ) (old new : Option (List ℕ)) (status : ℕ) → IfSome source (λ bytes. s ≡ take 25257 bytes)
-      → SheetPrinted s (text_of s) old new status → Prints text_of source old new status
-  prints None s old new status known p = (s, tt, p)
-  prints (Some bytes) s old new status known p =
+  pub prints : (source old new : Option (List ℕ)) (status : ℕ) → PrintsRead text_of source old new status → Prints text_of source old new status
+  prints None old new status (s, known, p) = (s, tt, p)
+  prints (Some bytes) old new status (s, known, p) =
       let same = read-same bytes 25257 (omega arith) in
       (bytes, refl, printed-same bytes s _ _ old new status (ap sheet_status known ∙ same.0) (ap text_of known ∙ same.1) p)
 
 -- where nothing was read, of a writer that has the bytes that it had
-pub unread_prints : (text_of : List ℕ → List ℕ) (source known : Option (List ℕ)) → Prints text_of source known known 2
+pub unread_prints : (text_of : List ℕ → List ℕ) (source known : Option (List ℕ)) → PrintsRead text_of source known known 2
 unread_prints text_of None known = ([], tt, inr (refl, (0, Appends-nil known)))
-unread_prints text_of (Some bytes) known = (bytes, refl, inr (refl, (0, Appends-nil known)))
+unread_prints text_of (Some bytes) known = (take 25257 bytes, refl, inr (refl, (0, Appends-nil known)))

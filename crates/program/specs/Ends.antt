@@ -1,15 +1,14 @@
 -- How a program that answers one sheet ends. Definitions only.
-use Rattle.std.specs.Prelude.{List, ℕ, take}
-use Rattle.sheet.specs.declared.Check.{Check}
-use Rattle.sheet.specs.declared.Check.TheVariants.{Pass, Refused}
+use Rattle.std.specs.Prelude.{List, ℕ, take, Ok, Err}
+use Rattle.refusals.specs.Check.{Check, Pass, Refused}
 use Rattle.inventory.specs.ReportAnswers.{report_check}
 use Rattle.program.specs.Reads.{Taken, Unread}
 use Rattle.program.specs.Writes.{standard_output, Written, Unwritten}
 
 -- the exit status of an answer: 0 a report, 1 a refusal. A program has a buffer for 1,000 rows, 6,026 words, so that it is never too small
 unfoldable pub check_status : Check → ℕ
-check_status Pass = 0
-check_status (Refused number place) = 1
+check_status (Ok _) = 0
+check_status (Err refusal) = 1
 
 unfoldable pub sheet_status : List ℕ → ℕ
 sheet_status s = check_status (report_check s 6026)

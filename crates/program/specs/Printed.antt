@@ -20,6 +20,11 @@ Wrote old new text false = (k : ℕ) × Appends old new (take k text)
 abbrev pub SheetPrinted : List ℕ → List ℕ → Option (List ℕ) → Option (List ℕ) → ℕ → Type 0
 SheetPrinted s text old new status = ((status ≡ sheet_status s) × Wrote old new text true) ⊎ ((status ≡ 2) × Wrote old new text false)
 
+-- After a program that answers one sheet, of as much of its source as its buffer holds, one byte more than the longest sheet has.
+abbrev pub PrintsRead : (List ℕ → List ℕ) → Option (List ℕ) → Option (List ℕ) → Option (List ℕ) → ℕ → Type 0
+PrintsRead text_of source old new status =
+    (s : List ℕ) × IfSome source (λ bytes. s ≡ take 25257 bytes) × SheetPrinted s (text_of s) old new status
+
 -- After a program that answers one sheet, of all bytes of its source.
 abbrev pub Prints : (List ℕ → List ℕ) → Option (List ℕ) → Option (List ℕ) → Option (List ℕ) → ℕ → Type 0
 Prints text_of source old new status =

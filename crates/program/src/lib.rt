@@ -9,10 +9,11 @@ ghost use Rattle.program.specs.Ends.{check_status, sheet_status, Answered};
 ghost use Rattle.program.specs.Printed.{Wrote, SheetPrinted};
 ghost use Rattle.program.specs.Writes.{standard_output, standard_error, Writes};
 
+pub mod one_sheet;
 pub mod sources;
 
 use inventory::check::report_check;
-use sheet::Check;
+use refusals::Check;
 use std::io::Write;
 
 // The bytes of the longest sheet, of 12 seasons and 1,000 rows: 1,160 + 8 · 12 + 24 · 1,000.
@@ -44,6 +45,7 @@ fn write_all<W: Write>(out: &mut W, text: &[u8]) -> bool
     ensures { Wrote (W.contents out.old) (W.contents out.new) text.now result }
 {
     let mut done: usize = 0;
+    // No count: each write takes as much as it will, and std's `write_all` says too little of a part that was taken.
     while done < text.len() {
         match out.write(&text[done..]) {
             Ok(0) => return false,
@@ -71,12 +73,13 @@ pub fn write_error<E: Write>(err: &mut E, text: &[u8]) -> bool
 }
 
 // The exit status of an answer.
+#[tactic(auto, unfolding(crate::specs::Ends::check_status))]
 fn check_status(check: Check) -> u8
     ensures { result ≡ check_status check }
 {
     match check {
-        Check::Pass => 0,
-        Check::Refused(_, _) => 1,
+        Ok(()) => 0,
+        Err(_) => 1,
     }
 }
 

@@ -43,6 +43,7 @@ fn read<R: Read>(source: &mut R, i: usize, buffer: &mut [u8]) -> io::Result<usiz
     ensures known { IfOk result (λ n. IfSome (R.remaining source.old) (λ xs. Takes xs buffer.old buffer.new n)) }
 {
     let mut done: usize = 0;
+    // No count: each read gives as much as there is, and std's reads to the end want a buffer that grows.
     while done < buffer.len() {
         let n = source.read(&mut buffer[done..])?;
         if n == 0 {
@@ -202,7 +203,8 @@ pub fn two_named<R: Env, E: Write>(rt: &R, name: &str, err: &mut E) -> bool
     false
 }
 
-// The one sheet of a program: of the file that its argument names, or of standard input where it has none.
+// The one sheet of a program: of the file that its argument names, or of standard input where it has none. It and `TwoSheets` are apart:
+// one reads standard input too, the other needs no leave to, and a flag for it in one struct would be no plainer.
 #[derive(Drop)]
 pub struct OneSheet<'a, R>(Program<'a, R>);
 

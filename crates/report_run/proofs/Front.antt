@@ -1,7 +1,7 @@
 -- The text of a sheet that is too long is that of its front, a refusal.
 -- Assumes nothing.
 use Rattle.std.proofs.Common.{ℕ, List, refl}
-use Rattle.sheet.specs.Check.{◌then◌}
+use Rattle.refusals.specs.Check.{◌then◌}
 use Rattle.inventory.specs.ReportAnswers.{report_check}
 use Rattle.report_text.specs.Text.{text_of, report_text}
 use Rattle.program.proofs.Printing.{OfFront}

@@ -1,6 +1,6 @@
 -- The sums that are taken of a buffer: stores after the rows do not change them, and where the rows' words are the report's, so are the sums.
 -- Assumes nothing.
-use Rattle.std.proofs.Common.{◌≡◌, ℕ, zero, suc, ◌+◌, ◌*◌, ◌/◌, ◌%◌, ◌^◌, ◌<◌, ◌≤◌, Bool, List, length, get_or, take, sym, refl, ap, ◌∙◌}
+use Rattle.std.proofs.Common.{◌≡◌, ℕ, zero, suc, ◌+◌, ◌*◌, ◌/◌, ◌%◌, ◌^◌, ◌<◌, ◌≤◌, Bool, true, false, List, length, get_or, take, sym, refl, ap, ◌∙◌}
 use Rattle.std.proofs.Common.{mod-eq_of_lt, add-one, arith, length-append, length-drop}
 use lib.Seq.{sets}
 use Rattle.numbers.specs.Lists.{tab, at}
@@ -24,10 +24,16 @@ module _ (s words : List ℕ) (f : ℕ → Bool) where
   unfolding buffer_sum
   sum-none j = refl
 
-  pub sum_more : (i j sum : ℕ) {v : ℕ} → sum ≡ buffer_sum s words f i j % 2 ^ 64 → v ≡ counted (f (row_at s i).class) (at words (6 * i + j))
-      → (sum + v) % 2 ^ 64 ≡ buffer_sum s words f (i + 1) j % 2 ^ 64
-  unfolding buffer_sum
-  sum_more i j sum e h = rw add-one (omega arith)
+  module _ (i j sum : ℕ) (e : sum ≡ buffer_sum s words f i j % 2 ^ 64) where
+    -- a row that belongs to the category
+    pub sum_more : f (row_at s i).class ≡ true → (sum + at words (6 * i + j)) % 2 ^ 64 ≡ buffer_sum s words f (i + 1) j % 2 ^ 64
+    unfolding buffer_sum counted
+    sum_more h = rw (add-one, h) (omega arith)
+
+    -- and one that does not
+    pub sum_same : f (row_at s i).class ≡ false → sum ≡ buffer_sum s words f (i + 1) j % 2 ^ 64
+    unfolding buffer_sum counted
+    sum_same h = rw (add-one, h) (omega arith)
 
 -- a sum over the rows does not see what is stored after their words
 pub sum_kept : (s words vs : List ℕ) (p : ℕ) (f : ℕ → Bool) (n j : ℕ) → 6 * n ≤ p → j < 6

@@ -1,3 +1,4 @@
+pub mod Numbers
 pub mod Renewed
 pub mod RowYear
 pub mod Sums

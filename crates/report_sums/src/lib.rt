@@ -1,17 +1,16 @@
 // The words of a report after those of the rows: sums by category, and the grand total.
 #![tactic(auto)]
 
-ghost use Rattle.std.specs.Prelude.{◌≡◌, ◌+◌, ◌*◌, ◌%◌, ◌^◌, ◌<◌, ◌≤◌, length};
-ghost use Rattle.sheet.specs.declared.Check.TheVariants.{Pass};
+ghost use Rattle.std.specs.Prelude.{◌≡◌, ◌+◌, ◌*◌, ◌/◌, ◌%◌, ◌^◌, ◌<◌, ◌≤◌, length};
+ghost use Rattle.refusals.specs.Check.{Pass};
 ghost use Rattle.sheet.specs.Bytes.{rows_of, row_place, row_at};
 ghost use Rattle.sheet.specs.Sheet.{sheet_check};
-ghost use Rattle.report_words.specs.Categories.{counted};
 ghost use Rattle.report_words.specs.Categories.{category};
+ghost use Rattle.report_sums.specs.Numbers.{number};
 ghost use Rattle.report_sums.specs.Sums.{buffer_sum, summed, three_word, totalled, resummed};
 
 use fields::{row_place, rows_of, u8_at};
 use report_words::words::ROW_WORDS;
-use std::num::wrapping_add_u64;
 
 pub mod renewal;
 
@@ -23,39 +22,50 @@ fn class_of(s: &[u8], i: usize) -> u64
     u8_at(s, row_place(s, i))
 }
 
-// The class belongs to the category: 0 cars, 1 light-duty, 2 two-wheelers, and any other is for all rows.
-fn belongs(c: usize, class: u64) -> bool
-    ensures { result ≡ category c class }
+// Whose words a subtotal adds up.
+#[derive(Clone, Copy)]
+enum Category {
+    Cars,
+    LightDuty,
+    TwoWheelers,
+    AllRows,
+}
+
+// The category of word k after those of the rows: six words each, in this order.
+fn category_of(k: usize) -> Category
+    requires { k < 24 }
+    ensures { number result ≡ k / 6 }
 {
-    match c {
-        0 => (1 <= class) & (class <= 3),
-        1 => class == 4,
-        2 => (5 <= class) & (class <= 9),
-        _ => true,
+    match k / ROW_WORDS {
+        0 => Category::Cars,
+        1 => Category::LightDuty,
+        2 => Category::TwoWheelers,
+        _ => Category::AllRows,
     }
 }
 
-// A word where it belongs, else 0.
-fn counted(belongs: bool, word: u64) -> u64
-    ensures { result ≡ counted belongs word }
+// The class belongs to the category.
+fn belongs(c: Category, class: u64) -> bool
+    ensures { result ≡ category (number c) class }
 {
-    if belongs { word } else { 0 }
+    match c {
+        Category::Cars => (1 <= class) & (class <= 3),
+        Category::LightDuty => class == 4,
+        Category::TwoWheelers => (5 <= class) & (class <= 9),
+        Category::AllRows => true,
+    }
 }
 
 // Word j of the rows of a category, summed.
-fn sum_of(s: &[u8], words: &[u64], c: usize, j: usize) -> u64
+fn sum_of(s: &[u8], words: &[u64], c: Category, j: usize) -> u64
     requires { (sheet_check s.now ≡ Pass) × (6 * rows_of s.now ≤ length words.now) × (j < 6) }
-    ensures { result ≡ buffer_sum s.now words.now (category c) (rows_of s.now) j % 2 ^ 64 }
+    ensures { result ≡ buffer_sum s.now words.now (category (number c)) (rows_of s.now) j % 2 ^ 64 }
 {
-    let rows = rows_of(s);
     let mut sum: u64 = 0;
-    let mut i: usize = 0;
-    while i < rows {
-        sum = wrapping_add_u64(
-            sum,
-            counted(belongs(c, class_of(s, i)), words[ROW_WORDS * i + j]),
-        );
-        i += 1;
+    for i in 0..rows_of(s) {
+        if belongs(c, class_of(s, i)) {
+            sum = sum.wrapping_add(words[ROW_WORDS * i + j]);
+        }
     }
     sum
 }
@@ -66,10 +76,8 @@ fn subtotals(s: &[u8], words: &mut [u64])
     ensures { words.new ≡ summed s.now words.old }
 {
     let start = ROW_WORDS * rows_of(s);
-    let mut k: usize = 0;
-    while k < 24 {
-        words[start + k] = sum_of(s, words, k / ROW_WORDS, k % ROW_WORDS);
-        k += 1;
+    for k in 0..24 {
+        words[start + k] = sum_of(s, words, category_of(k), k % ROW_WORDS);
     }
 }
 
@@ -78,8 +86,9 @@ fn sum_of_three(words: &[u64], at: usize) -> u64
     requires { at + 5 ≤ length words.now }
     ensures { result ≡ three_word words.now at }
 {
-    let two = wrapping_add_u64(words[at], words[at + 2]);
-    wrapping_add_u64(two, words[at + 4])
+    words[at]
+        .wrapping_add(words[at + 2])
+        .wrapping_add(words[at + 4])
 }
 
 // The low and the high of the grand total, each the sum of three words for all rows.

@@ -1,8 +1,7 @@
 // One row of a report made anew, apart from the others, and the sums with it.
 ghost use Rattle.std.specs.Prelude.{◌≡◌, ◌+◌, ◌*◌, ◌<◌, ◌≤◌, length};
-ghost use Rattle.std.proofs.lemmas.List.Edits.{sets};
-ghost use Rattle.numbers.specs.Lists.{tab, at};
-ghost use Rattle.sheet.specs.declared.Check.TheVariants.{Pass};
+ghost use Rattle.numbers.specs.Lists.{tab};
+ghost use Rattle.refusals.specs.Check.{Pass};
 ghost use Rattle.sheet.specs.Bytes.{seasons_of, rows_of, cells_of, season_at, row_at};
 ghost use Rattle.sheet.specs.Sheet.{sheet_check};
 ghost use Rattle.breakthrough.specs.Curves.{KeptOf};
@@ -16,14 +15,11 @@ use crate::write_sums;
 use bounds::exp::{ExpTables, tables};
 use fields::{row_at, season_at, seasons_of, vehicles_of};
 use masses::figures::six_figures;
-use report_words::words::milligrams;
+use report_words::words::{ROW_WORDS, row_word};
 use report_words::year::add_days;
 use sheet_factors::factors_at::units_with;
 use sheet_factors::kept::row_kept;
 use sheet_factors::parkings::sheet_grid;
-
-// Units of 10^-12 g in a milligram, less one.
-const CUT_UP: u64 = 999999999;
 
 // What one vehicle of row i loses on a day of season j.
 fn day_of(
@@ -48,11 +44,9 @@ fn year_of(tables: &ExpTables, grid: &[u64; 627], s: &[u8], i: usize) -> [u64; 6
     let kept = row_kept(tables, s, i);
     let seasons = seasons_of(s);
     let mut year = [0u64; 6];
-    let mut j: usize = 0;
-    while j < seasons {
+    for j in 0..seasons {
         let figures = day_of(tables, grid, s, j, i, kept);
         add_days(&mut year, 0, season_at(s, j).days, figures);
-        j += 1;
     }
     year
 }
@@ -67,24 +61,10 @@ fn words_of(s: &[u8], i: usize) -> [u64; 6]
     let year = year_of(&tables, &grid, s, i);
     let vehicles = vehicles_of(s, i);
     let mut out = [0u64; 6];
-    let mut m: usize = 0;
-    while m < 6 {
-        out[m] = milligrams(year[m], vehicles, (m % 2) as u64 * CUT_UP);
-        m += 1;
+    for (m, word) in out.iter_mut().enumerate() {
+        *word = row_word(year[m], vehicles, m);
     }
     out
-}
-
-// Six words are stored from a place on.
-fn store(words: &mut [u64], place: usize, six: [u64; 6])
-    requires { place + 6 ≤ length words.old }
-    ensures { words.new ≡ sets words.old place (tab (at six) 6) }
-{
-    let mut m: usize = 0;
-    while m < 6 {
-        words[place + m] = six[m];
-        m += 1;
-    }
 }
 
 // Row i's words are made anew, and all sums with them, whatever the buffer holds.
@@ -92,6 +72,7 @@ pub fn renew_row(s: &[u8], words: &mut [u64], i: usize)
     requires { (sheet_check s.now ≡ Pass) × (i < rows_of s.now) × (6 * rows_of s.now + 26 ≤ length words.old) }
     ensures { words.new ≡ renewed s.now i words.old }
 {
-    store(words, 6 * i, words_of(s, i));
+    let place = ROW_WORDS * i;
+    words[place..place + ROW_WORDS].copy_from_slice(&words_of(s, i));
     write_sums(s, words);
 }

@@ -7,12 +7,10 @@ use borrow.Author.Tests.{le-ltb}
 use lib.ListN.{length, replicate}
 use Rattle.numbers.specs.Lists.{tab}
 use Rattle.exact.proofs.Open.{definitions}
-use Rattle.sheet.specs.declared.Check.{Check}
-use Rattle.sheet.specs.declared.Check.TheVariants.{Pass}
+use Rattle.refusals.specs.Check.{Check, Pass, refuse, ◌then◌, each}
 use Rattle.sheet.specs.Versions.{seasons_start, rows_most}
 use Rattle.sheet.specs.Bytes.{rows_of, counts_at, duration_counts, hour_counts, grid_counts, cells_of, season_from, season_at, season_list}
 use Rattle.sheet.specs.Bytes.{equipment_at, fitted_canister, fitted_tank, canister_of, tank_of, row_from, row_at}
-use Rattle.sheet.specs.Check.{refuse, ◌then◌, each}
 use Rattle.sheet.specs.Sheet.{outside, letters_missing, mark_check, numbers_check, head_check, length_check}
 use Rattle.sheet.specs.RunningSums.{vehicles_before}
 use Rattle.sheet.specs.Sheet.{parking_check, temperatures_wrong}

@@ -1,13 +1,15 @@
 -- The text of a sheet: what it is made from, how long it is at most, and where it stands.
 -- Assumes nothing.
+use Rattle.std.proofs.Common.{Err}
 use mathlib.Core.List.{List, ◌++◌}
 use mathlib.Core.Path.{◌≡◌, refl, sym, ◌∙◌, ap}
 use Prim.Native.Nat.{ℕ, ◌+◌, ◌*◌, ◌-◌, ◌^◌, ◌≤◌, ◌<◌}
 use native.Mathlib.Omega.{arith}
 use lib.ListN.{length, take, drop}
 use lib.Seq.{take_at}
-use Rattle.sheet.specs.declared.Check.{Check}
-use Rattle.sheet.specs.declared.Check.TheVariants.{Pass, Refused}
+use Rattle.refusals.specs.Rule.{number}
+use Rattle.refusals.specs.declared.Refusal.{Refusal}
+use Rattle.refusals.specs.Check.{Check, Pass}
 use Rattle.sheet.specs.Versions.{version_of}
 use Rattle.sheet.specs.Bytes.{rows_of}
 use Rattle.sheet.proofs.Versions.{rows-limit}
@@ -56,7 +58,8 @@ module _ {s words : List ℕ} (made : Reported s words) where
       )
 
 -- The line of a refusal.
-pub refusal_is : (s : List ℕ) {number place : ℕ} {check : Check} → check ≡ Refused number place → refusal_line number place ≡ text_of check s
+pub refusal_is : (s : List ℕ) {refusal : Refusal} {check : Check} → check ≡ Err refusal
+    → refusal_line (number refusal.rule) refusal.place ≡ text_of check s
 unfolding text_of
 refusal_is s e = rw e refl
 

@@ -1,6 +1,6 @@
 -- Need not be believed: what the lines of a report are made from.
 use Rattle.std.specs.Prelude.{List, ◌≡◌, ◌≤◌, ℕ, length, take}
-use Rattle.sheet.specs.declared.Check.TheVariants.{Pass}
+use Rattle.refusals.specs.Check.{Pass}
 use Rattle.sheet.specs.Sheet.{sheet_check}
 use Rattle.report_words.specs.Report.{report}
 use Rattle.report_words.specs.Categories.{report_length}

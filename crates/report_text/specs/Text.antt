@@ -1,7 +1,7 @@
 -- The text that is printed for a sheet, and what the text call leaves. Definitions only.
-use Rattle.std.specs.Prelude.{true, false, List, ◌++◌, ◌≡◌, ℕ, ◌+◌, ◌*◌, ◌≤◌, leb, length, drop}
-use Rattle.sheet.specs.declared.Check.{Check}
-use Rattle.sheet.specs.declared.Check.TheVariants.{Pass, Refused}
+use Rattle.std.specs.Prelude.{true, false, List, ◌++◌, ◌≡◌, ℕ, ◌+◌, ◌*◌, ◌≤◌, leb, length, drop, Ok, Err}
+use Rattle.refusals.specs.Rule.{number}
+use Rattle.refusals.specs.Check.{Check}
 use Rattle.sheet.specs.Versions.{version_of}
 use Rattle.sheet.specs.Bytes.{rows_of}
 use Rattle.report_words.specs.Report.{report}
@@ -11,8 +11,8 @@ use Rattle.text.specs.Lines.{report_lines, refusal_line}
 
 -- "prints `refused N at P`, or all words as below"
 unfoldable pub text_of : Check → List ℕ → List ℕ
-text_of Pass s = report_lines (version_of s) (rows_of s) (report s)
-text_of (Refused number place) s = refusal_line number place
+text_of (Ok _) s = report_lines (version_of s) (rows_of s) (report s)
+text_of (Err refusal) s = refusal_line (number refusal.rule) refusal.place
 
 -- the text of a sheet where so many words are lent for its report: with too few it is a refusal too, number 22
 unfoldable pub report_text : List ℕ → ℕ → List ℕ

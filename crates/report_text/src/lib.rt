@@ -2,14 +2,14 @@
 #![tactic(auto)]
 
 ghost use Rattle.std.specs.Prelude.{◌≡◌, ◌≤◌};
-ghost use Rattle.sheet.specs.declared.Check.TheVariants.{Pass};
+ghost use Rattle.refusals.specs.Check.{Pass};
 ghost use Rattle.text.specs.Put.{Put};
 ghost use Rattle.report_text.specs.Reported.{Reported};
 ghost use Rattle.report_text.specs.Text.{text_of, text_most, TextCall};
 
 use fields::{rows_of, version_of};
 use inventory::report;
-use sheet::Check;
+use refusals::Check;
 use text::lines::{put_refusal, put_report};
 
 // The lines of an accepted sheet, as far as the buffer reaches.
@@ -28,8 +28,8 @@ fn put_text(out: &mut [u8], s: &[u8], check: Check, words: &[u64]) -> usize
     ensures { Put out.old 0 (text_of check s.now) out.new result × (result ≤ text_most) }
 {
     match check {
-        Check::Refused(number, place) => put_refusal(out, number, place),
-        Check::Pass => put_accepted(out, s, words),
+        Err(refusal) => put_refusal(out, refusal.rule.number(), refusal.place),
+        Ok(()) => put_accepted(out, s, words),
     }
 }
 

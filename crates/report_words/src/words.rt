@@ -1,6 +1,6 @@
 // The words of a report's rows, in milligrams.
-ghost use Rattle.std.specs.Prelude.{◌≡◌, ◌+◌, ◌*◌, ◌/◌, ◌^◌, ◌≤◌, ◌<◌, length};
-ghost use Rattle.sheet.specs.declared.Check.TheVariants.{Pass};
+ghost use Rattle.std.specs.Prelude.{◌≡◌, ◌+◌, ◌*◌, ◌-◌, ◌/◌, ◌%◌, ◌^◌, ◌≤◌, ◌<◌, length};
+ghost use Rattle.refusals.specs.Check.{Pass};
 ghost use Rattle.sheet.specs.Limits.{vehicles_limit};
 ghost use Rattle.sheet.specs.Bytes.{rows_of};
 ghost use Rattle.sheet.specs.Sheet.{sheet_check};
@@ -24,6 +24,15 @@ pub fn milligrams(year: u64, vehicles: u64, added: u64) -> u64
     year / MILLIGRAM * vehicles + (year % MILLIGRAM * vehicles + added) / MILLIGRAM
 }
 
+// Word k of a row, from its figure of one vehicle: a low, at an even place, is cut down, a high cut up.
+pub fn row_word(figure: u64, vehicles: u64, k: usize) -> u64
+    requires { vehicles ≤ vehicles_limit }
+    ensures { result ≡ (figure * vehicles + k % 2 * (10 ^ 9 - 1)) / 10 ^ 9 }
+{
+    let added = if k % 2 == 0 { 0 } else { MILLIGRAM - 1 };
+    milligrams(figure, vehicles, added)
+}
+
 // The figures of one vehicle become those of a row's vehicles in milligrams, whatever figures they are: a low is cut down, a high cut up.
 pub fn row_words(s: &[u8], words: &mut [u64])
     requires { (sheet_check s.now ≡ Pass) × (6 * rows_of s.now ≤ length words.old) }
@@ -31,11 +40,8 @@ pub fn row_words(s: &[u8], words: &mut [u64])
         ≡ filled (in_milligrams s.now words.old) (6 * rows_of s.now) words.old }
 {
     let n = ROW_WORDS * rows_of(s);
-    let mut k: usize = 0;
-    while k < n {
-        let added = (k % 2) as u64 * (MILLIGRAM - 1);
-        words[k] = milligrams(words[k], vehicles_of(s, k / ROW_WORDS), added);
-        k += 1;
+    for k in 0..n {
+        words[k] = row_word(words[k], vehicles_of(s, k / ROW_WORDS), k);
     }
 }
 

@@ -2,7 +2,7 @@
 ghost use Rattle.std.specs.Prelude.{◌≡◌, ℕ, ◌+◌, ◌*◌, ◌≤◌, ◌<◌, length};
 ghost use Rattle.std.proofs.lemmas.List.Edits.{sets};
 ghost use Rattle.numbers.specs.Lists.{tab};
-ghost use Rattle.sheet.specs.declared.Check.TheVariants.{Pass};
+ghost use Rattle.refusals.specs.Check.{Pass};
 ghost use Rattle.sheet.specs.Bytes.{seasons_of, rows_of, season_at};
 ghost use Rattle.sheet.specs.Sheet.{sheet_check};
 ghost use Rattle.sheet_factors.specs.Lent.{SheetLent, RowsKept};
@@ -20,11 +20,7 @@ pub fn clear(words: &mut [u64], n: usize)
     requires { n ≤ length words.old }
     ensures { words.new ≡ filled (λ (k : ℕ). 0) n words.old }
 {
-    let mut k: usize = 0;
-    while k < n {
-        words[k] = 0;
-        k += 1;
-    }
+    words[..n].fill(0);
 }
 
 // Six figures of a day, for so many days, are added to the six words that start at a place.
@@ -32,10 +28,8 @@ pub fn add_days(words: &mut [u64], at: usize, days: u64, figures: [u64; 6])
     requires { (at + 6 ≤ length words.old) × SumsFit words.old at days figures }
     ensures { words.new ≡ sets words.old at (tab (days_added words.old at days figures) 6) }
 {
-    let mut m: usize = 0;
-    while m < 6 {
+    for m in 0..6 {
         words[at + m] += days * figures[m];
-        m += 1;
     }
 }
 
@@ -57,11 +51,9 @@ pub fn add_season(
     let at = at_season(tables, grid, season_at(s, j), true, &mut list);
     let season = at.season;
     let rows = rows_of(s);
-    let mut i: usize = 0;
-    while i < rows {
+    for i in 0..rows {
         let figures = row_figures(tables, grid, &list, at, row_at(s, i), kept[i]);
         add_days(words, 6 * i, season.days, figures);
-        i += 1;
     }
 }
 
@@ -78,10 +70,8 @@ fn add_seasons(
         ≡ filled (year_word s.now (seasons_of s.now)) (6 * rows_of s.now) words.old }
 {
     let seasons = seasons_of(s);
-    let mut j: usize = 0;
-    while j < seasons {
+    for j in 0..seasons {
         add_season(tables, grid, kept, s, j, words);
-        j += 1;
     }
 }
 

@@ -18,6 +18,7 @@ use breakthrough::curves::{Curves, fit};
 use breakthrough::losses::{through_list, through_raises};
 use exact::{Canister, Row, Season};
 use fields::classes::halves;
+use parking::cells::Moment;
 use parking::grid::SUM;
 
 // In a parking, over the lesser raise of a soak and of a trip, and over the greater.
@@ -64,6 +65,7 @@ fn parking_through(tables: &ExpTables, grid: &[u64; 627], list: &[u64; 1732], c:
 }
 
 // 2 b s of a canister at the temperatures of the day.
+#[tactic(auto, unfolding(crate::specs::Season::growth_in))]
 fn growth_of(day: Day, canister: Canister) -> [u64; 25]
     ensures { result ≡ growth_in day canister }
 {
@@ -108,8 +110,8 @@ fn canister_car(
     let c = fitted(tables, grid, list, at, row, kept);
     Escapes {
         parking: parking_through(tables, grid, list, c),
-        soak: through_raises(tables, grid, false, &at.day.raise45, c),
-        hotsoak: through_raises(tables, grid, false, &at.day.raise60, c),
+        soak: through_raises(tables, grid, Moment::Start, &at.day.raise45, c),
+        hotsoak: through_raises(tables, grid, Moment::Start, &at.day.raise60, c),
         trip: 0,
         hottrip: 0,
     }
@@ -130,10 +132,10 @@ fn canister_two_wheeler(
     let c = fitted(tables, grid, list, at, row, kept);
     Escapes {
         parking: parking_through(tables, grid, list, c),
-        soak: through_raises(tables, grid, false, &at.day.raise15, c),
-        hotsoak: through_raises(tables, grid, false, &at.day.raise35, c),
-        trip: through_raises(tables, grid, true, &at.day.raise10, c),
-        hottrip: through_raises(tables, grid, true, &at.day.raise25, c),
+        soak: through_raises(tables, grid, Moment::Start, &at.day.raise15, c),
+        hotsoak: through_raises(tables, grid, Moment::Start, &at.day.raise35, c),
+        trip: through_raises(tables, grid, Moment::End, &at.day.raise10, c),
+        hottrip: through_raises(tables, grid, Moment::End, &at.day.raise25, c),
     }
 }
 

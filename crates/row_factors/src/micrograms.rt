@@ -6,6 +6,7 @@ ghost use Rattle.factors.specs.Units.{low_micrograms, high_micrograms};
 const FACTOR_ERROR: u64 = 188;
 
 // Cut down.
+#[tactic(auto, unfolding(factors::specs::Units::low_micrograms))]
 pub fn low_micrograms(units: u64) -> u64
     requires { units < 2 ^ 44 }
     ensures { result ≡ low_micrograms units }
@@ -14,6 +15,7 @@ pub fn low_micrograms(units: u64) -> u64
 }
 
 // With what it can be off, cut up.
+#[tactic(auto, unfolding(factors::specs::Units::high_micrograms))]
 pub fn high_micrograms(units: u64) -> u64
     requires { units < 2 ^ 44 }
     ensures { result ≡ high_micrograms units }

@@ -12,6 +12,7 @@ use bounds::exp::ExpTables;
 use breakthrough::curves::{bases, growths};
 use exact::Season;
 use marks::{MarkValues, Marks, at_marks, by_distance};
+use parking::cells::Moment;
 use parking::means::{mean_by_cell, mean_by_mark};
 use parking::season_list::write_list;
 use parking::walk::{halved, rises, walk};
@@ -107,15 +108,15 @@ fn means_of(grid: &[u64; 627], rises: &[u64; 576], season: Season, values: MarkV
     Means {
         rise: mean_by_cell(grid, rises),
         permeation: permeation_mean(grid, &values.rate),
-        soak: mean_by_mark(grid, false, &values.soak),
-        run: mean_by_mark(grid, true, &values.run),
-        end10: mean_by_mark(grid, true, &values.raise10),
-        start15: mean_by_mark(grid, false, &values.raise15),
-        end25: mean_by_mark(grid, true, &values.raise25),
-        start35: mean_by_mark(grid, false, &values.raise35),
-        start45: mean_by_mark(grid, false, &values.raise45),
-        end50: mean_by_mark(grid, true, &values.raise50),
-        start60: mean_by_mark(grid, false, &values.raise60),
+        soak: mean_by_mark(grid, Moment::Start, &values.soak),
+        run: mean_by_mark(grid, Moment::End, &values.run),
+        end10: mean_by_mark(grid, Moment::End, &values.raise10),
+        start15: mean_by_mark(grid, Moment::Start, &values.raise15),
+        end25: mean_by_mark(grid, Moment::End, &values.raise25),
+        start35: mean_by_mark(grid, Moment::Start, &values.raise35),
+        start45: mean_by_mark(grid, Moment::Start, &values.raise45),
+        end50: mean_by_mark(grid, Moment::End, &values.raise50),
+        start60: mean_by_mark(grid, Moment::Start, &values.raise60),
     }
 }
 

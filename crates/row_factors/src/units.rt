@@ -12,6 +12,7 @@ use bounds::exp::ExpTables;
 use exact::Row;
 
 // The factors of a car: permeation in a parking, in a soak and in the minutes of a trip, and the escapes besides.
+#[tactic(auto, unfolding(crate::specs::Seven::car_seven))]
 fn car_units(e: Escapes, m: Means, minutes: u64) -> [u64; 7]
     requires { CarFits e m minutes }
     ensures { result ≡ car_seven e m minutes }
@@ -29,6 +30,7 @@ fn car_units(e: Escapes, m: Means, minutes: u64) -> [u64; 7]
 }
 
 // The factors of a two-wheeler: permeation counts in a parking alone.
+#[tactic(auto, unfolding(crate::specs::Seven::two_wheeler_seven))]
 fn two_wheeler_units(e: Escapes, m: Means) -> [u64; 7]
     requires { e.parking + m.permeation < 2 ^ 64 }
     ensures { result ≡ two_wheeler_seven e m }

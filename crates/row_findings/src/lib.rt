@@ -243,11 +243,9 @@ pub fn rows_finding(s: &[u8]) -> Finding
     let n = rows_of(s);
     let mut found = no_finding();
     let mut before: u64 = 0;
-    let mut i: usize = 0;
-    while i < n {
+    for i in 0..n {
         found = or_else(found, row_finding(s, i, before));
         before += vehicles_of(s, i);
-        i += 1;
     }
     found
 }

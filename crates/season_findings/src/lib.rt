@@ -87,11 +87,9 @@ pub fn seasons_finding(s: &[u8]) -> Finding
     let n = seasons_of(s);
     let mut found = no_finding();
     let mut before: u64 = 0;
-    let mut i: usize = 0;
-    while i < n {
+    for i in 0..n {
         found = or_else(found, season_finding(s, i, before));
         before += season_at(s, i).days;
-        i += 1;
     }
     found
 }

@@ -1,7 +1,6 @@
 -- The call for the report of each season: its last check as a demand, where each block stands, and what is promised of the buffer.
 use mathlib.Core.Bool.{Bool}
 use mathlib.Core.List.{List, [], ◌∷◌, ◌++◌}
-use mathlib.Core.Logic.{⊎_elim}
 use mathlib.Core.Path.{◌≡◌, refl, sym, ◌∙◌, ap, ap₂}
 use Prim.Native.Nat.{ℕ, suc, zero, ◌+◌, ◌*◌, ◌/◌, ◌%◌, ◌≤◌, ◌<◌}
 use native.Mathlib.Nat.{mul-le-mul_left}
@@ -13,12 +12,11 @@ use Rattle.numbers.proofs.Lists.{tab-length}
 use Rattle.blocks.specs.Blocks.{blocks}
 use Rattle.blocks.proofs.Blocks.{blocks-length, blocks_at, filled_blocks}
 use Rattle.exact.specs.Masses.{diurnal, soak, running}
-use Rattle.sheet.specs.declared.Check.{Check}
-use Rattle.sheet.specs.declared.Check.TheVariants.{Pass}
+use Rattle.refusals.specs.Check.{Check, Pass}
 use Rattle.sheet.specs.Bytes.{seasons_of, rows_of, cells_of, row_at}
 use Rattle.sheet.specs.Sheet.{sheet_check}
 use Rattle.sheet.proofs.Checks.{Judges, judges-refuse, judges-then, ltb-tests, then-pass, says}
-use Rattle.sheet.proofs.Conditions.{sheet-judged, no_zero}
+use Rattle.sheet.proofs.Conditions.{sheet-judged}
 use Rattle.sheet.proofs.Accepted.{Bytes, Accepted, accepted}
 use Rattle.masses.specs.Figures.{row_figures}
 use Rattle.masses.proofs.MassWidth.{mass-band, no-vehicles}
@@ -28,7 +26,7 @@ use Rattle.report_words.specs.Promise.{rows_sum, category_word}
 use Rattle.report_words.proofs.Promised.{sums-hold}
 use Rattle.report_sums.specs.Sums.{buffer_sum}
 use Rattle.inventory.specs.ReportCall.{written}
-use Rattle.inventory.proofs.CallConditions.{number-zero}
+use Rattle.refusals.proofs.Numbers.{zero-passes}
 use Rattle.inventory.proofs.Written.{written-first}
 use Rattle.season_report.specs.Seasons.{alone, season_word, sums_of, total_of, with_sums, season_report, report_seasons}
 use Rattle.season_report.specs.Seasons.{seasons_check, seasons_demands, SeasonRowPromise, SeasonPromise, SeasonsCall}
@@ -185,10 +183,10 @@ unfolding report_length report_seasons
 seasons-answer {s} {old} {words} {r} bytes e w = record {
   answer-is = e;
   words_are = w;
-  says = rw e (says (seasons_check s (length old)) (seasons-judged s (length old)) (λ p. ⊎_elim (no_zero s p) (λ m. omega (arith, m.1.0))));
+  says = rw e (says (seasons_check s (length old)) (seasons-judged s (length old)));
   promise = λ zero j there.
       let passed : seasons_check s (length old) ≡ Pass =
-      number-zero s (seasons_check s (length old)) (seasons-judged s (length old)) (omega arith) (rw e at zero) in
+      zero-passes (seasons_check s (length old)) (rw e at zero) in
       let all : words ≡ written Pass (report_seasons s) old = rw (e ∙ passed) at w in
       let long = blocks-length (season_report s) (6 * rows_of s + 26) (block-length s) (seasons_of s) in
       season-promise bytes (accepted s (seasons-passed s (length old) passed).0) j there (drop ((6 * rows_of s + 26) * j) words)

@@ -4,9 +4,9 @@ use Rattle.numbers.specs.Lists.{tab, at}
 use Rattle.blocks.specs.Blocks.{blocks}
 use Rattle.exact.specs.declared.Season.{Season}
 use Rattle.exact.specs.Masses.{diurnal, soak, running}
-use Rattle.sheet.specs.declared.Check.{Check}
+use Rattle.refusals.specs.declared.Rule.TheVariants as rule
+use Rattle.refusals.specs.Check.{Check, refuse, ◌then◌, number_of, place_of}
 use Rattle.sheet.specs.Bytes.{seasons_of, rows_of, cells_of, season_at, row_at}
-use Rattle.sheet.specs.Check.{refuse, ◌then◌, number_of, place_of}
 use Rattle.sheet.specs.Sheet.{sheet_check}
 use Rattle.sheet.specs.Demands.{Demands, demand, ◌next◌, Says, demands}
 use Rattle.masses.specs.Figures.{row_figures}
@@ -46,10 +46,10 @@ report_seasons s = blocks (season_report s) (seasons_of s)
 
 -- number 22 where the buffer is short, after every check of the sheet
 unfoldable pub seasons_check : List ℕ → ℕ → Check
-seasons_check s room = sheet_check s then refuse (ltb room (report_length s * seasons_of s)) 22 0
+seasons_check s room = sheet_check s then refuse (ltb room (report_length s * seasons_of s)) rule.Room 0
 
 abbrev pub seasons_demands : List ℕ → ℕ → Demands
-seasons_demands s room = demands s next demand 22 0 (report_length s * seasons_of s ≤ room)
+seasons_demands s room = demands s next demand rule.Room 0 (report_length s * seasons_of s ≤ room)
 
 -- What is promised of the words of season j: each row's exact mass of that season lies in its band, as wide as the days of that season allow,
 -- and all sums are exact.

@@ -2,7 +2,7 @@
 #![tactic(auto)]
 
 ghost use Rattle.std.specs.Prelude.{◌≡◌, ◌+◌, ◌*◌, ◌≤◌, ◌<◌, length};
-ghost use Rattle.sheet.specs.declared.Check.TheVariants.{Pass};
+ghost use Rattle.refusals.specs.Check.{Pass};
 ghost use Rattle.sheet.specs.Bytes.{seasons_of, rows_of};
 ghost use Rattle.sheet.specs.Sheet.{sheet_check};
 ghost use Rattle.sheet_factors.specs.Lent.{SheetLent, RowsKept};
@@ -13,10 +13,10 @@ ghost use Rattle.season_report.specs.Seasons.{season_report, report_seasons, sea
 use bounds::exp::{ExpTables, tables};
 use checks::check_sheet;
 use fields::{rows_of, seasons_of};
+use refusals::{Check, Rule, refuse};
 use report_sums::write_sums;
 use report_words::words::row_words;
 use report_words::year::{add_season, clear};
-use sheet::Check;
 use sheet_factors::kept::rows_kept;
 use sheet_factors::parkings::sheet_grid;
 
@@ -53,12 +53,10 @@ fn write_seasons(
 {
     let size = 6 * rows_of(s) + 26;
     let seasons = seasons_of(s);
-    let mut j: usize = 0;
-    while j < seasons {
+    for j in 0..seasons {
         let start = size * j;
         let end = start + size;
         write_season(tables, grid, kept, s, j, &mut words[start..end]);
-        j += 1;
     }
 }
 
@@ -75,27 +73,19 @@ fn write_all(s: &[u8], words: &mut [u64])
 }
 
 // Every check of the sheet, then the room.
+#[tactic(auto, using(refusals::proofs::Chain::chained, sheet::proofs::Places::head_there), unfolding(crate::specs::Seasons::seasons_check))]
 pub fn seasons_check(s: &[u8], room: usize) -> Check
     ensures { result ≡ seasons_check s.now room }
 {
-    let sheet = check_sheet(s);
-    if let Check::Refused(_, _) = sheet {
-        return sheet;
-    }
-    if room < (6 * rows_of(s) + 26) * seasons_of(s) {
-        return Check::Refused(22, 0);
-    }
-    Check::Pass
+    check_sheet(s)?;
+    refuse(room < (6 * rows_of(s) + 26) * seasons_of(s), Rule::Room, 0)
 }
 
 // The words of each season's report in milligrams, season by season, or a refusal that leaves the buffer as it is.
 pub fn report_seasons(s: &[u8], words: &mut [u64]) -> Check
     ensures { SeasonsCall s.now words.old words.new result }
 {
-    let check = seasons_check(s, words.len());
-    if let Check::Refused(_, _) = check {
-        return check;
-    }
+    seasons_check(s, words.len())?;
     write_all(s, words);
-    check
+    Ok(())
 }

@@ -11,7 +11,9 @@ use lib.Dec.{eqb}
 use lib.ListN.{length}
 use Rattle.numbers.specs.Lists.{at, sum}
 use Rattle.numbers.proofs.Lists.{sum-ext}
-use Rattle.sheet.specs.declared.Check.TheVariants.{Pass}
+use Rattle.refusals.specs.declared.Rule.TheVariants as rule
+use Rattle.refusals.proofs.Chain.{allowed}
+use Rattle.refusals.specs.Check.{Pass}
 use Rattle.sheet.specs.Versions.{has_many_rows}
 use Rattle.sheet.specs.Bytes.{rows_of, cells_of, season_list, row_at}
 use Rattle.sheet.specs.Counts.{counts_of, with_count}
@@ -21,7 +23,7 @@ use Rattle.sheet.proofs.Count.{before-rows, row-changed, row_kept}
 use Rattle.sheet.proofs.RowDemands.{with_vehicles}
 use Rattle.report_words.specs.Categories.{counted}
 use Rattle.inventory.specs.ReportAnswers.{report_check}
-use Rattle.inventory.proofs.CallConditions.{report-judged, allowed}
+use Rattle.inventory.proofs.CallConditions.{report-judged}
 use Rattle.ledger.specs.declared.Call.{Call}
 use Rattle.ledger.specs.declared.Call.TheVariants.{Arrival, Departure}
 use Rattle.ledger.specs.Machine.{row_of, moved, wrong, new_count}
@@ -52,7 +54,7 @@ change-passed s owners room who call h =
       shared = shared;
       some = met.1.0.0;
       owner = met.1.0.1;
-      right = refuse-pass (wrong (has_many_rows s) (counts_of s) call) 29 0 (then-pass _ _ later).0;
+      right = refuse-pass (wrong (has_many_rows s) (counts_of s) call) rule.Count 0 (then-pass _ _ later).0;
       within = met.1.1.1;
     }
 
@@ -121,7 +123,7 @@ module _ (x : Ledger) (owners : List ℕ) (who : ℕ) (call : Call)
   -- the ledger's own call passes
   pub ledger-passes : answer x call ≡ Pass
   unfolding answer
-  ledger-passes = answer-open s (length x.words) call opens ∙ sym (allowed 29 0 met.right)
+  ledger-passes = answer-open s (length x.words) call opens ∙ sym (allowed rule.Count 0 met.right)
 
   sheet-is : (after x call).sheet ≡ with_count s i (new_count (counts_of s) call)
   unfolding after sheet_after

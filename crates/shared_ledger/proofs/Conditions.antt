@@ -1,6 +1,7 @@
 -- Numbers 30 and 31 as demands in plain arithmetic, after those of the report and beside 29: a call is answered where all are met, and else the
 -- first that is not met is returned, with its place.
 -- Assumes nothing.
+use Rattle.std.proofs.Common.{Ok, Err}
 use mathlib.Core.Bool.{Bool, true, false, not, ◌||◌}
 use mathlib.Core.List.{List}
 use mathlib.Core.Logic.{◌⊎◌, ⊎_elim, inl, inr}
@@ -10,15 +11,13 @@ use native.Mathlib.Omega.{arith}
 use borrow.Author.Tests.{ltb-true, ltb-false, leb-true, leb-false}
 use lib.Dec.{leb, ltb, eqb}
 use Rattle.numbers.specs.Lists.{at}
-use Rattle.sheet.specs.declared.Check.{Check}
-use Rattle.sheet.specs.declared.Check.TheVariants.{Pass, Refused}
+use Rattle.refusals.specs.Check.{Check, Pass, Refused, number_of, place_of}
 use Rattle.sheet.specs.Bytes.{rows_of}
-use Rattle.sheet.specs.Check.{number_of, place_of}
 use Rattle.sheet.specs.Demands.{FirstUnmet, Says}
 use Rattle.sheet.specs.Sheet.{outside, sheet_check}
 use Rattle.sheet.proofs.Checks.{Tests, Shows, Judges, judges-refuse, judges-then, judges-each, ltb-tests, ||-tests}
 use Rattle.sheet.proofs.Checks.{tests-as, not-tests, eqb-shows, &&-shows, says, then-pass, true-is-not-false}
-use Rattle.sheet.proofs.Conditions.{no_zero}
+use Rattle.refusals.proofs.Numbers.{zero-passes}
 use Rattle.report_words.specs.Categories.{report_length}
 use Rattle.inventory.specs.ReportAnswers.{report_check}
 use Rattle.inventory.proofs.CallConditions.{report-judged, report-sheet, report-accepted}
@@ -95,45 +94,31 @@ totals-judged : (s owners : List ℕ) (room who : ℕ) → Judges (shared_totals
 unfolding shared_totals_check
 totals-judged s owners room who = judges-then (shared-judged s owners room) (judges-refuse (totals-tests who))
 
--- number 0 stands for a call that is answered alone
-never-zero : (s owners : List ℕ) (room p : ℕ) → FirstUnmet 0 p (shared_demands s owners room) → ⊥
-never-zero s owners room p u = ⊎_elim (λ r. ⊎_elim (no_zero s p) (λ m. omega (arith, m.1.0)) r) (λ m. omega (arith, m.1.3.0)) u
-
 pub shared_says : (s owners : List ℕ) (room : ℕ)
     → Says (shared_demands s owners room) (number_of (shared_check s owners room)) (place_of (shared_check s owners room))
-shared_says s owners room = says (shared_check s owners room) (shared-judged s owners room) (never-zero s owners room)
+shared_says s owners room = says (shared_check s owners room) (shared-judged s owners room)
 
 pub change-says : (s owners : List ℕ) (room who : ℕ) (call : Call)
     → Says (shared_change_demands s owners room who call) (number_of (shared_change_check s owners room who call))
     (place_of (shared_change_check s owners room who call))
 change-says s owners room who call =
     says (shared_change_check s owners room who call) (change-judged s owners room who call)
-    (λ p u. ⊎_elim (never-zero s owners room p)
-    (λ r. ⊎_elim (λ m. omega (arith, m.0))
-    (λ l. ⊎_elim (λ m. omega (arith, m.0)) (λ m. omega (arith, m.1.0)) l.1) r.1) u)
 
 pub row-says : (s owners : List ℕ) (room who i : ℕ)
     → Says (shared_row_demands s owners room who i) (number_of (shared_row_check s owners room who i))
     (place_of (shared_row_check s owners room who i))
 row-says s owners room who i =
     says (shared_row_check s owners room who i) (row-judged s owners room who i)
-    (λ p u. ⊎_elim (never-zero s owners room p) (λ r. ⊎_elim (λ m. omega (arith, m.0)) (λ m. omega (arith, m.1.0)) r.1) u)
 
 pub totals-says : (s owners : List ℕ) (room who : ℕ)
     → Says (shared_totals_demands s owners room who) (number_of (shared_totals_check s owners room who))
     (place_of (shared_totals_check s owners room who))
 totals-says s owners room who =
     says (shared_totals_check s owners room who) (totals-judged s owners room who)
-    (λ p u. ⊎_elim (never-zero s owners room p) (λ m. omega (arith, m.1.0)) u)
 
 -- so a number 0 passes
 pub shared-zero : (s owners : List ℕ) (room : ℕ) → number_of (shared_check s owners room) ≡ 0 → shared_check s owners room ≡ Pass
-unfolding number_of
-shared-zero s owners room = go (shared_check s owners room) (shared-judged s owners room)
-  where
-    go : (c : Check) → Judges c (shared_demands s owners room) → number_of c ≡ 0 → c ≡ Pass
-    go Pass j h = refl
-    go (Refused number place) j h = absurd (never-zero s owners room place (rw h at (j.refuses number place refl)))
+shared-zero s owners room = zero-passes (shared_check s owners room)
 
 -- What an opening that passes says.
 module _ (s owners : List ℕ) (room : ℕ) (h : shared_check s owners room ≡ Pass) where

@@ -6,7 +6,7 @@ use mathlib.Core.Path.{◌≡◌, refl, sym, ap, ap₂, ◌∙◌}
 use Prim.Native.Nat.{ℕ}
 use lib.Dec.{eqb}
 use lib.ListN.{length}
-use Rattle.sheet.specs.declared.Check.TheVariants.{Pass}
+use Rattle.refusals.specs.Check.{Pass}
 use Rattle.ledger.specs.Ledger.{Ledger, opened}
 use Rattle.shared_ledger.specs.Opening.{shared_check}
 use Rattle.shared_ledger.specs.Told.{Ask, change, read_row, read_totals, asker_of, Reply, reply, after_ask, told, run_asks}

@@ -11,7 +11,7 @@ use native.Mathlib.Omega.{arith}
 use borrow.Author.Tests.{lt-ltb, le-ltb, eqb-true}
 use lib.Dec.{eqb}
 use Rattle.numbers.specs.Lists.{at, sum}
-use Rattle.sheet.specs.declared.Check.TheVariants.{Pass}
+use Rattle.refusals.specs.Check.{Pass}
 use Rattle.sheet.specs.Bytes.{rows_of, row_at}
 use Rattle.sheet.specs.RunningSums.{vehicles_before}
 use Rattle.report_words.specs.Categories.{counted}

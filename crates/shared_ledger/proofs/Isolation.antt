@@ -1,5 +1,6 @@
 -- What a participant is told by the calls on bytes and words depends on the seasons and parking, their own rows and their own calls alone.
 -- Assumes nothing.
+use Rattle.std.proofs.Common.{Ok, Err}
 use mathlib.Core.Bool.{Bool, true, false, not, ◌&&◌}
 use mathlib.Core.List.{List, [], ◌∷◌}
 use mathlib.Core.Path.{◌≡◌, refl, sym, ap, ◌∙◌}
@@ -11,11 +12,10 @@ use lib.Dec.{ltb, eqb}
 use lib.ListN.{length}
 use Rattle.numbers.specs.Lists.{at, sum}
 use Rattle.numbers.proofs.Lists.{sum-ext}
-use Rattle.sheet.specs.declared.Check.{Check}
-use Rattle.sheet.specs.declared.Check.TheVariants.{Pass, Refused}
+use Rattle.refusals.specs.declared.Rule.TheVariants as rule
+use Rattle.refusals.specs.Check.{Check, Pass, Refused, refuse, ◌then◌}
 use Rattle.sheet.specs.Bytes.{rows_of, row_at}
 use Rattle.sheet.proofs.RowDemands.{with_vehicles}
-use Rattle.sheet.specs.Check.{refuse, ◌then◌}
 use Rattle.report_words.specs.Report.{words_of}
 use Rattle.report_words.specs.Categories.{counted}
 use Rattle.ledger.specs.declared.Call.{Call}
@@ -106,28 +106,28 @@ module _ {s owners w : List ℕ} (x : Ledger) (good : SharedInv s owners w x) (w
   t = x.sheet
 
   change-barred : (call : Call) → eqb (owner_of x.sheet owners (row_of call)) who ≡ false
-      → shared_change_check x.sheet owners (length x.words) who call ≡ Refused 30 0
+      → shared_change_check x.sheet owners (length x.words) who call ≡ Refused rule.Right 0
   unfolding shared_change_check may_change refuse ◌then◌
   change-barred call h = pass_on s owners w x good _ ∙ go (ltb 0 who) (eqb (owner_of t owners (row_of call)) who) _ h
     where
-      go : (a b : Bool) (d : Check) → b ≡ false → (refuse (not (a && b)) 30 0 then d) ≡ Refused 30 0
+      go : (a b : Bool) (d : Check) → b ≡ false → (refuse (not (a && b)) rule.Right 0 then d) ≡ Refused rule.Right 0
       go true b d e = rw e refl
       go false b d e = refl
 
   change-own : (call : Call) → eqb (owner_of x.sheet owners (row_of call)) who ≡ true
       → shared_change_check x.sheet owners (length x.words) who call ≡
-      (refuse (past_row (row_at x.sheet (row_of call)).vehicles call) 29 0 then
-      refuse (past_share (vehicles_held x.sheet owners who (rows_of x.sheet)) call) 31 0)
+      (refuse (past_row (row_at x.sheet (row_of call)).vehicles call) rule.Count 0 then
+      refuse (past_share (vehicles_held x.sheet owners who (rows_of x.sheet)) call) rule.Share 0)
   unfolding shared_change_check may_change refuse ◌then◌
   change-own call h =
       let there = owned-there t owners who (row_of call) some h in
       pass_on s owners w x good _ ∙ rw (h, lt-ltb 0 who some, wrong-is t owners (length x.words) good.shared call there) refl
 
   row-barred : (i : ℕ) → eqb (owner_of x.sheet owners i) who ≡ false
-      → shared_row_answer x.sheet owners x.words who i ≡ row_told (Refused 30 0) 0 []
+      → shared_row_answer x.sheet owners x.words who i ≡ row_told (Refused rule.Right 0) 0 []
   unfolding shared_row_answer shared_row_check may_read refuse ◌then◌ row_told
   row-barred i h =
-      let refuses : shared_row_check t owners (length x.words) who i ≡ Refused 30 0 =
+      let refuses : shared_row_check t owners (length x.words) who i ≡ Refused rule.Right 0 =
       pass_on s owners w x good _ ∙ rw (h, ne_eqb who 0 (λ e. omega arith)) refl in
       rw refuses refl
 
@@ -137,10 +137,10 @@ module _ {s owners w : List ℕ} (x : Ledger) (good : SharedInv s owners w x) (w
   unfolding may_read
   row-own i h = row-shown s owners w x good who i (owned-there t owners who i some h) (rw (h, ne_eqb who 0 (λ e. omega arith)) refl)
 
-  totals-barred : shared_totals_answer x.sheet owners x.words who ≡ totals_told (Refused 30 0) []
+  totals-barred : shared_totals_answer x.sheet owners x.words who ≡ totals_told (Refused rule.Right 0) []
   unfolding shared_totals_answer shared_totals_check may_total refuse totals_told
   totals-barred =
-      let refuses : shared_totals_check t owners (length x.words) who ≡ Refused 30 0 =
+      let refuses : shared_totals_check t owners (length x.words) who ≡ Refused rule.Right 0 =
       pass_on s owners w x good _ ∙ rw (ne_eqb who 0 (λ e. omega arith)) refl in
       rw refuses refl
 
@@ -203,8 +203,8 @@ module _ {s owners w s' others w' : List ℕ} (who : ℕ) (some : 0 < who) (x y 
       go : (c : Check) → shared_change_check x.sheet owners (length x.words) who call ≡ c → (d : Check)
           → shared_change_check y.sheet others (length y.words) who call ≡ d
           → SameTo who (leaves c x call).sheet owners (leaves d y call).sheet others
-      go Pass h d g = let passes : d ≡ Pass = sym g ∙ sym (change-same call) ∙ h in rw passes (both h (g ∙ passes))
-      go (Refused n p) h d g = let refuses : d ≡ Refused n p = sym g ∙ sym (change-same call) ∙ h in rw refuses same
+      go (Ok _) h d g = let passes : d ≡ Pass = sym g ∙ sym (change-same call) ∙ h in rw passes (both h (g ∙ passes))
+      go (Err refusal) h d g = let refuses : d ≡ Err refusal = sym g ∙ sym (change-same call) ∙ h in rw refuses same
   own_same (read_row o i) e = same
   own_same (read_totals o) e = same
 
@@ -215,10 +215,10 @@ module _ {s owners w s' others w' : List ℕ} (who : ℕ) (some : 0 < who) (x y 
     where
       go : (c : Check) → shared_change_check x.sheet owners (length x.words) o call ≡ c
           → SameTo who (leaves c x call).sheet owners y.sheet others
-      go Pass h =
+      go (Ok _) h =
           let owner = (change-passed x.sheet owners (length x.words) o call h).owner in
           moved_apart who some same (one-moved x owners o call h) (λ mine. n (sym owner ∙ mine))
-      go (Refused number place) h = same
+      go (Err refusal) h = same
   other-same (read_row o i) n = same
   other-same (read_totals o) n = same
 

@@ -1,5 +1,6 @@
 -- After any list of calls a shared ledger is request Seven's ledger after the changes that passed, and what is read is the ledger's.
 -- Assumes nothing.
+use Rattle.std.proofs.Common.{Ok, Err}
 use mathlib.Core.Bool.{true, false}
 use mathlib.Core.List.{List, [], ◌∷◌}
 use mathlib.Core.Path.{◌≡◌, refl, sym, ap, ◌∙◌}
@@ -11,11 +12,9 @@ use lib.ListN.{length}
 use lib.Seq.{ext_get_or}
 use Rattle.numbers.specs.Lists.{at}
 use Rattle.numbers.proofs.Lists.{tab-length, get_d-tab, tab-ext}
-use Rattle.sheet.specs.declared.Check.{Check}
-use Rattle.sheet.specs.declared.Check.TheVariants.{Pass, Refused}
+use Rattle.refusals.specs.Check.{Check, Pass, Refused, refuse, ◌then◌}
 use Rattle.sheet.specs.Bytes.{rows_of, row_at}
 use Rattle.sheet.specs.Counts.{counts_of}
-use Rattle.sheet.specs.Check.{refuse, ◌then◌}
 use Rattle.sheet.proofs.BeforeRows.{rows}
 use Rattle.masses.specs.Figures.{row_figures}
 use Rattle.report_words.specs.Report.{words_of, report}
@@ -63,8 +62,8 @@ unfolding after_ask leaves
 ask-kept s owners w x good (change who call) = go (shared_change_check x.sheet owners (length x.words) who call) refl
   where
     go : (c : Check) → shared_change_check x.sheet owners (length x.words) who call ≡ c → SharedInv s owners w (leaves c x call)
-    go Pass h = change-kept s owners w x good who call h
-    go (Refused number place) h = good
+    go (Ok _) h = change-kept s owners w x good who call h
+    go (Err refusal) h = good
 ask-kept s owners w x good (read_row who i) = good
 ask-kept s owners w x good (read_totals who) = good
 
@@ -81,8 +80,8 @@ run-passed owners (change who call ∷ asks) x = go (shared_change_check x.sheet
   where
     go : (c : Check) → ((y : Ledger) → run_asks owners asks y ≡ run (passed owners asks y) y)
         → run_asks owners asks (leaves c x call) ≡ run (if_passed c call (passed owners asks (leaves c x call))) x
-    go Pass rest = rest (after x call)
-    go (Refused number place) rest = rest x
+    go (Ok _) rest = rest (after x call)
+    go (Err refusal) rest = rest x
 run-passed owners (read_row who i ∷ asks) x = run-passed owners asks x
 run-passed owners (read_totals who ∷ asks) x = run-passed owners asks x
 

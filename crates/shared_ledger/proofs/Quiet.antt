@@ -11,7 +11,7 @@ use lib.ListN.{length}
 use Rattle.numbers.specs.Lists.{at}
 use Rattle.exact.specs.Factors.{total}
 use Rattle.sheet.specs.Limits.{vehicles_limit, fleet_limit}
-use Rattle.sheet.specs.declared.Check.TheVariants.{Pass}
+use Rattle.refusals.specs.Check.{Pass}
 use Rattle.sheet.specs.Versions.{has_many_rows}
 use Rattle.sheet.specs.Bytes.{rows_of, row_at}
 use Rattle.sheet.specs.Counts.{counts_of}

@@ -1,12 +1,13 @@
 -- The lists of calls that the theorems speak of are the calls as their contracts have them: what a call answers is the reply, and the bytes and
 -- words that it leaves are the ledger after it.
 -- Assumes nothing.
+use Rattle.std.proofs.Common.{Ok, Err}
 use mathlib.Core.List.{List}
 use mathlib.Core.Path.{◌≡◌, refl, sym, ap, ◌∙◌}
 use Prim.Native.Nat.{ℕ}
 use lib.ListN.{length}
-use Rattle.sheet.specs.declared.Check.{Check}
-use Rattle.sheet.specs.declared.Check.TheVariants.{Pass, Refused}
+use Rattle.refusals.specs.declared.Refusal.{Refusal}
+use Rattle.refusals.specs.Check.{Check, Pass, Refused}
 use Rattle.report_words.specs.Report.{report}
 use Rattle.inventory.specs.ReportCall.{written}
 use Rattle.ledger.specs.declared.Call.{Call}
@@ -42,16 +43,16 @@ module _ {s owners w s' w' : List ℕ} {who : ℕ} {call : Call} {r : Check} (a 
   change-leaves = go (shared_change_check s owners (length w) who call) refl
     where
       go : (c : Check) → shared_change_check s owners (length w) who call ≡ c → ledger_of s' w' ≡ leaves c (ledger_of s w) call
-      go Pass h =
+      go (Ok _) h =
           let passes : answer (ledger_of s w) call ≡ Pass = ledger-passes (ledger_of s w) owners who call h in
           let e : r ≡ Pass = a.answer-is ∙ h in
           let sheet : s' ≡ sheet_after Pass s call = rw e at a.sheet-is in
           let words : w' ≡ words_after Pass s' call w = rw e at a.words_are in
           rw (passes, words, sheet) refl
-      go (Refused number place) h =
-          let e : r ≡ Refused number place = a.answer-is ∙ h in
-          let sheet : s' ≡ sheet_after (Refused number place) s call = rw e at a.sheet-is in
-          let words : w' ≡ words_after (Refused number place) s' call w = rw e at a.words_are in
+      go (Err refusal) h =
+          let e : r ≡ Err refusal = a.answer-is ∙ h in
+          let sheet : s' ≡ sheet_after (Err refusal) s call = rw e at a.sheet-is in
+          let words : w' ≡ words_after (Err refusal) s' call w = rw e at a.words_are in
           rw (words, sheet) refl
 
 -- a read

@@ -1,12 +1,11 @@
 -- "Who may touch which row": what each call on a shared ledger answers and what it leaves in the buffers. Definitions only.
-use Rattle.std.specs.Prelude.{Bool, true, false, not, ◌&&◌, ◌||◌, List, ◌⊎◌, ◌≡◌, ℕ, ◌+◌, ◌*◌, ◌≤◌, ◌<◌, leb, ltb, eqb, length}
+use Rattle.std.specs.Prelude.{Bool, true, false, not, ◌&&◌, ◌||◌, List, ◌⊎◌, ◌≡◌, ℕ, ◌+◌, ◌*◌, ◌≤◌, ◌<◌, leb, ltb, eqb, length, Ok, Err}
 use Rattle.numbers.specs.Lists.{tab, at}
-use Rattle.sheet.specs.declared.Check.{Check}
-use Rattle.sheet.specs.declared.Check.TheVariants.{Pass, Refused}
+use Rattle.refusals.specs.declared.Rule.TheVariants as rule
+use Rattle.refusals.specs.Check.{Check, Pass, Refused, refuse, ◌then◌, number_of, place_of}
 use Rattle.sheet.specs.Versions.{has_many_rows}
 use Rattle.sheet.specs.Bytes.{rows_of, row_at}
 use Rattle.sheet.specs.Counts.{counts_of}
-use Rattle.sheet.specs.Check.{refuse, ◌then◌, number_of, place_of}
 use Rattle.sheet.specs.Demands.{Demands, demand, ◌next◌, Says}
 use Rattle.ledger.specs.declared.Call.{Call}
 use Rattle.ledger.specs.declared.Call.TheVariants.{Arrival, Departure}
@@ -40,18 +39,18 @@ past_share held (Departure row k) = false
 unfoldable pub shared_change_check : List ℕ → List ℕ → ℕ → ℕ → Call → Check
 shared_change_check s owners room who call =
     shared_check s owners room then
-    refuse (not (may_change s owners who (row_of call))) 30 0 then
-    refuse (wrong (has_many_rows s) (counts_of s) call) 29 0 then
-    refuse (past_share (vehicles_held s owners who (rows_of s)) call) 31 0
+    refuse (not (may_change s owners who (row_of call))) rule.Right 0 then
+    refuse (wrong (has_many_rows s) (counts_of s) call) rule.Count 0 then
+    refuse (past_share (vehicles_held s owners who (rows_of s)) call) rule.Share 0
 
 unfoldable pub shared_row_check : List ℕ → List ℕ → ℕ → ℕ → ℕ → Check
 shared_row_check s owners room who i =
     shared_check s owners room then
-    refuse (not (may_read s owners who i)) 30 0 then
-    refuse (leb (rows_of s) i) 29 0
+    refuse (not (may_read s owners who i)) rule.Right 0 then
+    refuse (leb (rows_of s) i) rule.Count 0
 
 unfoldable pub shared_totals_check : List ℕ → List ℕ → ℕ → ℕ → Check
-shared_totals_check s owners room who = shared_check s owners room then refuse (not (may_total who)) 30 0
+shared_totals_check s owners room who = shared_check s owners room then refuse (not (may_total who)) rule.Right 0
 
 -- the same in plain arithmetic
 abbrev pub WithinShare : ℕ → Call → Type 0
@@ -61,18 +60,18 @@ WithinShare held (Departure row k) = Unit {0}
 abbrev pub shared_change_demands : List ℕ → List ℕ → ℕ → ℕ → Call → Demands
 shared_change_demands s owners room who call =
     shared_demands s owners room next
-    demand 30 0 ((0 < who) × (owner_of s owners (row_of call) ≡ who)) next
-    demand 29 0 ((row_of call < rows_of s) × Within s call) next
-    demand 31 0 (WithinShare (vehicles_held s owners who (rows_of s)) call)
+    demand rule.Right 0 ((0 < who) × (owner_of s owners (row_of call) ≡ who)) next
+    demand rule.Count 0 ((row_of call < rows_of s) × Within s call) next
+    demand rule.Share 0 (WithinShare (vehicles_held s owners who (rows_of s)) call)
 
 abbrev pub shared_row_demands : List ℕ → List ℕ → ℕ → ℕ → ℕ → Demands
 shared_row_demands s owners room who i =
     shared_demands s owners room next
-    demand 30 0 ((who ≡ 0) ⊎ (owner_of s owners i ≡ who)) next
-    demand 29 0 (i < rows_of s)
+    demand rule.Right 0 ((who ≡ 0) ⊎ (owner_of s owners i ≡ who)) next
+    demand rule.Count 0 (i < rows_of s)
 
 abbrev pub shared_totals_demands : List ℕ → List ℕ → ℕ → ℕ → Demands
-shared_totals_demands s owners room who = shared_demands s owners room next demand 30 0 (who ≡ 0)
+shared_totals_demands s owners room who = shared_demands s owners room next demand rule.Right 0 (who ≡ 0)
 
 -- What holds after a change: one that passes leaves what the ledger's own call leaves, a refused one changes nothing.
 pub record SharedChangeCall (s owners old : List ℕ) (who : ℕ) (call : Call) (after words : List ℕ) (r : Check) : Type 0 where
@@ -90,16 +89,16 @@ zeros n = tab (λ (m : ℕ). 0) n
 
 -- "A read tells a row's count and six words": a refused one tells nothing but its number and place
 unfoldable pub row_told : Check → ℕ → List ℕ → RowAnswer
-row_told Pass count words = record { check = Pass; count = count; words = words }
-row_told (Refused number place) count words = record { check = Refused number place; count = 0; words = zeros 6 }
+row_told (Ok _) count words = record { check = Pass; count = count; words = words }
+row_told (Err refusal) count words = record { check = Err refusal; count = 0; words = zeros 6 }
 
 unfoldable pub shared_row_answer : List ℕ → List ℕ → List ℕ → ℕ → ℕ → RowAnswer
 shared_row_answer s owners words who i = row_told (shared_row_check s owners (length words) who i) (row_at s i).vehicles (words_from words (6 * i) 6)
 
 -- "or the 26 words after the rows"
 unfoldable pub totals_told : Check → List ℕ → TotalsAnswer
-totals_told Pass words = record { check = Pass; words = words }
-totals_told (Refused number place) words = record { check = Refused number place; words = zeros 26 }
+totals_told (Ok _) words = record { check = Pass; words = words }
+totals_told (Err refusal) words = record { check = Err refusal; words = zeros 26 }
 
 unfoldable pub shared_totals_answer : List ℕ → List ℕ → List ℕ → ℕ → TotalsAnswer
 shared_totals_answer s owners words who = totals_told (shared_totals_check s owners (length words) who) (words_from words (6 * rows_of s) 26)

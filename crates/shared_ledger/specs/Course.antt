@@ -1,8 +1,7 @@
 -- A shared ledger in use: it is opened, and then anyone makes calls, one after another, each on the bytes and words that the one before it
 -- left. Every step is what the function's contract says of it. Definitions only.
 use Rattle.std.specs.Prelude.{true, false, List, [], ◌∷◌, ◌≡◌, ℕ, ◌<◌, eqb}
-use Rattle.sheet.specs.declared.Check.{Check}
-use Rattle.sheet.specs.declared.Check.TheVariants.{Pass}
+use Rattle.refusals.specs.Check.{Check, Pass}
 use Rattle.sheet.specs.Integers.{u8_at}
 use Rattle.ledger.specs.declared.Call.{Call}
 use Rattle.shared_ledger.specs.declared.RowAnswer.{RowAnswer}

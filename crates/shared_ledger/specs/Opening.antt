@@ -2,9 +2,9 @@
 -- The owners are lent beside the sheet, one byte a row. Definitions only.
 use Rattle.std.specs.Prelude.{Bool, ◌||◌, List, ◌≡◌, ℕ, ◌+◌, ◌≤◌, ltb, eqb, length}
 use Rattle.numbers.specs.Lists.{at, sum}
-use Rattle.sheet.specs.declared.Check.{Check}
+use Rattle.refusals.specs.declared.Rule.TheVariants as rule
+use Rattle.refusals.specs.Check.{Check, refuse, ◌then◌, each, number_of, place_of}
 use Rattle.sheet.specs.Bytes.{rows_of, row_place, row_at}
-use Rattle.sheet.specs.Check.{refuse, ◌then◌, each, number_of, place_of}
 use Rattle.sheet.specs.Demands.{Demands, demand, ◌next◌, every, Says}
 use Rattle.sheet.specs.Sheet.{outside}
 use Rattle.report_words.specs.Report.{report}
@@ -40,7 +40,7 @@ share_wrong s owners i =
 
 -- 31 | "an opening with an unowned row or past these limits (at the first such row's record)", "checked last": after every check of the report
 unfoldable pub share_check : List ℕ → List ℕ → ℕ → Check
-share_check s owners i = refuse (share_wrong s owners i) 31 (row_place s i)
+share_check s owners i = refuse (share_wrong s owners i) rule.Share (row_place s i)
 
 unfoldable pub shared_check : List ℕ → List ℕ → ℕ → Check
 shared_check s owners room = report_check s room then each (share_check s owners) (rows_of s)
@@ -53,7 +53,7 @@ pub record Share (s owners : List ℕ) (i : ℕ) : Type 0 where
   pub vehicles-most : vehicles_held s owners (at owners i) (i + 1) ≤ vehicles_each
 
 abbrev pub shared_demands : List ℕ → List ℕ → ℕ → Demands
-shared_demands s owners room = report_demands s room next every (rows_of s) (λ (i : ℕ). demand 31 (row_place s i) (Share s owners i))
+shared_demands s owners room = report_demands s room next every (rows_of s) (λ (i : ℕ). demand rule.Share (row_place s i) (Share s owners i))
 
 -- What holds after an opening, with the words that stood in the buffer before it and those that stand there now.
 pub record OpenCall (s owners old words : List ℕ) (r : Check) : Type 0 where

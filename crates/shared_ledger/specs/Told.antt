@@ -1,8 +1,7 @@
 -- What one of the callers is told in the course of a list of calls, and on what it depends: the theorem of the shared ledger. Definitions only.
-use Rattle.std.specs.Prelude.{true, false, List, [], ◌∷◌, ◌≡◌, ℕ, ◌+◌, ◌*◌, ◌≤◌, ◌<◌, eqb, length}
+use Rattle.std.specs.Prelude.{true, false, List, [], ◌∷◌, ◌≡◌, ℕ, ◌+◌, ◌*◌, ◌≤◌, ◌<◌, eqb, length, Ok, Err}
 use Rattle.numbers.specs.Lists.{at}
-use Rattle.sheet.specs.declared.Check.{Check}
-use Rattle.sheet.specs.declared.Check.TheVariants.{Pass, Refused}
+use Rattle.refusals.specs.Check.{Check, Pass, Refused}
 use Rattle.exact.specs.Factors.{total}
 use Rattle.sheet.specs.Limits.{vehicles_limit, fleet_limit}
 use Rattle.sheet.specs.Integers.{u8_at}
@@ -42,8 +41,8 @@ reply owners x (read_totals who) = of_totals (shared_totals_answer x.sheet owner
 
 -- and what it leaves: a change that passes is the ledger's own call, all else leaves both buffers as they are
 unfoldable pub leaves : Check → Ledger → Call → Ledger
-leaves Pass x call = after x call
-leaves (Refused number place) x call = x
+leaves (Ok _) x call = after x call
+leaves (Err refusal) x call = x
 
 unfoldable pub after_ask : List ℕ → Ledger → Ask → Ledger
 after_ask owners x (change who call) = leaves (shared_change_check x.sheet owners (length x.words) who call) x call
@@ -86,8 +85,8 @@ run_asks owners [] x = x
 run_asks owners (ask ∷ asks) x = run_asks owners asks (after_ask owners x ask)
 
 unfoldable pub if_passed : Check → Call → List Call → List Call
-if_passed Pass call calls = call ∷ calls
-if_passed (Refused number place) call calls = calls
+if_passed (Ok _) call calls = call ∷ calls
+if_passed (Err refusal) call calls = calls
 
 unfoldable pub passed : List ℕ → List Ask → Ledger → List Call
 passed owners [] x = []

@@ -1,7 +1,7 @@
 // What a read of a shared ledger answers: its definitions and its theorems stand here, the code in shared_ledger_calls.
 #![tactic(auto)]
 
-use sheet::Check;
+use refusals::Check;
 
 // A read of a row: the check, and where it passes the row's count and six words, else zeros.
 #[derive(Clone, Copy)]

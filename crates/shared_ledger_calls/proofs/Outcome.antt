@@ -1,5 +1,6 @@
 -- Each outcome of a call on a shared ledger, as its definition has it.
 -- Assumes nothing.
+use Rattle.std.proofs.Common.{Err}
 use mathlib.Core.Bool.{Bool, true, false, ◌&&◌, ◌||◌}
 use mathlib.Core.List.{List}
 use mathlib.Core.Path.{◌≡◌, refl, sym, ◌∙◌}
@@ -8,10 +9,11 @@ use native.Mathlib.Omega.{arith}
 use borrow.Author.Tests.{leb-false}
 use lib.Dec.{leb, ltb, eqb}
 use lib.ListN.{length}
-use Rattle.sheet.specs.declared.Check.{Check}
-use Rattle.sheet.specs.declared.Check.TheVariants.{Pass, Refused}
+use Rattle.refusals.specs.declared.Refusal.{Refusal}
+use Rattle.refusals.specs.declared.Rule.{Rule}
+use Rattle.refusals.specs.declared.Rule.TheVariants as rule
+use Rattle.refusals.specs.Check.{Check, Pass, Refused, refuse, ◌then◌}
 use Rattle.sheet.specs.Bytes.{rows_of, row_at}
-use Rattle.sheet.specs.Check.{refuse, ◌then◌}
 use Rattle.sheet.specs.Sheet.{sheet_check}
 use Rattle.sheet.proofs.Checks.{then-pass, refuse-pass}
 use Rattle.sheet.specs.Versions.{has_many_rows}
@@ -42,9 +44,9 @@ unfolding past_share
 arrival-share held {call} {row} {k} e h = rw e (room-left held k h)
 
 -- a number that applies first
-pub at_once : {b : Bool} (number place : ℕ) (d : Check) → b ≡ true → Refused number place ≡ (refuse b number place then d)
+pub at_once : {b : Bool} (r : Rule) (place : ℕ) (d : Check) → b ≡ true → Refused r place ≡ (refuse b r place then d)
 unfolding refuse ◌then◌
-at_once number place d h = rw h refl
+at_once r place d h = rw h refl
 
 pub may-change-is : (s owners : List ℕ) (who : ℕ) {owner i j : ℕ} → owner ≡ owner_of s owners i → i ≡ j
     → (ltb 0 who && eqb owner who) ≡ may_change s owners who j
@@ -57,9 +59,9 @@ may-read-is s owners who i e = rw e refl
 
 -- An opening.
 module _ (s owners w : List ℕ) where
-  pub open-refused : {r : Check} {n p : ℕ} → r ≡ shared_check s owners (length w) → r ≡ Refused n p → OpenCall s owners w w r
+  pub open-refused : {r : Check} {refusal : Refusal} → r ≡ shared_check s owners (length w) → r ≡ Err refusal → OpenCall s owners w w r
   unfolding written
-  open-refused {r} {n} {p} e h = record {
+  open-refused {r} {refusal} e h = record {
     answer-is = e;
     words_are = rw h refl;
     says = rw e (shared_says s owners (length w));
@@ -85,10 +87,10 @@ module _ (s owners w : List ℕ) where
 
 -- A change.
 module _ (s owners w : List ℕ) (who : ℕ) (call : Call) where
-  pub change-refused : {r : Check} {n p : ℕ} → r ≡ shared_change_check s owners (length w) who call → r ≡ Refused n p
+  pub change-refused : {r : Check} {refusal : Refusal} → r ≡ shared_change_check s owners (length w) who call → r ≡ Err refusal
       → SharedChangeCall s owners w who call s w r
   unfolding sheet_after words_after
-  change-refused {r} {n} {p} e h = record {
+  change-refused {r} {refusal} e h = record {
     answer-is = e;
     sheet-is = rw h refl;
     words_are = rw h refl;
@@ -118,10 +120,10 @@ module _ (s owners w : List ℕ) (who i : ℕ) where
       → r ≡ shared_row_answer s owners w who i → SharedRowCall s owners w who i r
   row-answer e same = record { answer-is = same; says = rw e (row-says s owners (length w) who i) }
 
-  pub row-refused : {r : Check} {n p : ℕ} → r ≡ shared_row_check s owners (length w) who i → r ≡ Refused n p
+  pub row-refused : {r : Check} {refusal : Refusal} → r ≡ shared_row_check s owners (length w) who i → r ≡ Err refusal
       → SharedRowCall s owners w who i (record { check = r; count = 0; words = zeros 6 })
   unfolding shared_row_answer row_told
-  row-refused {r} {n} {p} e h = let c : shared_row_check s owners (length w) who i ≡ Refused n p = sym e ∙ h in row-answer e (rw (c, h) refl)
+  row-refused {r} {refusal} e h = let c : shared_row_check s owners (length w) who i ≡ Err refusal = sym e ∙ h in row-answer e (rw (c, h) refl)
 
   pub row_done : {r : Check} {v : ℕ} {six : List ℕ} → r ≡ shared_row_check s owners (length w) who i → r ≡ Pass
       → v ≡ (row_at s i).vehicles → six ≡ words_from w (6 * i) 6
@@ -135,7 +137,7 @@ module _ (s owners w : List ℕ) (who i : ℕ) where
       let (shared, rest) = then-pass _ _ c in
       let (right, last) = then-pass _ _ rest in (
         shared-sheet s owners (length w) shared,
-        leb-false (rows_of s) i (refuse-pass (leb (rows_of s) i) 29 0 last),
+        leb-false (rows_of s) i (refuse-pass (leb (rows_of s) i) rule.Count 0 last),
         shared-room s owners (length w) shared,
       )
 
@@ -145,10 +147,10 @@ module _ (s owners w : List ℕ) (who : ℕ) where
       → r ≡ shared_totals_answer s owners w who → SharedTotalsCall s owners w who r
   totals-answer e same = record { answer-is = same; says = rw e (totals-says s owners (length w) who) }
 
-  pub totals-refused : {r : Check} {n p : ℕ} → r ≡ shared_totals_check s owners (length w) who → r ≡ Refused n p
+  pub totals-refused : {r : Check} {refusal : Refusal} → r ≡ shared_totals_check s owners (length w) who → r ≡ Err refusal
       → SharedTotalsCall s owners w who (record { check = r; words = zeros 26 })
   unfolding shared_totals_answer totals_told
-  totals-refused {r} {n} {p} e h = let c : shared_totals_check s owners (length w) who ≡ Refused n p = sym e ∙ h in totals-answer e (rw (c, h) refl)
+  totals-refused {r} {refusal} e h = let c : shared_totals_check s owners (length w) who ≡ Err refusal = sym e ∙ h in totals-answer e (rw (c, h) refl)
 
   pub totals-done : {r : Check} {last : List ℕ} {place : ℕ} → r ≡ shared_totals_check s owners (length w) who → r ≡ Pass
       → last ≡ words_from w place 26 → place ≡ 6 * rows_of s

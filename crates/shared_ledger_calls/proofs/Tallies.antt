@@ -13,9 +13,9 @@ use lib.ListN.{length, get_or, set, length-set}
 use lib.Seq.{ext_get_or, get_or-set_same, get_or-set_other}
 use Rattle.numbers.specs.Lists.{tab, at, sum}
 use Rattle.numbers.proofs.Lists.{tab-length, get_d-tab, sum-le}
-use Rattle.sheet.specs.declared.Check.TheVariants.{Pass, Refused}
+use Rattle.refusals.specs.declared.Rule.TheVariants as rule
+use Rattle.refusals.specs.Check.{Pass, Refused, refuse}
 use Rattle.sheet.specs.Bytes.{row_place, row_at}
-use Rattle.sheet.specs.Check.{refuse}
 use Rattle.sheet.specs.Sheet.{outside}
 use Rattle.sheet.proofs.Checks.{true-is-not-false}
 use Rattle.report_words.specs.Categories.{counted}
@@ -31,7 +31,7 @@ theirs-not owner who v n = rw (ne_eqb owner who n) refl
 
 -- a row's share, by what its test says
 pub share-refused : (s owners : List ℕ) (i : ℕ) {place : ℕ} → share_wrong s owners i ≡ true → place ≡ row_place s i
-    → share_check s owners i ≡ Refused 31 place
+    → share_check s owners i ≡ Refused rule.Share place
 unfolding share_check refuse
 share-refused s owners i h e = rw (h, e) refl
 

@@ -3,7 +3,7 @@
 #![tactic(auto)]
 
 ghost use Rattle.std.specs.Prelude.{◌≡◌, ◌+◌, ◌≤◌, length};
-ghost use Rattle.sheet.specs.declared.Check.TheVariants.{Pass};
+ghost use Rattle.refusals.specs.Check.{Pass};
 ghost use Rattle.sheet.specs.Sheet.{sheet_check};
 ghost use Rattle.ledger.specs.declared.Call.TheVariants.{Arrival, Departure};
 ghost use Rattle.shared_ledger.specs.Opening.{vehicles_each, OpenCall};
@@ -11,13 +11,12 @@ ghost use Rattle.shared_ledger.specs.Calls.{owner_of, past_share, shared_change_
 ghost use Rattle.shared_ledger.specs.Calls.{words_from, SharedChangeCall, SharedRowCall, SharedTotalsCall};
 
 use crate::opening::{VEHICLES_EACH, owner_at, shared_check, vehicles_held};
-use fields::refusal::{or_else, when};
 use fields::{rows_of, vehicles_of};
 use inventory::writing::write_report;
 use ledger::Call;
 use ledger_calls::steps::{apply, call_wrong, row_named};
+use refusals::{Check, Rule, refuse};
 use shared_ledger::{RowAnswer, TotalsAnswer};
-use sheet::Check;
 
 mod opening;
 
@@ -25,12 +24,9 @@ mod opening;
 pub fn open(s: &[u8], owners: &[u8], words: &mut [u64]) -> Check
     ensures { OpenCall s.now owners.now words.old words.new result }
 {
-    let check = shared_check(s, owners, words.len());
-    if let Check::Refused(_, _) = check {
-        return check;
-    }
+    shared_check(s, owners, words.len())?;
     write_report(s, words);
-    check
+    Ok(())
 }
 
 // Who owns a row, 0 where there is no such row.
@@ -56,34 +52,25 @@ fn past_share(held: u64, call: Call) -> bool
 }
 
 // A change: what opening would refuse, then 30, 29 and 31.
+#[tactic(auto, using(refusals::proofs::Chain::chained), unfolding(shared_ledger::specs::Calls::shared_change_check, shared_ledger::specs::Calls::may_change))]
 fn change_check(s: &[u8], owners: &[u8], room: usize, who: u64, call: Call) -> Check
     ensures { result ≡ shared_change_check s.now owners.now room who call }
 {
-    let check = shared_check(s, owners, room);
-    if let Check::Refused(_, _) = check {
-        return check;
-    }
+    shared_check(s, owners, room)?;
     let owner = owner_of(s, owners, row_named(call));
-    let barred = when(!((0 < who) & (owner == who)), 30, 0);
-    let wrong = when(call_wrong(s, call), 29, 0);
-    let past = when(
-        past_share(vehicles_held(s, owners, who, rows_of(s)), call),
-        31,
-        0,
-    );
-    or_else(barred, or_else(wrong, past))
+    refuse(!((0 < who) & (owner == who)), Rule::Right, 0)?;
+    refuse(call_wrong(s, call), Rule::Count, 0)?;
+    let held = vehicles_held(s, owners, who, rows_of(s));
+    refuse(past_share(held, call), Rule::Share, 0)
 }
 
 // Vehicles arrive at a row or depart from it, where its owner calls. A refused call changes neither buffer.
 pub fn change(s: &mut [u8], owners: &[u8], words: &mut [u64], who: u64, call: Call) -> Check
     ensures { SharedChangeCall s.old owners.now words.old who call s.new words.new result }
 {
-    let check = change_check(s, owners, words.len(), who, call);
-    if let Check::Refused(_, _) = check {
-        return check;
-    }
+    change_check(s, owners, words.len(), who, call)?;
     apply(s, words, call);
-    check
+    Ok(())
 }
 
 // Vehicles arrive at a row.
@@ -117,35 +104,23 @@ pub fn depart(
 }
 
 // A read of a row: what opening would refuse, then 30 and 29.
+#[tactic(auto, using(refusals::proofs::Chain::chained), unfolding(shared_ledger::specs::Calls::shared_row_check, shared_ledger::specs::Calls::may_read))]
 fn row_check(s: &[u8], owners: &[u8], room: usize, who: u64, row: u64) -> Check
     ensures { result ≡ shared_row_check s.now owners.now room who row }
 {
-    let check = shared_check(s, owners, room);
-    if let Check::Refused(_, _) = check {
-        return check;
-    }
+    shared_check(s, owners, room)?;
     let owner = owner_of(s, owners, row);
-    if !((who == 0) | (owner == who)) {
-        return Check::Refused(30, 0);
-    }
-    if rows_of(s) as u64 <= row {
-        return Check::Refused(29, 0);
-    }
-    Check::Pass
+    refuse(!((who == 0) | (owner == who)), Rule::Right, 0)?;
+    refuse(rows_of(s) as u64 <= row, Rule::Count, 0)
 }
 
 // A read of the totals: what opening would refuse, then 30.
+#[tactic(auto, using(refusals::proofs::Chain::chained), unfolding(shared_ledger::specs::Calls::shared_totals_check, shared_ledger::specs::Calls::may_total))]
 fn totals_check(s: &[u8], owners: &[u8], room: usize, who: u64) -> Check
     ensures { result ≡ shared_totals_check s.now owners.now room who }
 {
-    let check = shared_check(s, owners, room);
-    if let Check::Refused(_, _) = check {
-        return check;
-    }
-    if who != 0 {
-        return Check::Refused(30, 0);
-    }
-    Check::Pass
+    shared_check(s, owners, room)?;
+    refuse(who != 0, Rule::Right, 0)
 }
 
 // Words of a buffer from a place on.
@@ -153,12 +128,8 @@ fn copy_words(words: &[u64], place: usize, out: &mut [u64])
     requires { place + length out.old ≤ length words.now }
     ensures { out.new ≡ words_from words.now place (length out.old) }
 {
-    let n = out.len();
-    let mut m: usize = 0;
-    while m < n {
-        out[m] = words[place + m];
-        m += 1;
-    }
+    let end = place + out.len();
+    out.copy_from_slice(&words[place..end]);
 }
 
 // The count and the six words of a row.
@@ -167,7 +138,7 @@ pub fn read_row(s: &[u8], owners: &[u8], words: &[u64], who: u64, row: u64) -> R
 {
     let mut six = [0u64; 6];
     let check = row_check(s, owners, words.len(), who, row);
-    if let Check::Refused(_, _) = check {
+    if let Err(_) = check {
         return RowAnswer {
             check: check,
             count: 0,
@@ -190,7 +161,7 @@ pub fn read_totals(s: &[u8], owners: &[u8], words: &[u64], who: u64) -> TotalsAn
 {
     let mut last = [0u64; 26];
     let check = totals_check(s, owners, words.len(), who);
-    if let Check::Refused(_, _) = check {
+    if let Err(_) = check {
         return TotalsAnswer {
             check: check,
             words: last,

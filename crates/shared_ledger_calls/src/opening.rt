@@ -1,16 +1,15 @@
 // The checks of an opening of a shared ledger: those of the report, then row by row the owners and what each of them has.
 ghost use Rattle.std.specs.Prelude.{◌≡◌, ◌+◌, ◌^◌, ◌≤◌, ◌<◌, eqb, get_or, set};
 ghost use Rattle.numbers.specs.Lists.{at};
-ghost use Rattle.sheet.specs.declared.Check.TheVariants.{Pass};
+ghost use Rattle.refusals.specs.Check.{Pass, each};
 ghost use Rattle.sheet.specs.Bytes.{rows_of};
-ghost use Rattle.sheet.specs.Check.{each};
 ghost use Rattle.sheet.specs.Sheet.{sheet_check};
 ghost use Rattle.report_words.specs.Categories.{counted};
 ghost use Rattle.shared_ledger.specs.Opening.{vehicles_held, share_check, shared_check};
 
 use fields::{row_place, rows_of, u8_at, vehicles_of};
 use inventory::check::report_check;
-use sheet::Check;
+use refusals::{Check, Refusal, Rule};
 
 // The participants are 1 to this one.
 const PARTICIPANTS: u64 = 8;
@@ -46,10 +45,8 @@ pub fn vehicles_held(s: &[u8], owners: &[u8], who: u64, n: usize) -> u64
     ensures { result ≡ vehicles_held s.now owners.now who n }
 {
     let mut sum: u64 = 0;
-    let mut i: usize = 0;
-    while i < n {
+    for i in 0..n {
         sum += theirs(owner_at(owners, i), who, vehicles_of(s, i));
-        i += 1;
     }
     sum
 }
@@ -69,35 +66,37 @@ fn shares_check(s: &[u8], owners: &[u8]) -> Check
     requires { sheet_check s.now ≡ Pass }
     ensures { result ≡ each (share_check s.now owners.now) (rows_of s.now) }
 {
-    let n = rows_of(s);
     let mut rows = [0u64; 9];
     let mut vehicles = [0u64; 9];
-    let mut i: usize = 0;
-    while i < n {
+    for i in 0..rows_of(s) {
         let owner = owner_at(owners, i);
+        let place = row_place(s, i) as u64;
         if (owner < 1) | (PARTICIPANTS < owner) {
-            return Check::Refused(31, row_place(s, i) as u64);
+            return Err(Refusal {
+                rule: Rule::Share,
+                place,
+            });
         }
         let who = owner as usize;
         let more_rows = with_more(rows, who, 1);
         let more_vehicles = with_more(vehicles, who, vehicles_of(s, i));
         if (ROWS_EACH < more_rows[who]) | (VEHICLES_EACH < more_vehicles[who]) {
-            return Check::Refused(31, row_place(s, i) as u64);
+            return Err(Refusal {
+                rule: Rule::Share,
+                place,
+            });
         }
         rows = more_rows;
         vehicles = more_vehicles;
-        i += 1;
     }
-    Check::Pass
+    Ok(())
 }
 
 // Every check of an opening.
+#[tactic(auto, using(refusals::proofs::Chain::chained), unfolding(shared_ledger::specs::Opening::shared_check))]
 pub fn shared_check(s: &[u8], owners: &[u8], room: usize) -> Check
     ensures { result ≡ shared_check s.now owners.now room }
 {
-    let check = report_check(s, room);
-    if let Check::Refused(_, _) = check {
-        return check;
-    }
+    report_check(s, room)?;
     shares_check(s, owners)
 }

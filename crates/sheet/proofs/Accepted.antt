@@ -10,7 +10,7 @@ use Rattle.exact.specs.declared.Canister.TheVariants.{None}
 use Rattle.exact.specs.declared.Equipment.TheVariants.{Absent}
 use Rattle.exact.specs.Classes.{equipment}
 use Rattle.exact.specs.Factors.{total}
-use Rattle.sheet.specs.declared.Check.TheVariants.{Pass}
+use Rattle.refusals.specs.Check.{Pass}
 use Rattle.sheet.specs.Limits.{version_limit, seasons_limit, counts_limit, grid_limit, days_limit, vp_least, vp_limit}
 use Rattle.sheet.specs.Limits.{percent_limit, tank_limit, vehicles_limit, fleet_limit, trips_limit, minutes_limit}
 use Rattle.sheet.specs.Integers.{u8_at, u16_at}

@@ -21,7 +21,7 @@ use Rattle.sheet.specs.Versions.{seasons_start}
 use Rattle.sheet.specs.Bytes.{seasons_of, rows_of, cells_of, row_place, season_at, season_list, row_from, row_at}
 use Rattle.sheet.specs.Bytes.{equipment_at, fitted_canister, fitted_tank, written_canister, canister_of, tank_of}
 use Rattle.sheet.specs.ByClass.{code_of, Written}
-use Rattle.sheet.specs.Check.{each}
+use Rattle.refusals.specs.Check.{each}
 use Rattle.sheet.specs.Sheet.{length_check, code_wrong, saturation_above, mileage_wrong, row_check, sheet_check}
 use Rattle.sheet.specs.RunningSums.{vehicles_before}
 use Rattle.sheet.proofs.Equipment.{equipment-tank}

@@ -8,13 +8,11 @@ use Prim.Native.Nat.{ℕ, suc, zero, ◌+◌, ◌≤◌, ◌<◌}
 use native.Mathlib.Omega.{arith}
 use lib.ListN.{length}
 use Rattle.exact.specs.declared.Season.{Season}
-use Rattle.sheet.specs.declared.Check.{Check}
-use Rattle.sheet.specs.declared.Check.TheVariants.{Pass}
+use Rattle.refusals.specs.Check.{Check, Pass, ◌then◌, each}
 use Rattle.sheet.specs.Integers.{u8_at}
 use Rattle.sheet.specs.Versions.{version_of, has_grid, rows_most, seasons_start}
 use Rattle.sheet.specs.Bytes.{seasons_of, rows_of, duration_counts, hour_counts, grid_counts, cells_of, season_place}
 use Rattle.sheet.specs.Bytes.{row_place, season_at, seasons_from, season_list}
-use Rattle.sheet.specs.Check.{◌then◌, each}
 use Rattle.sheet.specs.Sheet.{letters_missing, mark_check, numbers_check, head_check, length_check, parking_check}
 use Rattle.sheet.specs.Sheet.{season_check, some_season, row_check, sheet_check}
 use Rattle.sheet.specs.RunningSums.{days_before}

@@ -4,7 +4,7 @@
 use mathlib.Core.Bool.{Bool, true, false, not, ◌&&◌, ◌||◌}
 use mathlib.Core.Logic.{◌⊎◌, inl, inr, ⊎_elim}
 use mathlib.Core.List.{List, [], ◌∷◌, ◌++◌}
-use mathlib.Core.Path.{◌≡◌, refl, sym, ◌∙◌}
+use mathlib.Core.Path.{◌≡◌, refl, sym, ap, ◌∙◌}
 use Prim.Native.Nat.{ℕ, suc, zero, ◌≤◌, ◌<◌}
 use native.Mathlib.Decide.{dec_le, ℕ_discrete}
 use native.Mathlib.Omega.{arith}
@@ -12,9 +12,11 @@ use borrow.Author.Tests.{ltb-true, ltb-false, leb-true, leb-false, eqb-true, eqb
 use lib.Dec.{leb, ltb, eqb}
 use Rattle.numbers.specs.Fraction.{Fraction, ◌≤ᶠ◌, ◌≤?◌}
 use Rattle.numbers.proofs.Order.{test-cases}
-use Rattle.sheet.specs.declared.Check.{Check}
-use Rattle.sheet.specs.declared.Check.TheVariants.{Pass, Refused}
-use Rattle.sheet.specs.Check.{refuse, ◌then◌, each, number_of, place_of}
+use Rattle.std.proofs.Common.{Ok, Err}
+use Rattle.refusals.specs.declared.Rule.{Rule}
+use Rattle.refusals.specs.Rule.{number}
+use Rattle.refusals.specs.Check.{Check, Pass, Refused, refuse, ◌then◌, each, number_of, place_of}
+use Rattle.refusals.proofs.Numbers.{number-above, refused-same}
 use Rattle.sheet.specs.Demands.{Demands, demand, ◌next◌, every, Met, FirstUnmet, Says}
 
 -- Passing and refusing, for the three ways to put checks together.
@@ -27,29 +29,29 @@ below_suc {P} {n} before last i l =
       | no k ↦ before i (omega arith)
     ]
 
--- a number that does not apply: its condition is false
-pub refuse-pass : (b : Bool) (number place : ℕ) → refuse b number place ≡ Pass → b ≡ false
+-- a rule that does not apply: its condition is false
+pub refuse-pass : (b : Bool) (r : Rule) (place : ℕ) → refuse b r place ≡ Pass → b ≡ false
 unfolding refuse
-refuse-pass true number place h = cc
-refuse-pass false number place h = refl
+refuse-pass true r place h = cc
+refuse-pass false r place h = refl
 
--- a number that applies is returned with its place, and its condition is true
-refuse-refused : (b : Bool) (number place : ℕ) {n p : ℕ} → refuse b number place ≡ Refused n p → (n ≡ number) × (p ≡ place) × (b ≡ true)
+-- a rule that applies is returned with its place, and its condition is true
+refuse-refused : (b : Bool) (rule : Rule) (place : ℕ) {r : Rule} {p : ℕ} → refuse b rule place ≡ Refused r p → (r ≡ rule) × (p ≡ place) × (b ≡ true)
 unfolding refuse
-refuse-refused true number place h = (cc, cc, refl)
-refuse-refused false number place h = (cc, cc, cc)
+refuse-refused true rule place {r} {p} h = let (m, q) = refused-same rule r place p h in (sym m, sym q, refl)
+refuse-refused false rule place h = (cc, cc, cc)
 
 -- both of two checks pass
 pub then-pass : (c d : Check) → c then d ≡ Pass → (c ≡ Pass) × (d ≡ Pass)
 unfolding ◌then◌
-then-pass Pass d h = (refl, h)
-then-pass (Refused number place) d h = (cc, cc)
+then-pass (Ok _) d h = (refl, h)
+then-pass (Err r) d h = (cc, cc)
 
 -- the first refuses, or it passes and the second refuses
-then-refused : (c d : Check) {n p : ℕ} → c then d ≡ Refused n p → (c ≡ Refused n p) ⊎ ((c ≡ Pass) × (d ≡ Refused n p))
+then-refused : (c d : Check) {r : Rule} {p : ℕ} → c then d ≡ Refused r p → (c ≡ Refused r p) ⊎ ((c ≡ Pass) × (d ≡ Refused r p))
 unfolding ◌then◌
-then-refused Pass d h = inr (refl, h)
-then-refused (Refused number place) d h = inl h
+then-refused (Ok _) d h = inr (refl, h)
+then-refused (Err r) d h = inl h
 
 -- every record passes
 pub each-pass : (f : ℕ → Check) (n : ℕ) → each f n ≡ Pass → (i : ℕ) → i < n → f i ≡ Pass
@@ -60,7 +62,7 @@ each-pass f (suc n) h i l =
     below_suc {P = λ (k : ℕ). f k ≡ Pass} (each-pass f n before) last i l
 
 -- some record refuses, and all before it pass
-each-refused : (f : ℕ → Check) (n : ℕ) {m p : ℕ} → each f n ≡ Refused m p → (i : ℕ) × (i < n) × (each f i ≡ Pass) × (f i ≡ Refused m p)
+each-refused : (f : ℕ → Check) (n : ℕ) {r : Rule} {p : ℕ} → each f n ≡ Refused r p → (i : ℕ) × (i < n) × (each f i ≡ Pass) × (f i ≡ Refused r p)
 unfolding each
 each-refused f zero h = absurd (let z : ◌≡◌ {A = ℕ} 0 1 = cc in omega arith)
 each-refused f (suc n) h =
@@ -79,20 +81,24 @@ pub record Tests (wrong : Bool) (A : Type 0) : Type 0 where
 -- the check passes where all demands are met, and else returns the first that is not
 pub record Judges (c : Check) (D : Demands) : Type 0 where
   pub passes : c ≡ Pass → Met D
-  pub refuses : (n p : ℕ) → c ≡ Refused n p → FirstUnmet n p D
+  pub refuses : (r : Rule) (p : ℕ) → c ≡ Refused r p → FirstUnmet (number r) p D
 
--- so its number and place say so, where no demand has number 0
-pub says : (c : Check) {D : Demands} → Judges c D → ((p : ℕ) → FirstUnmet 0 p D → ⊥) → Says D (number_of c) (place_of c)
+-- what a refusal says, with its number: no rule has number 0
+says_above : (n p : ℕ) (D : Demands) → 0 < n → FirstUnmet n p D → Says D n p
+says_above zero p D l u = absurd (omega arith)
+says_above (suc n) p D l u = u
+
+-- so its number and place say so
+pub says : (c : Check) {D : Demands} → Judges c D → Says D (number_of c) (place_of c)
 unfolding number_of place_of
-says Pass j none = j.passes refl
-says (Refused zero p) j none = absurd (none p (j.refuses zero p refl))
-says (Refused (suc n) p) j none = j.refuses (suc n) p refl
+says (Ok _) j = j.passes refl
+says (Err r) {D} j = says_above (number r.rule) r.place D (number-above r.rule) (j.refuses r.rule r.place refl)
 
 -- one test judges one demand
-pub judges-refuse : {wrong : Bool} {number place : ℕ} {A : Type 0} → Tests wrong A → Judges (refuse wrong number place) (demand number place A)
-judges-refuse {wrong} {number} {place} t = record {
-  passes = λ h. t.holds (refuse-pass wrong number place h);
-  refuses = λ n p h. let (m, q, b) = refuse-refused wrong number place h in (m, q, t.fails b);
+pub judges-refuse : {wrong : Bool} {r : Rule} {place : ℕ} {A : Type 0} → Tests wrong A → Judges (refuse wrong r place) (demand r place A)
+judges-refuse {wrong} {r} {place} t = record {
+  passes = λ h. t.holds (refuse-pass wrong r place h);
+  refuses = λ n p h. let (m, q, b) = refuse-refused wrong r place h in (ap number m, q, t.fails b);
 }
 
 -- two checks judge two demands, in this order
@@ -105,8 +111,8 @@ judges-then {c} {d} j k = record {
 
 -- one test, then the rest
 infixr 4 ◌⊳◌
-pub ◌⊳◌ : {wrong : Bool} {number place : ℕ} {A : Type 0} {d : Check} {E : Demands}
-    → Tests wrong A → Judges d E → Judges (refuse wrong number place then d) (demand number place A next E)
+pub ◌⊳◌ : {wrong : Bool} {r : Rule} {place : ℕ} {A : Type 0} {d : Check} {E : Demands}
+    → Tests wrong A → Judges d E → Judges (refuse wrong r place then d) (demand r place A next E)
 t ⊳ j = judges-then (judges-refuse t) j
 
 -- one check for each record judges one demand for each
@@ -120,15 +126,15 @@ judges-each {f} n j = record {
 
 -- a first demand that is not met is not met
 unmet-not-met : (n p : ℕ) (D : Demands) → FirstUnmet n p D → Met D → ⊥
-unmet-not-met n p (demand number place A) (m, q, fails) met = fails met
+unmet-not-met n p (demand r place A) (m, q, fails) met = fails met
 unmet-not-met n p (D next E) u met =
     ⊎_elim (λ a. unmet-not-met n p D a met.0) (λ (m, a). unmet-not-met n p E a met.1) u
 unmet-not-met n p (every k f) (i, l, before, a) met = unmet-not-met n p (f i) a (met i l)
 
 -- the check passes where all demands are met
 pub met-passes : (c : Check) {D : Demands} → Judges c D → Met D → c ≡ Pass
-met-passes Pass j met = refl
-met-passes (Refused n p) {D} j met = absurd (unmet-not-met n p D (j.refuses n p refl) met)
+met-passes (Ok _) j met = refl
+met-passes (Err r) {D} j met = absurd (unmet-not-met (number r.rule) r.place D (j.refuses r.rule r.place refl) met)
 
 -- True and false.
 
@@ -153,7 +159,7 @@ and_both false h = absurd (true-is-not-false (sym h))
 
 -- the numbers of demands, the same for every record
 abbrev pub numbers : Demands → List ℕ
-numbers (demand number place A) = number ∷ []
+numbers (demand r place A) = number r ∷ []
 numbers (D next E) = numbers D ++ numbers E
 numbers (every n f) = numbers (f 0)
 
@@ -169,7 +175,7 @@ apart (m ∷ ms) ns = not (among m ns) && apart ms ns
 
 -- no number stands for two demands
 abbrev pub Once : Demands → Type 0
-Once (demand number place A) = Unit
+Once (demand r place A) = Unit
 Once (D next E) = (apart (numbers D) (numbers E) ≡ true) × Once D × Once E
 Once (every n f) = (i : ℕ) → (numbers (f i) ≡ numbers (f 0)) × Once (f i)
 
@@ -179,7 +185,7 @@ choose false A B = B
 
 -- the demand of this number is not met at this place, and all before it are; at a numeral this computes to that demand
 abbrev pub Unmet : ℕ → ℕ → Demands → Type 0
-Unmet n p (demand number place A) = (n ≡ number) × (p ≡ place) × ¬ A
+Unmet n p (demand r place A) = (n ≡ number r) × (p ≡ place) × ¬ A
 Unmet n p (D next E) = choose (among n (numbers D)) (Unmet n p D) (Met D × Unmet n p E)
 Unmet n p (every k f) = (i : ℕ) × (i < k) × ((j : ℕ) → j < i → Met (f j)) × Unmet n p (f i)
 
@@ -205,7 +211,7 @@ apart-not n (m ∷ ms) ns a h =
 
 -- the first demand that is not met has one of the numbers
 pub number-among : (n p : ℕ) (D : Demands) → Once D → FirstUnmet n p D → among n (numbers D) ≡ true
-number-among n p (demand number place A) r u = rw (eq-eqb n number u.0) refl
+number-among n p (demand r place A) o u = rw (eq-eqb n (number r) u.0) refl
 number-among n p (D next E) r u =
     ⊎_elim (λ a. among-left n (numbers D) (numbers E) (number-among n p D r.1 a))
     (λ (m, a). among-right n (numbers D) (numbers E) (number-among n p E r.2 a)) u
@@ -213,7 +219,7 @@ number-among n p (every k f) r (i, l, before, a) = rw (← (r i).0) (number-amon
 
 -- the first demand that is not met is the one of its number
 pub unmet : (n p : ℕ) (D : Demands) → Once D → FirstUnmet n p D → Unmet n p D
-unmet n p (demand number place A) r u = u
+unmet n p (demand r place A) o u = u
 unmet n p (D next E) r u =
     ⊎_elim
     (λ a. rw (number-among n p D r.1 a) (unmet n p D r.1 a))
@@ -222,7 +228,7 @@ unmet n p (every k f) r (i, l, before, a) = (i, l, before, unmet n p (f i) (r i)
 
 -- the demand of this number is not met at this place
 abbrev pub Broken : ℕ → ℕ → Demands → Type 0
-Broken n p (demand number place A) = (p ≡ place) × ¬ A
+Broken n p (demand r place A) = (p ≡ place) × ¬ A
 Broken n p (D next E) = choose (among n (numbers D)) (Broken n p D) (Broken n p E)
 Broken n p (every k f) = (i : ℕ) × (i < k) × Broken n p (f i)
 
@@ -232,7 +238,7 @@ choose-cong false f g y = g y
 
 -- so it is, where also all before it are met
 pub broken : (n p : ℕ) (D : Demands) → Unmet n p D → Broken n p D
-broken n p (demand number place A) (m, q, fails) = (q, fails)
+broken n p (demand r place A) (m, q, fails) = (q, fails)
 broken n p (D next E) u = choose-cong (among n (numbers D)) (broken n p D) (λ (m, a). broken n p E a) u
 broken n p (every k f) (i, l, before, a) = (i, l, broken n p (f i) a)
 

@@ -16,13 +16,15 @@ use Rattle.exact.specs.declared.Season.{Season}
 use Rattle.exact.specs.declared.Row.{Row}
 use Rattle.exact.specs.Day.{signed_tenths}
 use Rattle.exact.specs.Canister.{size}
-use Rattle.sheet.specs.declared.Check.TheVariants.{Pass, Refused}
+use Rattle.refusals.specs.declared.Rule.{Rule}
+use Rattle.refusals.specs.declared.Rule.TheVariants as rule
+use Rattle.refusals.specs.Rule.{number}
+use Rattle.refusals.specs.Check.{Pass, Refused, number_of, place_of}
 use Rattle.sheet.specs.Bytes.{seasons_of, rows_of, season_at}
 use Rattle.sheet.specs.Sheet.{outside, letters_missing, mark_check, numbers_check, head_check, length_check, parking_check, temperatures_wrong}
 use Rattle.sheet.specs.Sheet.{season_check, is_absent, code_wrong, percent_wrong, load_wrong, exponent_above, saturation_above, some_season}
 use Rattle.sheet.specs.Sheet.{no_canister}
 use Rattle.sheet.specs.Sheet.{mileage_wrong, row_check, sheet_check}
-use Rattle.sheet.specs.Check.{number_of, place_of}
 use Rattle.sheet.specs.Demands.{Met, FirstUnmet, Says, mark_demands, numbers_demands, head_demands, length_demand, parking_demands, season_demands}
 use Rattle.sheet.specs.Demands.{exponent_at, MileageRight, row_demands, demands}
 use Rattle.sheet.specs.Conditions.{ConditionsTheorem}
@@ -165,6 +167,7 @@ sheet-judged s =
 
 -- no number stands for two demands
 once : (s : List ℕ) → Once (demands s)
+unfolding number
 once s = (
   refl,
   (refl, (refl, tt, tt), (refl, tt, (refl, tt, (refl, tt, tt)))),
@@ -204,44 +207,42 @@ met-accepted s met = met-passes (sheet_check s) (sheet-judged s) met
 
 -- a number is returned only where its demand is not met, and all before it are: at each of these numerals this computes to the
 -- line of that number in the tables above, with its place, and those before it
-pub refused : (s : List ℕ) (n p : ℕ) → sheet_check s ≡ Refused n p → Unmet n p (demands s)
-refused s n p h = unmet n p (demands s) (once s) ((sheet-judged s).refuses n p h)
-
--- no demand has number 0, which stands for an accepted sheet
-pub no_zero : (s : List ℕ) (p : ℕ) → FirstUnmet 0 p (demands s) → ⊥
-no_zero s p u = true-is-not-false (sym (number-among 0 p (demands s) (once s) u))
+pub refused : (s : List ℕ) (r : Rule) (p : ℕ) → sheet_check s ≡ Refused r p → Unmet (number r) p (demands s)
+refused s r p h = unmet (number r) p (demands s) (once s) ((sheet-judged s).refuses r p h)
 
 -- so the number and the place of the answer say what is met and what is not
 pub sheet-says : (s : List ℕ) → Says (demands s) (number_of (sheet_check s)) (place_of (sheet_check s))
-sheet-says s = says (sheet_check s) (sheet-judged s) (no_zero s)
+sheet-says s = says (sheet_check s) (sheet-judged s)
 
 -- "a number is returned only where its condition holds"
 pub conditions : ConditionsTheorem
+unfolding number
 conditions s p =
-    let only : (n : ℕ) → sheet_check s ≡ Refused n p → Broken n p (demands s) = λ n h. broken n p (demands s) (refused s n p h) in
+    let only : (r : Rule) → sheet_check s ≡ Refused r p → Broken (number r) p (demands s) =
+    λ r h. broken (number r) p (demands s) (refused s r p h) in
     record {
-      short = only 1;
-      mark = only 2;
-      version = only 3;
-      seasons = only 4;
-      rows = only 5;
-      byte-7 = only 6;
-      length-wrong = only 7;
-      durations = only 8;
-      hours = only 9;
-      grid = only 24;
-      days = only 10;
-      temperatures = only 11;
-      vapour-pressure = only 12;
-      class-technology = only 13;
-      canister-code = only 14;
-      percents = only 15;
-      vehicles = only 16;
-      fleet = only 26;
-      tank = only 17;
-      trips-minutes = only 18;
-      loads = only 19;
-      saturation = only 20;
-      bytes-20-to-23 = only 21;
-      mileage = only 25;
+      short = only rule.HeadShort;
+      mark = only rule.Mark;
+      version = only rule.Version;
+      seasons = only rule.Seasons;
+      rows = only rule.Rows;
+      byte-7 = only rule.HeadZero;
+      length-wrong = only rule.Length;
+      durations = only rule.Durations;
+      hours = only rule.Hours;
+      grid = only rule.Grid;
+      days = only rule.Days;
+      temperatures = only rule.Temperatures;
+      vapour-pressure = only rule.VapourPressure;
+      class-technology = only rule.Class;
+      canister-code = only rule.CanisterCode;
+      percents = only rule.Percent;
+      vehicles = only rule.Vehicles;
+      fleet = only rule.Fleet;
+      tank = only rule.Tank;
+      trips-minutes = only rule.Trips;
+      loads = only rule.Load;
+      saturation = only rule.Exponent;
+      bytes-20-to-23 = only rule.RowZeros;
+      mileage = only rule.Mileage;
     }

@@ -10,7 +10,7 @@ use native.Mathlib.Omega.{arith}
 use lib.ListN.{length, get_or}
 use lib.Seq.{length-sets}
 use Rattle.numbers.proofs.Stores.{sets-before, sets-in, sets-beyond}
-use Rattle.sheet.specs.declared.Check.TheVariants.{Pass}
+use Rattle.refusals.specs.Check.{Pass}
 use Rattle.sheet.specs.Limits.{vehicles_limit, fleet_limit}
 use Rattle.sheet.specs.Integers.{u8_at, u32_at}
 use Rattle.sheet.specs.Versions.{version_of}

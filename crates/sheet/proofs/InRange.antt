@@ -14,7 +14,7 @@ use Rattle.exact.specs.Day.{signed_tenths}
 use Rattle.exact.specs.Canister.{size}
 use Rattle.sheet.specs.Versions.{version_of}
 use Rattle.sheet.specs.Demands.{exponent_at, MileageRight}
-use Rattle.sheet.specs.declared.Check.TheVariants.{Pass}
+use Rattle.refusals.specs.Check.{Pass}
 use Rattle.sheet.specs.Bytes.{seasons_of, rows_of, season_at, row_at}
 use Rattle.sheet.specs.Sheet.{season_check}
 use Rattle.sheet.specs.Range.{warmth, SeasonInRange, halves, RowInRange}

@@ -8,7 +8,7 @@ use Prim.Native.Nat.{ℕ, suc, zero, ◌+◌, ◌*◌, ◌≤◌, ◌<◌}
 use native.Mathlib.Omega.{arith}
 use lib.ListN.{length}
 use Rattle.exact.specs.declared.Season.{Season}
-use Rattle.sheet.specs.declared.Check.TheVariants.{Pass}
+use Rattle.refusals.specs.Check.{Pass}
 use Rattle.sheet.specs.Integers.{u8_at, u16_at}
 use Rattle.sheet.specs.Versions.{has_grid, has_many_rows, seasons_start}
 use Rattle.sheet.specs.Bytes.{seasons_of, rows_of, grid_counts, cells_of, row_place, season_at, seasons_from, season_list, row_at}

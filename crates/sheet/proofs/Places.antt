@@ -6,7 +6,7 @@ use mathlib.Core.Path.{◌≡◌}
 use Prim.Native.Nat.{ℕ, ◌+◌, ◌≤◌, ◌<◌}
 use native.Mathlib.Omega.{arith}
 use lib.ListN.{length}
-use Rattle.sheet.specs.declared.Check.TheVariants.{Pass}
+use Rattle.refusals.specs.Check.{Pass}
 use Rattle.sheet.specs.Versions.{has_grid}
 use Rattle.sheet.specs.Bytes.{seasons_of, rows_of, season_place, row_place}
 use Rattle.sheet.specs.Sheet.{sheet_check}
@@ -33,3 +33,7 @@ module _ (s : List ℕ) (h : sheet_check s ≡ Pass) where
   -- row i
   pub row-there : {i : ℕ} → i < rows_of s → row_place s i + 24 ≤ length s
   row-there l = omega (arith, (accepted s h).length-is)
+
+-- the head of an accepted sheet is there
+pub head_there : (s : List ℕ) → sheet_check s ≡ Pass → 8 ≤ length s
+head_there s h = let there = parking-there s h in omega arith

@@ -9,7 +9,7 @@ use native.Mathlib.Nat.{mul-le-mul}
 use native.Mathlib.Omega.{arith}
 use Rattle.exact.specs.Factors.{total}
 use Rattle.exact.proofs.Products.{products_total}
-use Rattle.sheet.specs.declared.Check.TheVariants.{Pass}
+use Rattle.refusals.specs.Check.{Pass}
 use Rattle.sheet.specs.Limits.{counts_limit, grid_limit}
 use Rattle.sheet.specs.Versions.{version_of, has_grid, seasons_start}
 use Rattle.sheet.specs.Bytes.{seasons_of, duration_counts, hour_counts, grid_counts, cells_of, row_place, season_at, seasons_from, season_list}

@@ -9,6 +9,9 @@ use Rattle.exact.specs.declared.Row.{Row}
 use Rattle.exact.specs.Day.{signed_tenths}
 use Rattle.exact.specs.Canister.{a, b, size}
 use Rattle.exact.specs.Factors.{total}
+use Rattle.refusals.specs.declared.Rule.{Rule}
+use Rattle.refusals.specs.declared.Rule.TheVariants as rule
+use Rattle.refusals.specs.Rule.{number}
 use Rattle.sheet.specs.Limits.{version_limit, seasons_limit, counts_limit, grid_limit, days_limit, cold_limit, warm_limit}
 use Rattle.sheet.specs.Limits.{vp_least, vp_limit, percent_limit, tank_limit, vehicles_limit, fleet_limit, trips_limit, minutes_limit, mileage_limit}
 use Rattle.sheet.specs.Integers.{u8_at, u16_at}
@@ -17,22 +20,22 @@ use Rattle.sheet.specs.Bytes.{seasons_of, rows_of, duration_counts, hour_counts,
 use Rattle.sheet.specs.Bytes.{equipment_at}
 use Rattle.sheet.specs.RunningSums.{days_before, vehicles_before}
 
--- Demands in their order: one with its number and place, one after another, and those on records 0, 1, .. n − 1.
+-- Demands in their order: one with its rule and place, one after another, and those on records 0, 1, .. n − 1.
 infixr 5 ◌next◌
 pub data Demands : Type 1 where
-  demand : ℕ → ℕ → Type 0 → Demands
+  demand : Rule → ℕ → Type 0 → Demands
   ◌next◌ : Demands → Demands → Demands
   every : ℕ → (ℕ → Demands) → Demands
 
 -- all are met
 abbrev pub Met : Demands → Type 0
-Met (demand number place A) = A
+Met (demand rule place A) = A
 Met (D next E) = Met D × Met E
 Met (every n f) = (i : ℕ) → i < n → Met (f i)
 
 -- the first that is not met has this number and place: "The first that applies, in table and file order"
 abbrev pub FirstUnmet : ℕ → ℕ → Demands → Type 0
-FirstUnmet n p (demand number place A) = (n ≡ number) × (p ≡ place) × ¬ A
+FirstUnmet n p (demand rule place A) = (n ≡ number rule) × (p ≡ place) × ¬ A
 FirstUnmet n p (D next E) = FirstUnmet n p D ⊎ (Met D × FirstUnmet n p E)
 FirstUnmet n p (every k f) = (i : ℕ) × (i < k) × ((j : ℕ) → j < i → Met (f j)) × FirstUnmet n p (f i)
 
@@ -44,16 +47,16 @@ Says D (suc n) place = FirstUnmet (suc n) place D
 -- Head | 1 under 8 bytes; 2 mark | 0; 0
 abbrev pub mark_demands : List ℕ → Demands
 mark_demands s =
-    demand 1 0 (8 ≤ length s) next
-    demand 2 0 (((u8_at s 0 ≡ 0x45) × (u8_at s 1 ≡ 0x56)) × (u8_at s 2 ≡ 0x50))
+    demand rule.HeadShort 0 (8 ≤ length s) next
+    demand rule.Mark 0 (((u8_at s 0 ≡ 0x45) × (u8_at s 1 ≡ 0x56)) × (u8_at s 2 ≡ 0x50))
 
 -- Head | 3 version; 4 S; 5 R; 6 byte 7 | 3; 5; 6; 7; in version 4 "check 6 falls away"
 abbrev pub numbers_demands : List ℕ → Demands
 numbers_demands s =
-    demand 3 3 ((1 ≤ version_of s) × (version_of s ≤ version_limit)) next
-    demand 4 5 ((1 ≤ seasons_of s) × (seasons_of s ≤ seasons_limit)) next
-    demand 5 6 ((1 ≤ rows_of s) × (rows_of s ≤ rows_most s)) next
-    demand 6 7 (version_of s < 4 → u8_at s 7 ≡ 0)
+    demand rule.Version 3 ((1 ≤ version_of s) × (version_of s ≤ version_limit)) next
+    demand rule.Seasons 5 ((1 ≤ seasons_of s) × (seasons_of s ≤ seasons_limit)) next
+    demand rule.Rows 6 ((1 ≤ rows_of s) × (rows_of s ≤ rows_most s)) next
+    demand rule.HeadZero 7 (version_of s < 4 → u8_at s 7 ≡ 0)
 
 -- Head: the mark, then the numbers
 abbrev pub head_demands : List ℕ → Demands
@@ -61,15 +64,15 @@ head_demands s = mark_demands s next numbers_demands s
 
 -- Length | 7 not 104 + 8S + 24R, with a grid 1,160 + 8S + 24R | 0
 abbrev pub length_demand : List ℕ → Demands
-length_demand s = demand 7 0 (length s ≡ seasons_start s + 8 * seasons_of s + 24 * rows_of s)
+length_demand s = demand rule.Length 0 (length s ≡ seasons_start s + 8 * seasons_of s + 24 * rows_of s)
 
 -- Parking | 8 duration sum; 9 hour sum | 8; 56
 -- with a grid: "24, grid sum out of range, place 8, standing where 8 and 9 stand"
 abbrev pub parking_demands : List ℕ → Demands
 parking_demands s =
-    demand 8 8 (version_of s < 2 → (1 ≤ total (duration_counts s)) × (total (duration_counts s) ≤ counts_limit)) next
-    demand 9 56 (version_of s < 2 → (1 ≤ total (hour_counts s)) × (total (hour_counts s) ≤ counts_limit)) next
-    demand 24 8 (2 ≤ version_of s → (1 ≤ total (grid_counts s)) × (total (grid_counts s) ≤ grid_limit))
+    demand rule.Durations 8 (version_of s < 2 → (1 ≤ total (duration_counts s)) × (total (duration_counts s) ≤ counts_limit)) next
+    demand rule.Hours 56 (version_of s < 2 → (1 ≤ total (hour_counts s)) × (total (hour_counts s) ≤ counts_limit)) next
+    demand rule.Grid 8 (2 ≤ version_of s → (1 ≤ total (grid_counts s)) × (total (grid_counts s) ≤ grid_limit))
 
 -- Each season | 10 days or their running sum; 11 temperatures; 12 vp | record start
 abbrev pub season_demands : List ℕ → ℕ → Demands
@@ -78,9 +81,9 @@ season_demands s i =
     let place = season_place s i in
     let lowest = signed_tenths season.lowest in
     let highest = signed_tenths season.highest in
-    demand 10 place (((1 ≤ season.days) × (season.days ≤ days_limit)) × (days_before s i + season.days ≤ days_limit)) next
-    demand 11 place (((negᶠ (cold_limit /10^ 1) ≤ᶠ lowest) × (lowest ≤ᶠ highest)) × (highest ≤ᶠ warm_limit /10^ 1)) next
-    demand 12 place ((vp_least ≤ season.vp) × (season.vp ≤ vp_limit))
+    demand rule.Days place (((1 ≤ season.days) × (season.days ≤ days_limit)) × (days_before s i + season.days ≤ days_limit)) next
+    demand rule.Temperatures place (((negᶠ (cold_limit /10^ 1) ≤ᶠ lowest) × (lowest ≤ᶠ highest)) × (highest ≤ᶠ warm_limit /10^ 1)) next
+    demand rule.VapourPressure place ((vp_least ≤ season.vp) × (season.vp ≤ vp_limit))
 
 -- a + b·s·m at temperature T, for a canister of size s and its load m
 abbrev pub exponent_at : Season → Fraction → Fraction → Fraction → Fraction
@@ -109,17 +112,17 @@ row_demands s i =
     let row = row_at s i in
     let place = row_place s i in
     let code = u8_at s (place + 2) in
-    demand 13 place (¬ (equipment_at s place ≡ Absent)) next
-    demand 14 place ((code ≤ 3) ⊎ (code ≡ 255)) next
-    demand 15 place (((row.carburettor ≤ percent_limit) × (row.hot ≤ percent_limit)) × (row.fill ≤ percent_limit)) next
-    demand 16 place (row.vehicles ≤ vehicles_limit) next
-    demand 26 place (4 ≤ version_of s → vehicles_before s i + row.vehicles ≤ fleet_limit) next
-    demand 17 place (u16_at s (place + 6) ≤ tank_limit) next
-    demand 18 place ((row.trips ≤ trips_limit) × (row.minutes ≤ minutes_limit)) next
-    demand 19 place ((row.load ≤ row.saturation) × (row.canister ≡ None → row.saturation ≡ 0)) next
-    demand 20 place ((j : ℕ) → j < seasons_of s → ExponentMost 3 row (season_at s j)) next
-    demand 21 place (version_of s < 3 → row.mileage ≡ 0) next
-    demand 25 place (3 ≤ version_of s → MileageRight s row)
+    demand rule.Class place (¬ (equipment_at s place ≡ Absent)) next
+    demand rule.CanisterCode place ((code ≤ 3) ⊎ (code ≡ 255)) next
+    demand rule.Percent place (((row.carburettor ≤ percent_limit) × (row.hot ≤ percent_limit)) × (row.fill ≤ percent_limit)) next
+    demand rule.Vehicles place (row.vehicles ≤ vehicles_limit) next
+    demand rule.Fleet place (4 ≤ version_of s → vehicles_before s i + row.vehicles ≤ fleet_limit) next
+    demand rule.Tank place (u16_at s (place + 6) ≤ tank_limit) next
+    demand rule.Trips place ((row.trips ≤ trips_limit) × (row.minutes ≤ minutes_limit)) next
+    demand rule.Load place ((row.load ≤ row.saturation) × (row.canister ≡ None → row.saturation ≡ 0)) next
+    demand rule.Exponent place ((j : ℕ) → j < seasons_of s → ExponentMost 3 row (season_at s j)) next
+    demand rule.RowZeros place (version_of s < 3 → row.mileage ≡ 0) next
+    demand rule.Mileage place (3 ≤ version_of s → MileageRight s row)
 
 -- the whole table, "in table and file order"
 abbrev pub demands : List ℕ → Demands

@@ -11,7 +11,8 @@ use Rattle.exact.specs.declared.Row.{Row}
 use Rattle.exact.specs.Day.{signed_tenths}
 use Rattle.exact.specs.Canister.{a, b, size}
 use Rattle.exact.specs.Factors.{total}
-use Rattle.sheet.specs.declared.Check.{Check}
+use Rattle.refusals.specs.declared.Rule.TheVariants as rule
+use Rattle.refusals.specs.Check.{Check, refuse, ◌then◌, each}
 use Rattle.sheet.specs.Limits.{version_limit, seasons_limit, counts_limit, grid_limit, days_limit, cold_limit, warm_limit}
 use Rattle.sheet.specs.Limits.{vp_least, vp_limit, percent_limit, tank_limit, vehicles_limit, fleet_limit, trips_limit, minutes_limit, mileage_limit}
 use Rattle.sheet.specs.Integers.{u8_at, u16_at}
@@ -19,7 +20,6 @@ use Rattle.sheet.specs.Versions.{version_of, has_grid, has_mileage, has_many_row
 use Rattle.sheet.specs.Bytes.{seasons_of, rows_of, duration_counts, hour_counts, grid_counts, season_place, row_place, season_at, row_at}
 use Rattle.sheet.specs.Bytes.{equipment_at}
 use Rattle.sheet.specs.RunningSums.{days_before, vehicles_before}
-use Rattle.sheet.specs.Check.{refuse, ◌then◌, each}
 
 -- a number outside least to most
 unfoldable pub outside : ℕ → ℕ → ℕ → Bool
@@ -32,16 +32,16 @@ letters_missing s = not (eqb (u8_at s 0) 0x45 && eqb (u8_at s 1) 0x56 && eqb (u8
 -- Head | 1 under 8 bytes; 2 mark | 0; 0
 unfoldable pub mark_check : List ℕ → Check
 mark_check s =
-    refuse (ltb (length s) 8) 1 0 then
-    refuse (letters_missing s) 2 0
+    refuse (ltb (length s) 8) rule.HeadShort 0 then
+    refuse (letters_missing s) rule.Mark 0
 
 -- Head | 3 version; 4 S; 5 R; 6 byte 7 | 3; 5; 6; 7; in version 4 "check 6 falls away"
 unfoldable pub numbers_check : List ℕ → Check
 numbers_check s =
-    refuse (outside 1 version_limit (version_of s)) 3 3 then
-    refuse (outside 1 seasons_limit (seasons_of s)) 4 5 then
-    refuse (outside 1 (rows_most s) (rows_of s)) 5 6 then
-    refuse (not (has_many_rows s) && not (eqb (u8_at s 7) 0)) 6 7
+    refuse (outside 1 version_limit (version_of s)) rule.Version 3 then
+    refuse (outside 1 seasons_limit (seasons_of s)) rule.Seasons 5 then
+    refuse (outside 1 (rows_most s) (rows_of s)) rule.Rows 6 then
+    refuse (not (has_many_rows s) && not (eqb (u8_at s 7) 0)) rule.HeadZero 7
 
 -- Head: the mark, then the numbers
 unfoldable pub head_check : List ℕ → Check
@@ -49,15 +49,15 @@ head_check s = mark_check s then numbers_check s
 
 -- Length | 7 not 104 + 8S + 24R, with a grid 1,160 + 8S + 24R | 0
 unfoldable pub length_check : List ℕ → Check
-length_check s = refuse (not (eqb (length s) (seasons_start s + 8 * seasons_of s + 24 * rows_of s))) 7 0
+length_check s = refuse (not (eqb (length s) (seasons_start s + 8 * seasons_of s + 24 * rows_of s))) rule.Length 0
 
 -- Parking | 8 duration sum; 9 hour sum | 8; 56
 -- with a grid: "24, grid sum out of range, place 8, standing where 8 and 9 stand"
 unfoldable pub parking_check : List ℕ → Check
 parking_check s =
-    refuse (not (has_grid s) && outside 1 counts_limit (total (duration_counts s))) 8 8 then
-    refuse (not (has_grid s) && outside 1 counts_limit (total (hour_counts s))) 9 56 then
-    refuse (has_grid s && outside 1 grid_limit (total (grid_counts s))) 24 8
+    refuse (not (has_grid s) && outside 1 counts_limit (total (duration_counts s))) rule.Durations 8 then
+    refuse (not (has_grid s) && outside 1 counts_limit (total (hour_counts s))) rule.Hours 56 then
+    refuse (has_grid s && outside 1 grid_limit (total (grid_counts s))) rule.Grid 8
 
 -- "each −300 to 500, lowest not above highest", in tenths of °C
 unfoldable pub temperatures_wrong : Season → Bool
@@ -71,9 +71,9 @@ unfoldable pub season_check : List ℕ → ℕ → Check
 season_check s i =
     let season = season_at s i in
     let place = season_place s i in
-    refuse (outside 1 days_limit season.days || ltb days_limit (days_before s i + season.days)) 10 place then
-    refuse (temperatures_wrong season) 11 place then
-    refuse (outside vp_least vp_limit season.vp) 12 place
+    refuse (outside 1 days_limit season.days || ltb days_limit (days_before s i + season.days)) rule.Days place then
+    refuse (temperatures_wrong season) rule.Temperatures place then
+    refuse (outside vp_least vp_limit season.vp) rule.VapourPressure place
 
 -- "class and technology not in the table"
 unfoldable pub is_absent : Equipment → Bool
@@ -137,17 +137,17 @@ unfoldable pub row_check : List ℕ → ℕ → Check
 row_check s i =
     let row = row_at s i in
     let place = row_place s i in
-    refuse (is_absent (equipment_at s place)) 13 place then
-    refuse (code_wrong (u8_at s (place + 2))) 14 place then
-    refuse (percent_wrong row) 15 place then
-    refuse (ltb vehicles_limit row.vehicles) 16 place then
-    refuse (has_many_rows s && ltb fleet_limit (vehicles_before s i + row.vehicles)) 26 place then
-    refuse (ltb tank_limit (u16_at s (place + 6))) 17 place then
-    refuse (ltb trips_limit row.trips || ltb minutes_limit row.minutes) 18 place then
-    refuse (load_wrong row.canister row.load row.saturation) 19 place then
-    refuse (some_season (saturation_above 3 row.canister row.saturation) s (seasons_of s)) 20 place then
-    refuse (not (has_mileage s) && not (eqb row.mileage 0)) 21 place then
-    refuse (has_mileage s && mileage_wrong s row) 25 place
+    refuse (is_absent (equipment_at s place)) rule.Class place then
+    refuse (code_wrong (u8_at s (place + 2))) rule.CanisterCode place then
+    refuse (percent_wrong row) rule.Percent place then
+    refuse (ltb vehicles_limit row.vehicles) rule.Vehicles place then
+    refuse (has_many_rows s && ltb fleet_limit (vehicles_before s i + row.vehicles)) rule.Fleet place then
+    refuse (ltb tank_limit (u16_at s (place + 6))) rule.Tank place then
+    refuse (ltb trips_limit row.trips || ltb minutes_limit row.minutes) rule.Trips place then
+    refuse (load_wrong row.canister row.load row.saturation) rule.Load place then
+    refuse (some_season (saturation_above 3 row.canister row.saturation) s (seasons_of s)) rule.Exponent place then
+    refuse (not (has_mileage s) && not (eqb row.mileage 0)) rule.RowZeros place then
+    refuse (has_mileage s && mileage_wrong s row) rule.Mileage place
 
 -- the whole table, "in table and file order"
 unfoldable pub sheet_check : List ℕ → Check

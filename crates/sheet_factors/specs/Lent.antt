@@ -1,7 +1,7 @@
 -- Need not be believed: what the program computes once of an accepted sheet, for the `requires` of the functions of its seasons and rows.
 use Rattle.std.specs.Prelude.{List, ◌≡◌, ℕ, ◌<◌, get_or}
 use Rattle.bounds.specs.Exponential.{entries}
-use Rattle.sheet.specs.declared.Check.TheVariants.{Pass}
+use Rattle.refusals.specs.Check.{Pass}
 use Rattle.sheet.specs.Bytes.{rows_of, cells_of, row_at}
 use Rattle.sheet.specs.Sheet.{sheet_check}
 use Rattle.parking.specs.Grid.{cells_in, GridReady}

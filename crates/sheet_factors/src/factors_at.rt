@@ -3,7 +3,7 @@ ghost use Rattle.std.specs.Prelude.{◌≡◌, ◌<◌};
 ghost use Rattle.breakthrough.specs.Curves.{KeptOf};
 ghost use Rattle.masses.specs.Day.{UnitsInRange};
 ghost use Rattle.row_factors.specs.Seven.{seven_units};
-ghost use Rattle.sheet.specs.declared.Check.TheVariants.{Pass};
+ghost use Rattle.refusals.specs.Check.{Pass};
 ghost use Rattle.sheet.specs.Bytes.{seasons_of, rows_of, cells_of, season_at, row_at};
 ghost use Rattle.sheet.specs.Sheet.{sheet_check};
 ghost use Rattle.sheet_factors.specs.Lent.{SheetLent};

@@ -2,7 +2,7 @@
 ghost use Rattle.std.specs.Prelude.{◌≡◌, ◌<◌};
 ghost use Rattle.bounds.specs.Exponential.{entries};
 ghost use Rattle.breakthrough.specs.Curves.{KeptOf};
-ghost use Rattle.sheet.specs.declared.Check.TheVariants.{Pass};
+ghost use Rattle.refusals.specs.Check.{Pass};
 ghost use Rattle.sheet.specs.Bytes.{rows_of, row_at};
 ghost use Rattle.sheet.specs.Sheet.{sheet_check};
 ghost use Rattle.sheet_factors.specs.Lent.{RowsKept};
@@ -26,10 +26,8 @@ pub fn rows_kept(tables: &ExpTables, s: &[u8]) -> [u64; 1000]
 {
     let rows = rows_of(s);
     let mut out = [0u64; 1000];
-    let mut i: usize = 0;
-    while i < rows {
+    for i in 0..rows {
         out[i] = row_kept(tables, s, i);
-        i += 1;
     }
     out
 }

@@ -1,7 +1,7 @@
 // The parking counts of an accepted sheet.
 ghost use Rattle.std.specs.Prelude.{◌≡◌};
 ghost use Rattle.parking.specs.Grid.{CellsInRange, cells_in, GridReady};
-ghost use Rattle.sheet.specs.declared.Check.TheVariants.{Pass};
+ghost use Rattle.refusals.specs.Check.{Pass};
 ghost use Rattle.sheet.specs.Bytes.{cells_of};
 ghost use Rattle.sheet.specs.Sheet.{sheet_check};
 

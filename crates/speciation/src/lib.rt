@@ -50,11 +50,9 @@ pub fn split(total: u64) -> [u64; 29]
     let table = share_table();
     let mut masses = [0u64; 29];
     let mut before: u64 = 0;
-    let mut i: usize = 0;
-    while i < 29 {
-        masses[i] = mass_of(total, before, table[i]);
-        before += table[i];
-        i += 1;
+    for (i, &share) in table.iter().enumerate() {
+        masses[i] = mass_of(total, before, share);
+        before += share;
     }
     masses
 }

@@ -1,5 +1,6 @@
 -- Each outcome of the code is the answer, and keeps what is promised.
 -- Assumes nothing.
+use Rattle.std.proofs.Common.{Ok, Err}
 use mathlib.Core.List.{List}
 use mathlib.Core.Path.{◌≡◌, refl, sym, ◌∙◌, ap}
 use Prim.Native.Nat.{ℕ, ◌+◌, ◌*◌, ◌≤◌, ◌<◌}
@@ -7,10 +8,9 @@ use native.Mathlib.Omega.{arith}
 use lib.ListN.{length, replicate}
 use Rattle.numbers.specs.Lists.{at}
 use Rattle.numbers.proofs.Lists.{tab-length}
-use Rattle.sheet.specs.declared.Check.{Check}
-use Rattle.sheet.specs.declared.Check.TheVariants.{Pass, Refused}
+use Rattle.refusals.specs.declared.Refusal.{Refusal}
+use Rattle.refusals.specs.Check.{Check, Pass, number_of}
 use Rattle.sheet.specs.Bytes.{rows_of}
-use Rattle.sheet.specs.Check.{number_of}
 use Rattle.sheet.proofs.Accepted.{Accepted}
 use Rattle.sheet.proofs.Versions.{start_between}
 use Rattle.report_words.specs.Report.{report}
@@ -18,7 +18,8 @@ use Rattle.report_words.specs.Categories.{report_length}
 use Rattle.report_words.proofs.ReportPlaces.{report-length, total-at}
 use Rattle.inventory.specs.ReportCall.{ReportCall}
 use Rattle.inventory.specs.ReportAnswers.{report_check}
-use Rattle.inventory.proofs.CallConditions.{report-accepted, report-judged, number-zero}
+use Rattle.inventory.proofs.CallConditions.{report-accepted}
+use Rattle.refusals.proofs.Numbers.{zero-passes}
 use Rattle.inventory.proofs.Written.{written-first, written-length}
 use Rattle.speciation.specs.Split.{species_mass, species_masses, SpeciesPromise}
 use Rattle.species_report.specs.declared.composition.Composition.{Composition}
@@ -33,13 +34,13 @@ module _ {s old words : List ℕ} {check : Check} (a : ReportCall s old words ch
   zero-passed : number_of check ≡ 0 → check ≡ Pass
   zero-passed zero =
       a.answer-is ∙
-      number-zero s (report_check s (length old)) (report-judged s (length old)) (omega arith) (rw a.answer-is at zero)
+      zero-passes (report_check s (length old)) (rw a.answer-is at zero)
 
   -- A refused sheet.
-  pub refusal_is : {number place : ℕ} → check ≡ Refused number place
+  pub refusal_is : {refusal : Refusal} → check ≡ Err refusal
       → CompositionCall s old words (record { check = check; total = 0; milligrams = replicate 29 0 })
   unfolding composition_answered
-  refusal_is {number} {place} e = record {
+  refusal_is {refusal} e = record {
     answer-is = rw e refl ∙ ap (λ (c : Check). composition_answered c s) (sym e) ∙ answer-of;
     reported = a;
     total-is = λ zero. none zero;
@@ -85,8 +86,8 @@ module _ {s old words : List ℕ} {check : Check} (a : ReportCall s old words ch
 -- There are 29 masses, of a refused sheet too.
 answered-length : (check : Check) (s : List ℕ) → length (composition_answered check s).milligrams ≡ 29
 unfolding composition_answered species_masses
-answered-length Pass s = tab-length (species_mass (high_total s)) 29
-answered-length (Refused number place) s = refl
+answered-length (Ok _) s = tab-length (species_mass (high_total s)) 29
+answered-length (Err refusal) s = refl
 
 pub species-length : {s old words : List ℕ} {found : Composition} → CompositionCall s old words found → length found.milligrams ≡ 29
 unfolding composition

@@ -1,12 +1,14 @@
 -- The text of a sheet's species: how long it is at most, and where it stands.
 -- Assumes nothing.
+use Rattle.std.proofs.Common.{Err}
 use mathlib.Core.List.{List}
 use mathlib.Core.Path.{◌≡◌, refl, sym, ◌∙◌, ap}
 use Prim.Native.Nat.{ℕ, ◌^◌, ◌≤◌, ◌<◌}
 use native.Mathlib.Omega.{arith}
 use lib.ListN.{length, take}
-use Rattle.sheet.specs.declared.Check.{Check}
-use Rattle.sheet.specs.declared.Check.TheVariants.{Pass, Refused}
+use Rattle.refusals.specs.Rule.{number}
+use Rattle.refusals.specs.declared.Refusal.{Refusal}
+use Rattle.refusals.specs.Check.{Check, Pass}
 use Rattle.sheet.proofs.Versions.{start_between}
 use Rattle.inventory.specs.ReportCall.{ReportCall}
 use Rattle.inventory.specs.ReportAnswers.{report_check}
@@ -21,8 +23,8 @@ use Rattle.species_report.specs.Composition.{CompositionCall}
 use Rattle.species_report.specs.SpeciesText.{lines_of, text_of, species_text, lines_most, SpeciesTextCall}
 
 -- The line of a refusal.
-pub refusal_is : (total : ℕ) (masses s : List ℕ) {number place : ℕ} {check : Check} → check ≡ Refused number place
-    → refusal_line number place ≡ lines_of check total masses s
+pub refusal_is : (total : ℕ) (masses s : List ℕ) {refusal : Refusal} {check : Check} → check ≡ Err refusal
+    → refusal_line (number refusal.rule) refusal.place ≡ lines_of check total masses s
 unfolding lines_of
 refusal_is total masses s e = rw e refl
 

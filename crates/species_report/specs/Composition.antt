@@ -1,10 +1,8 @@
 -- What the call of a sheet's species answers. Definitions only.
-use Rattle.std.specs.Prelude.{List, ◌≡◌, ℕ, ◌+◌, ◌*◌, length, replicate}
+use Rattle.std.specs.Prelude.{List, ◌≡◌, ℕ, ◌+◌, ◌*◌, length, replicate, Ok, Err}
 use Rattle.numbers.specs.Lists.{at}
-use Rattle.sheet.specs.declared.Check.{Check}
-use Rattle.sheet.specs.declared.Check.TheVariants.{Pass, Refused}
+use Rattle.refusals.specs.Check.{Check, Pass, number_of}
 use Rattle.sheet.specs.Bytes.{rows_of}
-use Rattle.sheet.specs.Check.{number_of}
 use Rattle.report_words.specs.Report.{grand_total}
 use Rattle.inventory.specs.ReportCall.{ReportCall}
 use Rattle.inventory.specs.ReportAnswers.{report_check}
@@ -17,8 +15,8 @@ high_total s = grand_total s 1
 
 -- the species of a sheet that was checked; zeros where it is refused
 unfoldable pub composition_answered : Check → List ℕ → Composition
-composition_answered Pass s = record { check = Pass; total = high_total s; milligrams = species_masses (high_total s) }
-composition_answered (Refused number place) s = record { check = Refused number place; total = 0; milligrams = replicate 29 0 }
+composition_answered (Ok _) s = record { check = Pass; total = high_total s; milligrams = species_masses (high_total s) }
+composition_answered (Err refusal) s = record { check = Err refusal; total = 0; milligrams = replicate 29 0 }
 
 -- the checks are those of the report, 22 too: so many words are lent for it
 unfoldable pub composition : List ℕ → ℕ → Composition

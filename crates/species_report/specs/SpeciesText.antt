@@ -1,7 +1,7 @@
 -- The text that is printed for the species of a sheet, and what the text call leaves. Definitions only.
-use Rattle.std.specs.Prelude.{List, ◌≡◌, ℕ, ◌+◌, ◌*◌, ◌≤◌, length}
-use Rattle.sheet.specs.declared.Check.{Check}
-use Rattle.sheet.specs.declared.Check.TheVariants.{Pass, Refused}
+use Rattle.std.specs.Prelude.{List, ◌≡◌, ℕ, ◌+◌, ◌*◌, ◌≤◌, length, Ok, Err}
+use Rattle.refusals.specs.Rule.{number}
+use Rattle.refusals.specs.Check.{Check}
 use Rattle.sheet.specs.Versions.{version_of}
 use Rattle.inventory.specs.ReportCall.{ReportCall}
 use Rattle.inventory.specs.ReportAnswers.{report_check}
@@ -13,8 +13,8 @@ use Rattle.species_report.specs.Lines.{composition_lines}
 
 -- `refused N at P`, or the line `EVP V total T` and a line for each species
 unfoldable pub lines_of : Check → ℕ → List ℕ → List ℕ → List ℕ
-lines_of Pass total masses s = composition_lines (version_of s) total masses
-lines_of (Refused number place) total masses s = refusal_line number place
+lines_of (Ok _) total masses s = composition_lines (version_of s) total masses
+lines_of (Err refusal) total masses s = refusal_line (number refusal.rule) refusal.place
 
 abbrev pub text_of : Composition → List ℕ → List ℕ
 text_of found s = lines_of found.check found.total found.milligrams s

@@ -3,7 +3,7 @@ ghost use Rattle.species_report.specs.Composition.{CompositionCall};
 
 use fields::rows_of;
 use inventory::report;
-use sheet::Check;
+use refusals::Check;
 use speciation::split;
 
 // What the call answers.
@@ -23,7 +23,7 @@ pub fn species_of(s: &[u8], words: &mut [u64]) -> Composition
     ensures { CompositionCall s.now words.old words.new result }
 {
     let check = report(s, words);
-    if let Check::Refused(_, _) = check {
+    if let Err(_) = check {
         return Composition {
             check,
             total: 0,

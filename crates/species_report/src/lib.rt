@@ -2,14 +2,14 @@
 #![tactic(auto)]
 
 ghost use Rattle.std.specs.Prelude.{◌≡◌, ◌≤◌, length};
-ghost use Rattle.sheet.specs.declared.Check.TheVariants.{Pass};
+ghost use Rattle.refusals.specs.Check.{Pass};
 ghost use Rattle.text.specs.Put.{Put};
 ghost use Rattle.species_report.specs.SpeciesText.{lines_of, lines_most, SpeciesTextCall};
 
 use crate::composition::species_of;
 use crate::lines::put_composition;
 use fields::version_of;
-use sheet::Check;
+use refusals::Check;
 use text::lines::put_refusal;
 
 pub mod composition;
@@ -29,8 +29,8 @@ fn put_text(out: &mut [u8], s: &[u8], check: Check, total: u64, masses: &[u64]) 
     ensures { Put out.old 0 (lines_of check total masses.now s.now) out.new result × (result ≤ lines_most) }
 {
     match check {
-        Check::Refused(number, place) => put_refusal(out, number, place),
-        Check::Pass => put_accepted(out, s, total, masses),
+        Err(refusal) => put_refusal(out, refusal.rule.number(), refusal.place),
+        Ok(()) => put_accepted(out, s, total, masses),
     }
 }
 

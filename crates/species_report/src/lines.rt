@@ -58,10 +58,8 @@ fn put_all(out: &mut [u8], at: usize, masses: &[u64]) -> usize
     ensures { Put out.old at (species_lines masses.now 29) out.new result }
 {
     let mut next = at;
-    let mut i: usize = 0;
-    while i < 29 {
+    for i in 0..29 {
         next = put_species(out, next, masses, i);
-        i += 1;
     }
     next
 }

@@ -1,7 +1,7 @@
 -- The text of a sheet that is too long is that of its front, a refusal.
 -- Assumes nothing.
 use Rattle.std.proofs.Common.{ℕ, List, refl}
-use Rattle.sheet.specs.Check.{◌then◌}
+use Rattle.refusals.specs.Check.{◌then◌}
 use Rattle.inventory.specs.ReportAnswers.{report_check}
 use Rattle.species_report.specs.Composition.{composition, composition_answered}
 use Rattle.species_report.specs.SpeciesText.{lines_of, species_text}

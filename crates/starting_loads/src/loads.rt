@@ -6,9 +6,9 @@ ghost use Rattle.starting_loads.specs.Loss.{feedback, loss, loaded, starts_at};
 ghost use Rattle.starting_loads.specs.Balance.{BalanceReady, BalancesReady};
 
 use bounds::exp::ExpTables;
-use bounds::order::smaller;
 use bounds::short::{line, short};
 use bounds::theta::theta;
+use std::array;
 
 // A row's canister at one temperature.
 #[derive(Clone, Copy)]
@@ -52,7 +52,7 @@ fn loaded(tables: &ExpTables, c: Balance, net: u64) -> u64
 {
     let x = line(c.base, c.growth, net);
     let y = short(tables, x) / FROM_Q36_TO_Q32;
-    smaller(c.saturation, net + loss(tables, c.growth, y))
+    c.saturation.min(net + loss(tables, c.growth, y))
 }
 
 // The starting loads at the 25 temperatures of a day, for a canister with these values of `Balance`.
@@ -66,17 +66,13 @@ pub fn starts(
     requires { (tables.now ≡ entries) × BalancesReady bases.now growths.now saturation }
     ensures { result ≡ starts_at bases.now growths.now saturation net }
 {
-    let first = smaller(saturation, net);
-    let mut out = [0u64; 25];
-    let mut d: usize = 0;
-    while d < 25 {
+    let first = saturation.min(net);
+    array::from_fn(|d| {
         let c = Balance {
             base: bases[d],
             growth: growths[d],
             saturation,
         };
-        out[d] = loaded(tables, c, first);
-        d += 1;
-    }
-    out
+        loaded(tables, c, first)
+    })
 }

@@ -24,10 +24,8 @@ pub fn put(out: &mut [u8], at: usize, text: &[u8]) -> usize
     ensures { Put out.old at text.now out.new result }
 {
     let mut next = at;
-    let mut k: usize = 0;
-    while k < text.len() {
-        next = put_byte(out, next, text[k]);
-        k += 1;
+    for &byte in text {
+        next = put_byte(out, next, byte);
     }
     next
 }

@@ -22,10 +22,8 @@ fn put_fields(out: &mut [u8], at: usize, words: &[u64]) -> usize
     ensures { Put out.old at (fields words.now) out.new result }
 {
     let mut next = at;
-    let mut k: usize = 0;
-    while k < words.len() {
-        next = put_field(out, next, words[k]);
-        k += 1;
+    for &word in words {
+        next = put_field(out, next, word);
     }
     next
 }
@@ -58,10 +56,8 @@ fn put_rows(out: &mut [u8], at: usize, words: &[u64], rows: usize) -> usize
     ensures { Put out.old at (row_lines words.now rows) out.new result }
 {
     let mut next = at;
-    let mut i: usize = 0;
-    while i < rows {
+    for i in 0..rows {
         next = put_row(out, next, words, i);
-        i += 1;
     }
     next
 }

@@ -45,12 +45,8 @@ fn digits(tables: &ExpTables, fars: &[u64; 15], mileage: u64, c: usize) -> u64
     ensures { (result ≡ digits mileage c 47 0) × (result ≤ 2 ^ 47) }
 {
     let mut d: u64 = 0;
-    let mut left: u64 = 47;
-    let mut bit: u64 = 140737488355328;
-    while 0 < left {
-        left -= 1;
-        bit = bit / 2;
-        d = digit(tables, fars, mileage, c, d, bit);
+    for found in 0..47u32 {
+        d = digit(tables, fars, mileage, c, d, 1 << (46 - found));
     }
     d
 }
@@ -60,14 +56,12 @@ fn whole_above(tables: &ExpTables, fars: &[u64; 15], mileage: u64) -> usize
     requires { (tables.now ≡ entries) × (fars.now ≡ far) × (mileage ≤ 10 ^ 6) }
     ensures { (result ≡ whole_above mileage) × (3 ≤ result) × (result ≤ 14) }
 {
-    let mut before: usize = 2;
-    while before < 13 {
-        if within(tables, fars, mileage, before + 1, 0) {
-            return before + 1;
+    for c in 3..14 {
+        if within(tables, fars, mileage, c, 0) {
+            return c;
         }
-        before += 1;
     }
-    before + 1
+    14
 }
 
 // A lower bound of the logarithm of the mileage M: E at this exponent is below M for every n from 40 upward, and at least M a margin above it.

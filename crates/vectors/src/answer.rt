@@ -1,23 +1,31 @@
-// The answer for a sheet: the number and the place where it stops, both 0 where it is accepted.
-use crate::print::{number, text};
-use std::io;
+// The answer for a sheet: accepted, or where it is refused.
+use std::{fmt, io};
 
-#[derive(Clone, Copy)]
-pub struct Answer {
+// Where a sheet is refused
+#[derive(Clone, Copy, Debug, PartialEq, Eq)]
+pub struct Refusal {
     pub number: u64,
     pub place: u64,
 }
 
-impl Answer {
-    pub fn same(self, other: Answer) -> bool {
-        (self.number == other.number) & (self.place == other.place)
+impl fmt::Display for Refusal {
+    fn fmt<W: fmt::Write>(&self, f: &mut fmt::Formatter<W>) -> fmt::Result {
+        write!(f, "refused {} at {}", self.number, self.place)
     }
+}
 
-    pub fn print(self, rt: &impl Print) -> io::Result<()> {
-        if self.number == 0 {
-            return text(rt, "accepted");
-        }
-        number(rt, "refused ", self.number)?;
-        number(rt, " at ", self.place)
+// The answer that two numbers of an input stand for: both are 0 where the sheet is accepted.
+pub fn answer_of(number: u64, place: u64) -> Result<(), Refusal> {
+    if number == 0 {
+        return Ok(());
+    }
+    Err(Refusal { number, place })
+}
+
+// What an answer says
+pub fn print_answer(rt: &impl Print, answer: Result<(), Refusal>) -> io::Result<()> {
+    match answer {
+        Ok(()) => rt.print("accepted"),
+        Err(refusal) => rt.print(refusal),
     }
 }

@@ -1,10 +1,8 @@
 // The reply to a factor call, and whether it is right: the refusal that is expected, or a narrow band around the exact factor.
-ghost use Rattle.std.specs.Prelude.{◌+◌, ◌≤◌, length};
-
-use crate::answer::Answer;
-use crate::input::u64_at;
-use crate::print::{band, text};
-use crate::tally::{Verdict, larger};
+use crate::answer::{Refusal, answer_of};
+use crate::band::Band;
+use crate::items::{Item, Rest};
+use crate::tally::Verdict;
 use std::io;
 
 // The widest band that is right, in micrograms
@@ -13,71 +11,47 @@ const WIDTH: u64 = 10;
 // More micrograms than any factor has
 const MOST: u64 = 4503599627370496;
 
-// The number and place of a refusal, both 0 where the call is accepted, and the ends of the factor's band
-#[derive(Clone, Copy)]
-pub struct Reply {
-    pub number: u64,
-    pub place: u64,
-    pub low: u64,
-    pub high: u64,
-}
+// The factor's band, or where the call is refused
+#[derive(Clone, Copy, Debug, PartialEq, Eq)]
+pub struct Reply(pub Result<Band, Refusal>);
 
-fn apart(a: u64, b: u64) -> u64 {
-    if a < b { b - a } else { a - b }
+// The reply that is expected; its band is that of the exact factor in nanograms.
+impl<'a> Item<'a> for Reply {
+    fn read(input: &mut Rest<'a>) -> Option<Reply> {
+        let answer = answer_of(input.item()?, input.item()?);
+        let band: Band = input.item()?;
+        Some(Reply(answer.and(Ok(band))))
+    }
 }
 
 // Of a band in micrograms around a factor that lies between two whole numbers of nanograms: its width, and how far the factor is from
 // its middle in nanograms
-fn of_band(low: u64, high: u64, below: u64, above: u64) -> Verdict {
-    if high < low {
-        return Verdict::bare(false);
-    }
-    if MOST <= high {
-        return Verdict::bare(false);
-    }
-    if WIDTH < high - low {
-        return Verdict::bare(false);
+fn of_band(band: Band, exact: Band) -> Verdict {
+    let Band { low, high } = band;
+    if (high < low) || (MOST <= high) || (WIDTH < high - low) {
+        return Verdict::default();
     }
     let middle = (low + high) * 500;
     Verdict {
-        right: (low * 1000 <= below) & (above <= high * 1000),
+        right: (low * 1000 <= exact.low) & (exact.high <= high * 1000),
         width: high - low,
-        distance: larger(apart(middle, below), apart(middle, above)),
-    }
-}
-
-// The reply that is expected; its band is that of the exact factor in nanograms.
-pub fn reply_at(s: &[u8], at: usize) -> Reply
-    requires { at + 32 ≤ length s.now }
-{
-    Reply {
-        number: u64_at(s, at),
-        place: u64_at(s, at + 8),
-        low: u64_at(s, at + 16),
-        high: u64_at(s, at + 24),
+        distance: middle.abs_diff(exact.low).max(middle.abs_diff(exact.high)),
     }
 }
 
 impl Reply {
     pub fn verdict(self, expected: Reply) -> Verdict {
-        let same = (self.number == expected.number) & (self.place == expected.place);
-        if same & (self.number == 0) {
-            return of_band(self.low, self.high, expected.low, expected.high);
+        match (self.0, expected.0) {
+            (Ok(band), Ok(exact)) => of_band(band, exact),
+            (found, expected) => Verdict::from(found == expected),
         }
-        Verdict::bare(same)
     }
 
     // Words and the reply, its band in a unit
     pub fn print(self, rt: &impl Print, words: &str, unit: &str) -> io::Result<()> {
-        if self.number == 0 {
-            band(rt, words, self.low, self.high)?;
-            return text(rt, unit);
+        match self.0 {
+            Ok(band) => print!(rt; "{words}{band}{unit}"),
+            Err(refusal) => print!(rt; "{words}{refusal}"),
         }
-        let answer = Answer {
-            number: self.number,
-            place: self.place,
-        };
-        text(rt, words)?;
-        answer.print(rt)
     }
 }

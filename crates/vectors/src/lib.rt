@@ -1,11 +1,12 @@
-// What the programs vectors_* share: the numbers of their input, a tally of what was tried, and the phrases that they print.
+// What the programs vectors_* share: the items of their input and one loop over its records, and a tally of what was tried.
 #![tactic(auto)]
 
 pub mod answer;
+pub mod band;
 pub mod bytes;
 pub mod factor;
 pub mod input;
+pub mod items;
 pub mod mass;
-pub mod print;
 pub mod tally;
 pub mod words;

@@ -1,13 +1,7 @@
 // The band of a row's mass in a report, and whether it is right: around the exact mass, and as narrow as it should be.
-ghost use Rattle.std.specs.Prelude.{◌+◌, ◌≤◌, length};
-
-use crate::input::u64_at;
-use crate::print::{band, number, text};
+use crate::band::Band;
+use crate::items::{Item, Rest};
 use crate::tally::Verdict;
-use std::io;
-
-// The bytes of a row that is expected: nine numbers, the category first
-pub const ROW: usize = 72;
 
 // The widths allowed: 2 mg, and a hundredth of a milligram for each time that a factor counts
 const ENDS: u64 = 2;
@@ -22,27 +16,66 @@ const MANY: u64 = 1000000;
 
 const WIDE: u64 = 1099511627776;
 
+// The masses of a row, in the order of their words
+#[derive(Clone, Copy, Debug, PartialEq, Eq)]
+pub enum Kind {
+    Diurnal,
+    Soak,
+    Running,
+}
+
 // For one of a row's three masses: vehicles times days, 0 where the row has no vehicles; how many times a factor counts in the mass, cut
 // to a whole number; and the whole milligrams below and above the exact mass
-#[derive(Clone, Copy)]
+#[derive(Clone, Copy, Debug, PartialEq, Eq)]
 pub struct Mass {
     pub days: u64,
     pub many: u64,
-    pub below: u64,
-    pub above: u64,
+    pub exact: Band,
 }
 
-// The diurnal mass of the row that is here, its soak mass, or its running mass, as mass 0, 1 or 2
-pub fn mass_at(s: &[u8], at: usize, mass: usize) -> Mass
-    requires { (at + 72 ≤ length s.now) × (mass ≤ 2) }
-{
-    let days = u64_at(s, at + 8);
-    Mass {
-        days,
-        many: if mass == 0 { days } else { u64_at(s, at + 16) },
-        below: u64_at(s, at + 24 + 16 * mass),
-        above: u64_at(s, at + 32 + 16 * mass),
+// A row that is expected: vehicles times days, vehicles times trips, and the whole milligrams below and above each mass
+#[derive(Clone, Copy, Debug, PartialEq, Eq)]
+pub struct Row {
+    days: u64,
+    trips: u64,
+    diurnal: Band,
+    soak: Band,
+    running: Band,
+}
+
+impl<'a> Item<'a> for Row {
+    fn read(input: &mut Rest<'a>) -> Option<Row> {
+        let _category: u64 = input.item()?;
+        Some(Row {
+            days: input.item()?,
+            trips: input.item()?,
+            diurnal: input.item()?,
+            soak: input.item()?,
+            running: input.item()?,
+        })
     }
+}
+
+impl Row {
+    pub fn mass(self, kind: Kind) -> Mass {
+        let days = self.days;
+        let (many, exact) = match kind {
+            Kind::Diurnal => (days, self.diurnal),
+            Kind::Soak => (self.trips, self.soak),
+            Kind::Running => (self.trips, self.running),
+        };
+        Mass { days, many, exact }
+    }
+}
+
+// The band of a mass, among the six words of its row in a report
+pub fn band_of(words: &[u64; 6], kind: Kind) -> Band {
+    let (low, high) = match kind {
+        Kind::Diurnal => (words[0], words[1]),
+        Kind::Soak => (words[2], words[3]),
+        Kind::Running => (words[4], words[5]),
+    };
+    Band { low, high }
 }
 
 // The width of a band in nanograms for each time that the factor counts in it, or 0 where that is seldom
@@ -57,36 +90,19 @@ fn width(apart: u64, many: u64) -> u64 {
 }
 
 // Of a row without vehicles the band is 0 and 0.
-pub fn verdict_of(low: u64, high: u64, m: Mass) -> Verdict {
-    if m.days == 0 {
-        return Verdict::bare((low == 0) & (high == 0));
+pub fn verdict_of(band: Band, mass: Mass) -> Verdict {
+    let Band { low, high } = band;
+    if mass.days == 0 {
+        return Verdict::from((low == 0) & (high == 0));
     }
     if high < low {
-        return Verdict::bare(false);
+        return Verdict::default();
     }
     let apart = high - low;
-    let encloses = (high < MOST) & (low <= m.below) & (m.above <= high);
+    let encloses = (high < MOST) & (low <= mass.exact.low) & (mass.exact.high <= high);
     Verdict {
-        right: encloses & (apart <= m.many / SHARE + ENDS),
-        width: width(apart, m.many),
+        right: encloses & (apart <= mass.many / SHARE + ENDS),
+        width: width(apart, mass.many),
         distance: 0,
     }
-}
-
-// A line for a mass whose band is not right; sheets and rows are counted from 1.
-pub fn print_other(
-    rt: &impl Print,
-    sheet: u64,
-    row: u64,
-    mass: u64,
-    m: Mass,
-    low: u64,
-    high: u64,
-) -> io::Result<()> {
-    number(rt, "sheet ", sheet)?;
-    number(rt, " row ", row)?;
-    number(rt, " mass ", mass)?;
-    band(rt, ": expected ", m.below, m.above)?;
-    band(rt, " mg, found ", low, high)?;
-    text(rt, " mg\n")
 }

@@ -1,8 +1,8 @@
 // What came of the vectors that were tried.
-ghost use Rattle.std.specs.Prelude.{◌≤◌};
+use std::ops::Add;
 
 // Whether an answer is right; of a band its width, and how far off the exact value was
-#[derive(Clone, Copy)]
+#[derive(Clone, Copy, Debug, Default, PartialEq, Eq)]
 pub struct Verdict {
     pub right: bool,
     pub width: u64,
@@ -11,7 +11,7 @@ pub struct Verdict {
 
 // How many were tried and how many were right; the widest band, and the farthest that an exact value was off. No input has 2^64 vectors,
 // so the counts wrap and ask for no bound.
-#[derive(Clone, Copy)]
+#[derive(Clone, Copy, Debug, Default, PartialEq, Eq)]
 pub struct Tally {
     pub tried: u64,
     pub right: u64,
@@ -19,25 +19,10 @@ pub struct Tally {
     pub farthest: u64,
 }
 
-pub fn larger(a: u64, b: u64) -> u64 {
-    if a < b { b } else { a }
-}
-
-pub fn smaller(a: usize, b: usize) -> usize
-    ensures { (result ≤ a) × (result ≤ b) }
-{
-    if a < b { a } else { b }
-}
-
-// One more than a count
-pub fn next(n: u64) -> u64 {
-    std::num::wrapping_add_u64(n, 1)
-}
-
-impl Verdict {
-    // On an answer that is no band
-    pub fn bare(right: bool) -> Self {
-        Self {
+// On an answer that is no band
+impl From<bool> for Verdict {
+    fn from(right: bool) -> Verdict {
+        Verdict {
             right,
             width: 0,
             distance: 0,
@@ -45,36 +30,33 @@ impl Verdict {
     }
 }
 
-impl Tally {
-    pub fn none() -> Self {
-        Self {
-            tried: 0,
-            right: 0,
-            widest: 0,
-            farthest: 0,
+// Of one vector
+impl From<Verdict> for Tally {
+    fn from(verdict: Verdict) -> Tally {
+        Tally {
+            tried: 1,
+            right: u64::from(verdict.right),
+            widest: verdict.width,
+            farthest: verdict.distance,
         }
     }
+}
 
-    // One more
-    pub fn with(self, verdict: Verdict) -> Self {
-        Self {
-            tried: next(self.tried),
-            right: if verdict.right {
-                next(self.right)
-            } else {
-                self.right
-            },
-            widest: larger(self.widest, verdict.width),
-            farthest: larger(self.farthest, verdict.distance),
-        }
+impl From<bool> for Tally {
+    fn from(right: bool) -> Tally {
+        Tally::from(Verdict::from(right))
     }
+}
 
-    pub fn plus(self, other: Tally) -> Self {
-        Self {
-            tried: std::num::wrapping_add_u64(self.tried, other.tried),
-            right: std::num::wrapping_add_u64(self.right, other.right),
-            widest: larger(self.widest, other.widest),
-            farthest: larger(self.farthest, other.farthest),
+impl Add for Tally {
+    type Output = Tally;
+
+    fn add(self, other: Tally) -> Tally {
+        Tally {
+            tried: self.tried.wrapping_add(other.tried),
+            right: self.right.wrapping_add(other.right),
+            widest: self.widest.max(other.widest),
+            farthest: self.farthest.max(other.farthest),
         }
     }
 }

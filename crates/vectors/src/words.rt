@@ -1,8 +1,7 @@
 // The words of a buffer that a report was written to, and the rows that are expected of it: words left as they were, and sums.
 ghost use Rattle.std.specs.Prelude.{◌<◌, ◌≤◌, length};
 
-use crate::input::u64_at;
-use crate::mass::ROW;
+use crate::items::item_at;
 
 // What the buffer holds before a call, larger than any mass
 pub const OLD: u64 = 17361641481138401520;
@@ -10,89 +9,67 @@ pub const OLD: u64 = 17361641481138401520;
 // The words of the buffer
 pub const WORDS: usize = 6144;
 
-// The words of the subtotals, six each for cars, light-duty, two-wheelers and all rows
-const SUMS: usize = 24;
+// The bytes of a row that is expected: nine numbers, the category first
+pub const ROW: usize = 72;
 
-// Whether the words from here on are as they were
-pub fn kept(words: &[u64; WORDS], from: usize) -> bool {
-    let mut i = from;
-    while i < WORDS {
-        if words[i] != OLD {
-            return false;
-        }
-        i += 1;
-    }
-    true
+// Whether the words are as they were
+pub fn kept(words: &[u64]) -> bool {
+    words.iter().all(|word| *word == OLD)
 }
 
 // Whether these words stand in a buffer from a place on
 pub fn stands(words: &[u64], place: usize, told: &[u64]) -> bool {
-    if words.len() < told.len() {
-        return false;
+    words
+        .get(place..)
+        .is_some_and(|rest| rest.starts_with(told))
+}
+
+// Whether a row counts in the subtotal of a category, or in that of all rows
+fn counts(row: &[u8; ROW], category: Option<u64>) -> bool {
+    category.is_none() || item_at(row, 0) == category
+}
+
+fn add(sums: &mut [u64; 6], words: &[u64; 6]) {
+    for (sum, word) in sums.iter_mut().zip(words) {
+        *sum = sum.wrapping_add(*word);
     }
-    if words.len() - told.len() < place {
-        return false;
-    }
-    let mut i: usize = 0;
-    while i < told.len() {
-        if words[place + i] != told[i] {
-            return false;
+}
+
+// The sums of the words of the rows that count in a subtotal
+fn sums_of(words: &[[u64; 6]], rows: &[[u8; ROW]], category: Option<u64>) -> [u64; 6] {
+    let mut sums = [0; 6];
+    for (words, row) in words.iter().zip(rows) {
+        if counts(row, category) {
+            add(&mut sums, words);
         }
-        i += 1;
     }
-    true
+    sums
 }
 
-// Whether a row of this category counts in subtotal 0, 1 or 2, which are those of categories 1, 2 and 3, or in 3, that of all rows
-fn counts(category: u64, subtotal: usize) -> bool
-    requires { subtotal < 4 }
-{
-    (subtotal == 3) | (category == subtotal as u64 + 1)
+// Whether the subtotals, which are those of categories 1, 2 and 3 and of all rows, are the sums of the rows' words
+fn subtotals_right(words: &[[u64; 6]], subtotals: &[[u64; 6]], rows: &[[u8; ROW]]) -> bool {
+    [Some(1), Some(2), Some(3), None].iter().zip(subtotals).all(|(category, sums)| sums_of(
+        words, rows, *category,
+    ) == *sums)
 }
 
-// The sum of word j of the rows that count in a subtotal
-fn sum_of(words: &[u64; WORDS], rows: &[u8], subtotal: usize, j: usize) -> u64
-    requires { (length rows.now ≤ 72000) × (subtotal < 4) × (j < 6) }
+// The low or the high end, 0 or 1, of the grand total of the three masses of all rows
+fn total(all: &[u64; 6], end: usize) -> u64
+    requires { end < 2 }
 {
-    let mut sum: u64 = 0;
-    let mut i = 0;
-    while i < rows.len() / ROW {
-        if counts(u64_at(rows, ROW * i), subtotal) {
-            sum = std::num::wrapping_add_u64(sum, words[6 * i + j]);
-        }
-        i += 1;
-    }
-    sum
-}
-
-// Whether the subtotals are the sums of the rows' words
-fn subtotals_right(words: &[u64; WORDS], rows: &[u8]) -> bool
-    requires { length rows.now ≤ 72000 }
-{
-    let at = 6 * (rows.len() / ROW);
-    let mut k = 0;
-    while k < SUMS {
-        if words[at + k] != sum_of(words, rows, k / 6, k % 6) {
-            return false;
-        }
-        k += 1;
-    }
-    true
-}
-
-// Whether a grand total is the sum of three of the words for all rows
-fn total_right(words: &[u64; WORDS], all: usize) -> bool
-    requires { all ≤ 6019 }
-{
-    let two = std::num::wrapping_add_u64(words[all], words[all + 2]);
-    words[all + 6] == std::num::wrapping_add_u64(two, words[all + 4])
+    all[end]
+        .wrapping_add(all[end + 2])
+        .wrapping_add(all[end + 4])
 }
 
 // Whether the subtotals and totals are the sums of the rows' words, and the words beyond the report as they were
-pub fn sums_right(words: &[u64; WORDS], rows: &[u8]) -> bool
-    requires { length rows.now ≤ 72000 }
+pub fn sums_right(words: &[u64; WORDS], rows: &[[u8; ROW]]) -> bool
+    requires { length rows.now ≤ 1000 }
 {
-    let all = 6 * (rows.len() / ROW) + 18;
-    let totals = total_right(words, all) & total_right(words, all + 1);
-    subtotals_right(words, rows) & totals & kept(words, all + 8)
+    let n = rows.len();
+    let (of_rows, _) = words.as_chunks();
+    let all = &of_rows[n + 3];
+    let at = 6 * n + 24;
+    let totals = (words[at] == total(all, 0)) & (words[at + 1] == total(all, 1));
+    subtotals_right(&of_rows[..n], &of_rows[n..n + 4], rows) & totals & kept(&words[at + 2..])
 }

@@ -2,24 +2,19 @@
 // far the largest lies above its lower bound, of how far it may.
 #![tactic(auto)]
 
-ghost use Rattle.std.specs.Prelude.{◌≡◌, ◌+◌, ◌^◌, ◌<◌, ◌≤◌, length};
+ghost use Rattle.std.specs.Prelude.{◌≡◌, ◌^◌, ◌<◌, ◌≤◌};
 ghost use Rattle.bounds.specs.Exponential.{entries, exponent_limit};
 ghost use Rattle.bounds.specs.Power.{power_error};
 
 use bounds::exp::{ExpTables, ZERO};
 use std::io;
-use vectors::input::u64_at;
-use vectors::print::{number, text};
-use vectors::tally::{Tally, Verdict, larger};
+use vectors::input::with_bytes;
+use vectors::items::{Item, Rest, tally_of};
+use vectors::tally::{Tally, Verdict};
 
-// Every number of the input has eight bytes. Two say how many exponents and how many temperatures there are; then comes a vector for
-// each exponent, and one for each temperature.
-const HEAD: usize = 16;
-
+// The bytes of a vector: every number of the input has eight. Two say how many exponents and how many temperatures there are; then comes a
+// vector for each exponent, and one for each temperature.
 const VECTOR: usize = 24;
-
-// The most exponents, or temperatures, in an input
-const MOST: u64 = 1000;
 
 // z = 1 / 4096 and 1 / 16, as an exponent is held
 const FINE_STEP: u64 = 1600024414062500;
@@ -47,19 +42,14 @@ struct Vector {
     at_60: u64,
 }
 
-fn vector_at(s: &[u8], at: usize) -> Vector
-    requires { at + 24 ≤ length s.now }
-{
-    Vector {
-        held: u64_at(s, at),
-        at_40: u64_at(s, at + 8),
-        at_60: u64_at(s, at + 16),
+impl<'a> Item<'a> for Vector {
+    fn read(input: &mut Rest<'a>) -> Option<Vector> {
+        Some(Vector {
+            held: input.item()?,
+            at_40: input.item()?,
+            at_60: input.item()?,
+        })
     }
-}
-
-// How far a value with this whole part is above its lower bound, in whole units
-fn above(low: u64, whole: u64) -> u64 {
-    if low < whole { whole - low } else { 0 }
 }
 
 // Whether every value with this whole part lies from low to low + error: the value itself can be nearly one unit larger.
@@ -76,37 +66,30 @@ fn verdict_of(low: u64, error: u64, v: Vector) -> Verdict
     Verdict {
         right: encloses(low, error, v.at_40) & encloses(low, error, v.at_60),
         width: error,
-        distance: above(low, larger(v.at_40, v.at_60)),
+        distance: v.at_40.max(v.at_60).saturating_sub(low),
     }
 }
 
-// A tally with one exponent more, where it lies in the range
-fn with_exponent(tables: &ExpTables, first: u64, limit: u64, v: Vector, tally: Tally) -> Tally
+// An exponent, where it lies in the range
+fn with_exponent(tables: &ExpTables, first: u64, limit: u64, v: Vector) -> Tally
     requires { (tables.now ≡ entries) × (limit ≤ exponent_limit) }
 {
     let x = v.held;
-    if x < first {
-        return tally;
-    }
-    if limit <= x {
-        return tally;
+    if (x < first) || (limit <= x) {
+        return Tally::default();
     }
     let low = bounds::exp::exponential(tables, x);
     let error = bounds::exp::exponential_error(tables, x);
-    tally.with(verdict_of(low, error, v))
+    verdict_of(low, error, v).into()
 }
 
 // The exponents from the first on that are below the limit
-fn exponentials(tables: &ExpTables, first: u64, limit: u64, s: &[u8]) -> Tally
+fn exponentials(tables: &ExpTables, first: u64, limit: u64, s: &[u8]) -> io::Result<Tally>
     requires { (tables.now ≡ entries) × (limit ≤ exponent_limit) }
 {
-    let mut tally = Tally::none();
-    let mut i = 0;
-    while i < s.len() / VECTOR {
-        tally = with_exponent(tables, first, limit, vector_at(s, VECTOR * i), tally);
-        i += 1;
-    }
-    tally
+    tally_of(s, |_, v: Vector| {
+        Ok(with_exponent(tables, first, limit, v))
+    })
 }
 
 // How far 2^24 T^2.5 can be above its lower bound
@@ -116,31 +99,26 @@ fn power_error() -> u64
     716
 }
 
-// A tally with one temperature more, where it is served
-fn with_temperature(v: Vector, tally: Tally) -> Tally {
-    let held = v.held;
-    if WARMEST < held {
-        return tally;
+// A temperature, where it is served
+fn with_temperature(v: Vector) -> Tally {
+    if WARMEST < v.held {
+        return Tally::default();
     }
-    tally.with(verdict_of(bounds::power::power(held), power_error(), v))
+    verdict_of(bounds::power::power(v.held), power_error(), v).into()
 }
 
-fn powers(s: &[u8]) -> Tally {
-    let mut tally = Tally::none();
-    let mut i = 0;
-    while i < s.len() / VECTOR {
-        tally = with_temperature(vector_at(s, VECTOR * i), tally);
-        i += 1;
-    }
-    tally
+fn powers(s: &[u8]) -> io::Result<Tally> {
+    tally_of(s, |_, v: Vector| Ok(with_temperature(v)))
 }
 
 fn print(rt: &impl Print, name: &str, tally: Tally) -> io::Result<()> {
-    number(rt, name, tally.tried)?;
-    number(rt, " enclosed ", tally.right)?;
-    number(rt, " largest error ", tally.farthest)?;
-    number(rt, " of ", tally.widest)?;
-    text(rt, "\n")
+    let Tally {
+        tried,
+        right,
+        widest,
+        farthest,
+    } = tally;
+    println!(rt; "{name}: {tried} enclosed {right} largest error {farthest} of {widest}")
 }
 
 // The line of a range of exponents
@@ -148,48 +126,39 @@ fn print_range(rt: &impl Print, name: &str, first: u64, limit: u64, s: &[u8]) ->
     requires { limit ≤ exponent_limit }
 {
     let tables = bounds::exp::tables();
-    print(rt, name, exponentials(&tables, first, limit, s))
+    print(rt, name, exponentials(&tables, first, limit, s)?)
 }
 
 // A line for each range, since the error follows the size of E. Below 1 / 4096 both table entries are 1 and the result is the quadratic;
 // below 1 / 16 the first is 1.
 fn print_ranges(rt: &impl Print, s: &[u8]) -> io::Result<()> {
-    print_range(rt, "exponentials from 0 below 1/4096: ", ZERO, FINE_STEP, s)?;
-    print_range(rt, "exponentials from 0 below 1/16: ", ZERO, COARSE_STEP, s)?;
-    print_range(rt, "exponentials up to 2.3: ", 0, PAST_2_3, s)?;
-    print_range(rt, "exponentials up to 3: ", 0, PAST_3, s)?;
-    print_range(rt, "exponentials up to 3.6: ", 0, PAST_3_6, s)?;
-    print_range(rt, "exponentials below 4.1: ", 0, LIMIT, s)
+    print_range(rt, "exponentials from 0 below 1/4096", ZERO, FINE_STEP, s)?;
+    print_range(rt, "exponentials from 0 below 1/16", ZERO, COARSE_STEP, s)?;
+    print_range(rt, "exponentials up to 2.3", 0, PAST_2_3, s)?;
+    print_range(rt, "exponentials up to 3", 0, PAST_3, s)?;
+    print_range(rt, "exponentials up to 3.6", 0, PAST_3_6, s)?;
+    print_range(rt, "exponentials below 4.1", 0, LIMIT, s)
 }
 
-// The input's two parts, or false where it is not of the length that it says
-fn report(rt: &impl Print, s: &[u8]) -> io::Result<bool> {
-    if s.len() < HEAD {
-        return Ok(false);
-    }
-    let exponents = u64_at(s, 0);
-    let temperatures = u64_at(s, 8);
-    if MOST < exponents {
-        return Ok(false);
-    }
-    if MOST < temperatures {
-        return Ok(false);
-    }
-    let middle = HEAD + VECTOR * exponents as usize;
-    let end = middle + VECTOR * temperatures as usize;
-    if s.len() != end {
-        return Ok(false);
-    }
-    print_ranges(rt, &s[HEAD..middle])?;
-    print(rt, "powers up to 65 degrees: ", powers(&s[middle..end]))?;
-    Ok(true)
+// The exponents and the temperatures, where the input is of the length that it says
+fn parts_of(input: &[u8]) -> Option<(&[u8], &[u8])> {
+    let mut rest = Rest::of(input);
+    let exponents = rest.item()?;
+    let temperatures = rest.item()?;
+    Some((
+        rest.vectors(exponents, VECTOR)?,
+        rest.last(temperatures, VECTOR)?,
+    ))
+}
+
+fn report(rt: &impl Print, input: &[u8]) -> io::Result<()> {
+    let Some((exponents, temperatures)) = parts_of(input) else {
+        return println!(rt; "the input is not of the length that it says");
+    };
+    print_ranges(rt, exponents)?;
+    print(rt, "powers up to 65 degrees", powers(temperatures)?)
 }
 
 fn main(rt: HostRuntime) -> io::Result<()> {
-    let mut buffer = vectors::input::buffer();
-    let n = vectors::input::read_input(&rt, &mut buffer)?;
-    if !report(&rt, &buffer[..n])? {
-        text(&rt, "the input is not of the length that it says\n")?;
-    }
-    Ok(())
+    with_bytes(&rt, |input| report(&rt, input))
 }

@@ -3,210 +3,174 @@
 // are refused as expected.
 #![tactic(auto)]
 
-ghost use Rattle.std.specs.Prelude.{◌+◌, ◌*◌, ◌≤◌, length};
-
-use inventory::FactorAnswer;
 use std::io;
-use vectors::factor::{Reply, reply_at};
-use vectors::input::{COUNT, mileage_at, record_at, u32_at, u64_at};
-use vectors::print::{number, text};
-use vectors::tally::{Tally, next};
+use vectors::answer::Refusal;
+use vectors::band::Band;
+use vectors::factor::Reply;
+use vectors::input::{has_mileage, hold};
+use vectors::items::{Item, Rest, tally_of};
+use vectors::tally::Tally;
 
-// The bytes before each sheet, its length and the number of its calls, and those of a call: season, row and factor, and the reply that
-// is expected
-const HEAD: usize = 4;
-
+// The bytes of a call
 const CALL: usize = 56;
 
 const LAST_FACTOR: u64 = 7;
 
-// The calls that are told apart: those to be refused, those for each factor, and those for a factor of a row with a mileage
-const REFUSED: u64 = 0;
+// The calls that are told apart: those to be refused, those for a factor, and those for any factor of a row with a mileage
+#[derive(Clone, Copy, Debug, PartialEq, Eq)]
+enum Kind {
+    Refused,
+    Factor(u64),
+    Driven,
+}
 
-const DRIVEN: u64 = 8;
-
-// A call's season, row and factor
+// A call's season, row and factor, and the reply that is expected
 #[derive(Clone, Copy)]
 struct Call {
     season: u64,
     row: u64,
     factor: u64,
+    expected: Reply,
 }
 
-fn call_at(s: &[u8], at: usize) -> Call
-    requires { at + 24 ≤ length s.now }
-{
-    Call {
-        season: u64_at(s, at),
-        row: u64_at(s, at + 8),
-        factor: u64_at(s, at + 16),
+// A sheet, and the calls on it
+#[derive(Clone, Copy)]
+struct Vector<'a> {
+    sheet: &'a [u8],
+    calls: &'a [u8],
+}
+
+impl<'a> Item<'a> for Call {
+    fn read(input: &mut Rest<'a>) -> Option<Call> {
+        Some(Call {
+            season: input.item()?,
+            row: input.item()?,
+            factor: input.item()?,
+            expected: input.item()?,
+        })
     }
 }
 
-fn reply_of(found: FactorAnswer) -> Reply {
+impl<'a> Item<'a> for Vector<'a> {
+    fn read(input: &mut Rest<'a>) -> Option<Vector<'a>> {
+        let bytes: u16 = input.item()?;
+        let calls: u16 = input.item()?;
+        Some(Vector {
+            sheet: input.part(bytes.into())?,
+            calls: input.part(CALL * usize::from(calls))?,
+        })
+    }
+}
+
+impl Kind {
+    // Whether a call on a sheet is of this kind
+    fn has(self, sheet: &[u8], call: Call) -> bool {
+        match self {
+            Kind::Refused => call.expected.0.is_err(),
+            Kind::Factor(factor) => call.expected.0.is_ok() & (call.factor == factor),
+            Kind::Driven => call.expected.0.is_ok() && has_mileage(sheet, call.row as usize),
+        }
+    }
+}
+
+fn reply_of(found: Result<inventory::Band, refusals::Refusal>) -> Reply {
     match found {
-        FactorAnswer::Refused(number, place) => Reply {
-            number,
-            place,
-            low: 0,
-            high: 0,
-        },
-        FactorAnswer::Band(low, high) => Reply {
-            number: 0,
-            place: 0,
-            low,
-            high,
-        },
+        Ok(band) => Reply(Ok(Band {
+            low: band.low,
+            high: band.high,
+        })),
+        Err(refusal) => Reply(Err(Refusal {
+            number: refusal.rule.number(),
+            place: refusal.place,
+        })),
     }
-}
-
-fn found_by(s: &[u8], c: Call) -> Reply {
-    reply_of(inventory::factor(s, c.season, c.row, c.factor))
-}
-
-// Whether a call is of a kind
-fn is_of(kind: u64, expected: u64, factor: u64, mileage: u64) -> bool {
-    if expected != 0 {
-        return kind == REFUSED;
-    }
-    (kind == factor) | ((kind == DRIVEN) & (mileage != 0))
 }
 
 // A line for a call whose answer is not right; sheets and the calls on each are counted from 1, as tools/vectors/factors.py lists them.
 fn print_other(
     rt: &impl Print,
     sheet: u64,
-    call: u64,
-    c: Call,
-    expected: Reply,
+    position: u64,
+    call: Call,
     found: Reply,
 ) -> io::Result<()> {
-    number(rt, "sheet ", sheet)?;
-    number(rt, " call ", call)?;
-    number(rt, ": season ", c.season)?;
-    number(rt, " row ", c.row)?;
-    number(rt, " factor ", c.factor)?;
-    expected.print(rt, ": expected ", " ng")?;
+    print!(rt;
+        "sheet {sheet} call {position}: season {} row {}",
+        call.season, call.row
+    )?;
+    print!(rt; " factor {}", call.factor)?;
+    call.expected.print(rt, ": expected ", " ng")?;
     found.print(rt, ", found ", " ug")?;
-    text(rt, "\n")
+    println!(rt; "")
 }
 
-// A tally with one call more, where it is of this kind
+// The verdict on a call, and a line where it is not right
 fn with_call(
     rt: &impl Print,
-    s: &[u8],
-    calls: &[u8],
-    i: usize,
-    sheet: u64,
-    kind: u64,
-    tally: Tally,
-) -> io::Result<Tally>
-    requires { 56 * i + 56 ≤ length calls.now }
-{
-    let c = call_at(calls, CALL * i);
-    let expected = reply_at(calls, CALL * i + 24);
-    if !is_of(kind, expected.number, c.factor, mileage_at(s, c.row)) {
-        return Ok(tally);
-    }
-    let found = found_by(s, c);
-    let verdict = found.verdict(expected);
+    sheet: &[u8],
+    position: u64,
+    number: u64,
+    call: Call,
+) -> io::Result<Tally> {
+    let found = reply_of(inventory::factor(sheet, call.season, call.row, call.factor));
+    let verdict = found.verdict(call.expected);
     if !verdict.right {
-        print_other(rt, sheet, i as u64 + 1, c, expected, found)?;
+        print_other(rt, position, number, call, found)?;
     }
-    Ok(tally.with(verdict))
+    Ok(verdict.into())
 }
 
 // The calls of one kind on one sheet
-fn tally_sheet(
-    rt: &impl Print,
-    s: &[u8],
-    calls: &[u8],
-    sheet: u64,
-    kind: u64,
-    before: Tally,
-) -> io::Result<Tally> {
-    let mut tally = before;
-    let mut i = 0;
-    while i < calls.len() / CALL {
-        tally = with_call(rt, s, calls, i, sheet, kind, tally)?;
-        i += 1;
-    }
-    Ok(tally)
+fn tally_sheet(rt: &impl Print, position: u64, vector: Vector, kind: Kind) -> io::Result<Tally> {
+    tally_of(vector.calls, |number, call: Call| {
+        if kind.has(vector.sheet, call) {
+            with_call(rt, vector.sheet, position, number, call)
+        } else {
+            Ok(Tally::default())
+        }
+    })
 }
 
-// The calls of one kind, up to the first sheet whose calls the end of the input cuts
-fn tally_of(rt: &impl Print, s: &[u8], kind: u64) -> io::Result<Tally> {
-    let mut tally = Tally::none();
-    let mut sheet: u64 = 0;
-    let mut at = 0;
-    while HEAD <= s.len() - at {
-        let record = record_at(s, at, HEAD, CALL);
-        let start = record.start;
-        let list = record.list;
-        let end = record.end;
-        if s.len() < end {
-            return Ok(tally);
-        }
-        sheet = next(sheet);
-        tally = tally_sheet(rt, &s[start..list], &s[list..end], sheet, kind, tally)?;
-        at = end;
-    }
-    Ok(tally)
+// The calls of one kind
+fn tally_kind(rt: &impl Print, vectors: &[u8], kind: Kind) -> io::Result<Tally> {
+    tally_of(vectors, |position, vector: Vector| {
+        tally_sheet(rt, position, vector, kind)
+    })
 }
 
 fn print_factors(rt: &impl Print, tally: Tally) -> io::Result<()> {
-    number(rt, ": ", tally.tried)?;
-    number(rt, " enclosed ", tally.right)?;
-    number(rt, " widest band ", tally.widest)?;
-    number(rt, " ug farthest from its middle ", tally.farthest)?;
-    text(rt, " ng\n")
-}
-
-fn print_factor(rt: &impl Print, k: u64, tally: Tally) -> io::Result<()> {
-    number(rt, "factor ", k)?;
-    print_factors(rt, tally)
+    print!(rt;
+        ": {} enclosed {} widest band {}",
+        tally.tried, tally.right, tally.widest
+    )?;
+    println!(rt; " ug farthest from its middle {} ng", tally.farthest)
 }
 
 // A line for each factor, and the tally of all of them
-fn report_factors(rt: &impl Print, s: &[u8]) -> io::Result<Tally> {
-    let mut all = Tally::none();
-    let mut k: u64 = 1;
-    while k <= LAST_FACTOR {
-        let tally = tally_of(rt, s, k)?;
-        print_factor(rt, k, tally)?;
-        all = all.plus(tally);
-        k += 1;
+fn report_factors(rt: &impl Print, vectors: &[u8]) -> io::Result<Tally> {
+    let mut all = Tally::default();
+    for factor in 1..=LAST_FACTOR {
+        let tally = tally_kind(rt, vectors, Kind::Factor(factor))?;
+        print!(rt; "factor {factor}")?;
+        print_factors(rt, tally)?;
+        all = all + tally;
     }
     Ok(all)
 }
 
-// The lines of the factors, and that of the refusals; how many calls they count
-fn print_all(rt: &impl Print, s: &[u8]) -> io::Result<u64> {
-    let factors = report_factors(rt, s)?;
-    text(rt, "factors")?;
+// The lines of the factors, and that of the refusals; how many calls they count. A call that is cut off, or of an accepted factor that is none of
+// the seven, is missing; the count that the input gives shows it.
+fn print_all(rt: &impl Print, vectors: &[u8]) -> io::Result<u64> {
+    let factors = report_factors(rt, vectors)?;
+    print!(rt; "factors")?;
     print_factors(rt, factors)?;
-    text(rt, "rows with a mileage")?;
-    print_factors(rt, tally_of(rt, s, DRIVEN)?)?;
-    let refused = tally_of(rt, s, REFUSED)?;
-    number(rt, "refused calls ", refused.tried)?;
-    number(rt, " alike ", refused.right)?;
-    text(rt, "\n")?;
-    let all = factors.plus(refused);
-    Ok(all.tried)
-}
-
-// A call that is cut off, or of an accepted factor that is none of the seven, is missing from the tallies; the count that the input
-// gives shows it.
-fn report(rt: &impl Print, s: &[u8]) -> io::Result<()> {
-    if s.len() < COUNT {
-        return vectors::print::no_count(rt);
-    }
-    let tried = print_all(rt, &s[COUNT..])?;
-    vectors::print::count(rt, tried, u32_at(s, 0), " calls\n")
+    print!(rt; "rows with a mileage")?;
+    print_factors(rt, tally_kind(rt, vectors, Kind::Driven)?)?;
+    let refused = tally_kind(rt, vectors, Kind::Refused)?;
+    println!(rt; "refused calls {} alike {}", refused.tried, refused.right)?;
+    Ok((factors + refused).tried)
 }
 
 fn main(rt: HostRuntime) -> io::Result<()> {
-    let mut buffer = vectors::input::buffer();
-    let n = vectors::input::read_input(&rt, &mut buffer)?;
-    report(&rt, &buffer[..n])
+    hold(&rt, " calls", |vectors| print_all(&rt, vectors))
 }

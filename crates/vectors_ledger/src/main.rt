@@ -2,207 +2,113 @@
 // answered as the plain machine says, leave the bytes that it says, and leave the words of a fresh report of these bytes.
 #![tactic(auto)]
 
-ghost use Rattle.std.specs.Prelude.{◌+◌, ◌≤◌, length};
-ghost use Rattle.sheet.specs.Limits.{longest};
-
-use crate::runs::{call_right, opens, report_into, room_of};
+use crate::runs::{Asked, Opened, call_right, opens, report_into};
 use std::io;
-use vectors::bytes::{LONGEST, copy};
-use vectors::input::{COUNT, record_at, u8_at, u32_at};
-use vectors::print::{number, text};
-use vectors::tally::{Tally, Verdict, next, smaller};
+use vectors::bytes::{LONGEST, room};
+use vectors::input::hold;
+use vectors::items::tally_of;
+use vectors::tally::Tally;
 use vectors::words::{OLD, WORDS};
 
 mod runs;
 
-// The bytes before each sheet, five numbers of two: its length, how many calls, the words of the buffer, and the number and place at which
-// opening it is refused, both 0 where it is a ledger
-const HEAD: usize = 10;
-
-// The bytes of a call: one that tells an arrival, 0, from a departure, 1; the row and the vehicles in eight each; the number that is expected in
-// one and the place in two; then the place in the sheet of the count that is changed in two, 0 where none is, and that count in four
-const CALL: usize = 26;
-
 // What is looked at in one pass: the openings, the calls that are to pass, or those that are to be refused
-const OPENINGS: u64 = 0;
-
-const PASSED: u64 = 1;
-
-const REFUSED: u64 = 2;
-
-// A pass, and the ledger that it is at, counted from 1
-#[derive(Clone, Copy)]
-struct Look {
-    pass: u64,
-    ledger: u64,
+#[derive(Clone, Copy, Debug, PartialEq, Eq)]
+enum Pass {
+    Openings,
+    Passed,
+    Refused,
 }
 
-// A tally with one more, and a line where it is not right
-fn with_verdict(
-    rt: &impl Print,
-    right: bool,
-    what: &str,
-    at: u64,
-    look: Look,
-    tally: Tally,
-) -> io::Result<Tally> {
+impl Pass {
+    // Whether a pass looks at the calls with this number
+    fn looks_at(self, number: u64) -> bool {
+        match self {
+            Pass::Openings => false,
+            Pass::Passed => number == 0,
+            Pass::Refused => number != 0,
+        }
+    }
+}
+
+// An opening, and a line where it is not right; ledgers are counted from 1.
+fn with_opening(rt: &impl Print, ledger: u64, opened: Opened) -> io::Result<Tally> {
+    let right = opens(opened);
     if !right {
-        number(rt, "ledger ", look.ledger)?;
-        number(rt, what, at)?;
-        text(rt, " is answered or left otherwise\n")?;
+        println!(rt; "ledger {ledger} opening is answered or left otherwise")?;
     }
-    Ok(tally.with(Verdict::bare(right)))
+    Ok(right.into())
 }
 
-// A tally with one call more, where the pass looks at calls of this number
-fn with_call(
-    rt: &impl Print,
-    right: bool,
-    number: u64,
-    at: u64,
-    look: Look,
-    tally: Tally,
-) -> io::Result<Tally> {
-    let pass = if number == 0 { PASSED } else { REFUSED };
-    if look.pass != pass {
-        return Ok(tally);
+// A call, and a line where it is not right; calls are counted from 1.
+fn with_call(rt: &impl Print, ledger: u64, call: u64, right: bool) -> io::Result<Tally> {
+    if !right {
+        println!(rt; "ledger {ledger} call {call} is answered or left otherwise")?;
     }
-    with_verdict(rt, right, " call ", at, look, tally)
+    Ok(right.into())
 }
 
-// The calls on a ledger, one after another
+// The calls on a ledger, one after another, which change the sheet, the sheet that is expected and the words
 fn with_calls(
     rt: &impl Print,
+    ledger: u64,
+    opened: Opened,
     sheet: &mut [u8],
     expected: &mut [u8],
-    words: &mut [u64],
-    calls: &[u8],
-    look: Look,
-    before: Tally,
-) -> io::Result<Tally>
-    requires { length words.old ≤ 6144 }
-{
-    let mut tally = before;
-    let mut call: u64 = 0;
-    let mut at: usize = 0;
-    while CALL <= calls.len() - at {
-        let end = at + CALL;
-        let right = call_right(sheet, expected, words, &calls[at..end]);
-        call = next(call);
-        tally = with_call(rt, right, u8_at(calls, at + 17), call, look, tally)?;
-        at = end;
-    }
-    Ok(tally)
-}
-
-// The sheet is opened in so many words, and the calls are made on it.
-fn with_words(
-    rt: &impl Print,
-    sheet: &mut [u8],
-    expected: &mut [u8],
-    room: usize,
-    calls: &[u8],
-    look: Look,
-    tally: Tally,
-) -> io::Result<Tally>
-    requires { room ≤ 6144 }
-{
-    let mut words = [OLD; WORDS];
-    report_into(sheet, room, &mut words);
-    with_calls(rt, sheet, expected, &mut words[0..room], calls, look, tally)
-}
-
-// With a copy of the sheet that is to have the counts that are expected
-fn with_copy(
-    rt: &impl Print,
-    sheet: &mut [u8],
-    room: usize,
-    calls: &[u8],
-    look: Look,
-    tally: Tally,
-) -> io::Result<Tally>
-    requires { (length sheet.old ≤ longest) × (room ≤ 6144) }
-{
-    let n = sheet.len();
-    let mut expected = vectors::bytes::room();
-    copy(&mut expected, sheet);
-    with_words(rt, sheet, &mut expected[0..n], room, calls, look, tally)
-}
-
-// A ledger: whether it opens as expected, or its calls
-fn with_ledger(
-    rt: &impl Print,
-    s: &[u8],
-    calls: &[u8],
-    head: &[u8],
-    look: Look,
-    tally: Tally,
-) -> io::Result<Tally>
-    requires { (length s.now ≤ longest) × (10 ≤ length head.now) }
-{
-    if look.pass == OPENINGS {
-        return with_verdict(rt, opens(s, head), " opening ", 0, look, tally);
-    }
-    let room = room_of(head);
-    let n = s.len();
-    let mut sheet = vectors::bytes::room();
-    copy(&mut sheet, s);
-    with_copy(rt, &mut sheet[0..n], room, calls, look, tally)
-}
-
-// The ledgers of one pass, up to the first that the end of the input cuts
-fn tally_of(rt: &impl Print, s: &[u8], pass: u64) -> io::Result<Tally> {
-    let mut tally = Tally::none();
-    let mut ledger: u64 = 0;
-    let mut at = 0;
-    while HEAD <= s.len() - at {
-        let record = record_at(s, at, HEAD, CALL);
-        let start = record.start;
-        let list = record.list;
-        let end = record.end;
-        if s.len() < end {
-            return Ok(tally);
+    pass: Pass,
+) -> io::Result<Tally> {
+    let mut buffer = [OLD; WORDS];
+    let _ = report_into(sheet, opened.room, &mut buffer);
+    let words = &mut buffer[..opened.room.min(WORDS)];
+    tally_of(opened.calls, |call, asked: Asked| {
+        let right = call_right(sheet, expected, words, asked);
+        if pass.looks_at(asked.number) {
+            with_call(rt, ledger, call, right)
+        } else {
+            Ok(Tally::default())
         }
-        let sheet = start + smaller(list - start, LONGEST);
-        ledger = next(ledger);
-        let look = Look { pass, ledger };
-        tally = with_ledger(
-            rt,
-            &s[start..sheet],
-            &s[list..end],
-            &s[at..start],
-            look,
-            tally,
-        )?;
-        at = end;
-    }
-    Ok(tally)
+    })
+}
+
+// The calls on two copies of the sheet: the ledger's, and the one that is to have the counts that are expected
+fn with_copies(rt: &impl Print, ledger: u64, opened: Opened, pass: Pass) -> io::Result<Tally> {
+    let (mut sheet, mut expected) = (room(), room());
+    let n = opened.sheet.len().min(LONGEST);
+    sheet[..n].copy_from_slice(&opened.sheet[..n]);
+    expected[..n].copy_from_slice(&opened.sheet[..n]);
+    with_calls(
+        rt,
+        ledger,
+        opened,
+        &mut sheet[..n],
+        &mut expected[..n],
+        pass,
+    )
+}
+
+// The ledgers of one pass: whether they open as expected, or their calls
+fn tally_pass(rt: &impl Print, ledgers: &[u8], pass: Pass) -> io::Result<Tally> {
+    tally_of(ledgers, |ledger, opened: Opened| match pass {
+        Pass::Openings => with_opening(rt, ledger, opened),
+        Pass::Passed | Pass::Refused => with_copies(rt, ledger, opened, pass),
+    })
 }
 
 // The line of one pass
-fn print(rt: &impl Print, s: &[u8], pass: u64, name: &str) -> io::Result<Tally> {
-    let tally = tally_of(rt, s, pass)?;
-    number(rt, name, tally.tried)?;
-    number(rt, " right ", tally.right)?;
-    text(rt, "\n")?;
+fn print_pass(rt: &impl Print, ledgers: &[u8], pass: Pass, name: &str) -> io::Result<Tally> {
+    let tally = tally_pass(rt, ledgers, pass)?;
+    println!(rt; "{name} {} right {}", tally.tried, tally.right)?;
     Ok(tally)
 }
 
-// A ledger that is cut off is missing from the tallies; the count of calls that the input gives shows it.
-fn report(rt: &impl Print, s: &[u8]) -> io::Result<()> {
-    if s.len() < COUNT {
-        return vectors::print::no_count(rt);
-    }
-    let ledgers = &s[COUNT..];
-    print(rt, ledgers, OPENINGS, "openings ")?;
-    let passed = print(rt, ledgers, PASSED, "calls that pass ")?;
-    let refused = print(rt, ledgers, REFUSED, "calls that are refused ")?;
-    let both = passed.plus(refused);
-    vectors::print::count(rt, both.tried, u32_at(s, 0), " calls\n")
+// The line of each pass, and how many calls they looked at. A ledger that is cut off is missing; the count that the input gives shows it.
+fn report(rt: &impl Print, ledgers: &[u8]) -> io::Result<u64> {
+    print_pass(rt, ledgers, Pass::Openings, "openings")?;
+    let passed = print_pass(rt, ledgers, Pass::Passed, "calls that pass")?;
+    let refused = print_pass(rt, ledgers, Pass::Refused, "calls that are refused")?;
+    Ok((passed + refused).tried)
 }
 
 fn main(rt: HostRuntime) -> io::Result<()> {
-    let mut buffer = vectors::input::buffer();
-    let n = vectors::input::read_input(&rt, &mut buffer)?;
-    report(&rt, &buffer[..n])
+    hold(&rt, " calls", |ledgers| report(&rt, ledgers))
 }

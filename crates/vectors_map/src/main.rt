@@ -2,7 +2,7 @@
 // each number are tried, and how many of them get that number, its place and those cells.
 #![tactic(auto)]
 
-ghost use Rattle.std.specs.Prelude.{◌≡◌, ◌+◌, ◌*◌, ◌≤◌, length};
+ghost use Rattle.std.specs.Prelude.{◌≡◌};
 ghost use Rattle.std.specs.Float.{binary64};
 ghost use Rattle.std.specs.Float.Ieee.{nan_bits};
 
@@ -10,21 +10,57 @@ use boundary::{EvpCell, EvpCellSum, EvpRowCells, EvpTravel};
 use evaporation::map::{evp_add_cells, evp_cells_of_row};
 use map_shares::{Mileages, Span, Speeds, Words};
 use std::io;
-use vectors::input::{u32_at, u64_at};
-use vectors::print::{number, text};
-use vectors::tally::{Tally, Verdict, next};
+use vectors::band::Band;
+use vectors::input::{print_count, with_bytes};
+use vectors::items::{Item, Rest, tally_of};
+use vectors::tally::Tally;
 
-// How many rows and how many sums there are, then the rows, then the sums. Every number but these two has eight bytes.
-const HEAD: usize = 8;
-
-// A row: six words, six numbers of where its vehicles drive, and the answer; a sum: two cells, and the answer
+// The bytes of a row and of a sum. The input has how many rows and how many sums there are, then the rows, then the sums. Every number but these
+// two has eight bytes.
 const ROW: usize = 184;
-
-const ROW_ANSWER: usize = 96;
 
 const SUM: usize = 88;
 
-const SUM_ANSWER: usize = 48;
+// A cell with its doubles as patterns
+#[derive(Clone, Copy, Debug, PartialEq, Eq)]
+struct Cell {
+    kind: u64,
+    low: u64,
+    high: u64,
+}
+
+// What a call answers: a number, 0 where it is accepted, a place, and three cells or one
+#[derive(Clone, Copy, Debug, PartialEq, Eq)]
+struct RowAnswer {
+    number: u64,
+    place: u64,
+    urban: Cell,
+    rural: Cell,
+    highway: Cell,
+}
+
+#[derive(Clone, Copy, Debug, PartialEq, Eq)]
+struct SumAnswer {
+    number: u64,
+    place: u64,
+    cell: Cell,
+}
+
+// A row: six words, six numbers of where its vehicles drive, and the answer that is expected
+#[derive(Clone, Copy)]
+struct Row {
+    words: Words,
+    travel: EvpTravel,
+    expected: RowAnswer,
+}
+
+// A sum: two cells, and the answer
+#[derive(Clone, Copy)]
+struct Sum {
+    first: Cell,
+    second: Cell,
+    expected: SumAnswer,
+}
 
 // The patterns of a NaN have 2047 in the bits between the sign and these, which are not all 0.
 const FRACTION: u64 = 4503599627370496;
@@ -48,214 +84,216 @@ fn double_of(bits: u64) -> f64 {
 
 // The pattern of a double; for a NaN, which no answer should have, one that no vector expects
 fn bits_of(x: f64) -> u64 {
-    if x == x {
-        f64::to_bits(x)
-    } else {
-        18446744073709551615
+    if x == x { f64::to_bits(x) } else { u64::MAX }
+}
+
+impl From<Cell> for EvpCell {
+    fn from(cell: Cell) -> EvpCell {
+        EvpCell {
+            kind: cell.kind,
+            low: double_of(cell.low),
+            high: double_of(cell.high),
+        }
     }
 }
 
-fn span_at(s: &[u8], at: usize) -> Span
-    requires { at + 16 ≤ length s.now }
-{
+impl From<EvpCell> for Cell {
+    fn from(cell: EvpCell) -> Cell {
+        Cell {
+            kind: cell.kind,
+            low: bits_of(cell.low),
+            high: bits_of(cell.high),
+        }
+    }
+}
+
+impl From<EvpRowCells> for RowAnswer {
+    fn from(cells: EvpRowCells) -> RowAnswer {
+        RowAnswer {
+            number: cells.number,
+            place: cells.place,
+            urban: cells.urban.into(),
+            rural: cells.rural.into(),
+            highway: cells.highway.into(),
+        }
+    }
+}
+
+impl From<EvpCellSum> for SumAnswer {
+    fn from(sum: EvpCellSum) -> SumAnswer {
+        SumAnswer {
+            number: sum.number,
+            place: sum.place,
+            cell: sum.cell.into(),
+        }
+    }
+}
+
+fn span_of(band: Band) -> Span {
     Span {
-        low: u64_at(s, at),
-        high: u64_at(s, at + 8),
+        low: band.low,
+        high: band.high,
     }
 }
 
-fn words_at(s: &[u8], at: usize) -> Words
-    requires { at + 48 ≤ length s.now }
-{
-    Words {
-        diurnal: span_at(s, at),
-        soak: span_at(s, at + 16),
-        running: span_at(s, at + 32),
+impl<'a> Item<'a> for Cell {
+    fn read(input: &mut Rest<'a>) -> Option<Cell> {
+        Some(Cell {
+            kind: input.item()?,
+            low: input.item()?,
+            high: input.item()?,
+        })
     }
 }
 
-fn travel_at(s: &[u8], at: usize) -> EvpTravel
-    requires { at + 48 ≤ length s.now }
-{
-    let mileage = Mileages {
-        urban: u64_at(s, at + 8),
-        rural: u64_at(s, at + 16),
-        highway: u64_at(s, at + 24),
-    };
-    let speed = Speeds {
-        rural: u64_at(s, at + 32),
-        highway: u64_at(s, at + 40),
-    };
-    EvpTravel {
-        town: u64_at(s, at),
-        mileage,
-        speed,
+impl<'a> Item<'a> for RowAnswer {
+    fn read(input: &mut Rest<'a>) -> Option<RowAnswer> {
+        Some(RowAnswer {
+            number: input.item()?,
+            place: input.item()?,
+            urban: input.item()?,
+            rural: input.item()?,
+            highway: input.item()?,
+        })
     }
 }
 
-fn cell_at(s: &[u8], at: usize) -> EvpCell
-    requires { at + 24 ≤ length s.now }
-{
-    EvpCell {
-        kind: u64_at(s, at),
-        low: double_of(u64_at(s, at + 8)),
-        high: double_of(u64_at(s, at + 16)),
+impl<'a> Item<'a> for SumAnswer {
+    fn read(input: &mut Rest<'a>) -> Option<SumAnswer> {
+        Some(SumAnswer {
+            number: input.item()?,
+            place: input.item()?,
+            cell: input.item()?,
+        })
     }
 }
 
-// Whether a cell has this kind and these bits
-fn cell_is(c: EvpCell, s: &[u8], at: usize) -> bool
-    requires { at + 24 ≤ length s.now }
-{
-    (c.kind == u64_at(s, at))
-        & (bits_of(c.low) == u64_at(s, at + 8))
-        & (bits_of(c.high) == u64_at(s, at + 16))
+impl<'a> Item<'a> for Row {
+    fn read(input: &mut Rest<'a>) -> Option<Row> {
+        let words = Words {
+            diurnal: span_of(input.item()?),
+            soak: span_of(input.item()?),
+            running: span_of(input.item()?),
+        };
+        let town = input.item()?;
+        let mileage = Mileages {
+            urban: input.item()?,
+            rural: input.item()?,
+            highway: input.item()?,
+        };
+        let speed = Speeds {
+            rural: input.item()?,
+            highway: input.item()?,
+        };
+        Some(Row {
+            words,
+            travel: EvpTravel {
+                town,
+                mileage,
+                speed,
+            },
+            expected: input.item()?,
+        })
+    }
 }
 
-fn row_is(r: EvpRowCells, s: &[u8], at: usize) -> bool
-    requires { at + 88 ≤ length s.now }
-{
-    let u = r.urban;
-    let l = r.rural;
-    let h = r.highway;
-    (r.number == u64_at(s, at))
-        & (r.place == u64_at(s, at + 8))
-        & cell_is(u, s, at + 16)
-        & cell_is(l, s, at + 40)
-        & cell_is(h, s, at + 64)
+impl<'a> Item<'a> for Sum {
+    fn read(input: &mut Rest<'a>) -> Option<Sum> {
+        Some(Sum {
+            first: input.item()?,
+            second: input.item()?,
+            expected: input.item()?,
+        })
+    }
 }
 
-fn sum_is(r: EvpCellSum, s: &[u8], at: usize) -> bool
-    requires { at + 40 ≤ length s.now }
-{
-    let c = r.cell;
-    (r.number == u64_at(s, at)) & (r.place == u64_at(s, at + 8)) & cell_is(c, s, at + 16)
-}
-
-// A line for an answer that is another than the one expected; rows and sums are counted from 1, as tools/vectors/cells.py lists them.
-fn print_other(
+// An answer, and a line where it is another than the one expected; rows and sums are counted from 1, as tools/vectors/cells.py lists them.
+fn with_answer<A: Copy + PartialEq>(
     rt: &impl Print,
     what: &str,
     position: u64,
-    expected: u64,
-    found: u64,
-) -> io::Result<()> {
-    number(rt, what, position)?;
-    number(rt, ": expected number ", expected)?;
-    number(rt, ", found ", found)?;
-    text(rt, ", or other cells\n")
-}
-
-// A tally with one row more, where its number is this one
-fn with_row(
-    rt: &impl Print,
-    s: &[u8],
-    at: usize,
-    position: u64,
-    n: u64,
-    tally: Tally,
-) -> io::Result<Tally>
-    requires { at + 184 ≤ length s.now }
-{
-    let expected = u64_at(s, at + ROW_ANSWER);
-    if expected != n {
-        return Ok(tally);
-    }
-    let found = evp_cells_of_row(words_at(s, at), travel_at(s, at + 48));
-    let right = row_is(found, s, at + ROW_ANSWER);
+    number: u64,
+    expected: A,
+    found: A,
+) -> io::Result<Tally> {
+    let right = found == expected;
     if !right {
-        print_other(rt, "row ", position, expected, found.number)?;
+        println!(rt; "{what} {position}: expected number {number}, found another or other cells")?;
     }
-    Ok(tally.with(Verdict::bare(right)))
-}
-
-fn with_sum(
-    rt: &impl Print,
-    s: &[u8],
-    at: usize,
-    position: u64,
-    n: u64,
-    tally: Tally,
-) -> io::Result<Tally>
-    requires { at + 88 ≤ length s.now }
-{
-    let expected = u64_at(s, at + SUM_ANSWER);
-    if expected != n {
-        return Ok(tally);
-    }
-    let found = evp_add_cells(cell_at(s, at), cell_at(s, at + 24));
-    let right = sum_is(found, s, at + SUM_ANSWER);
-    if !right {
-        print_other(rt, "sum ", position, expected, found.number)?;
-    }
-    Ok(tally.with(Verdict::bare(right)))
+    Ok(right.into())
 }
 
 // The rows of one number
-fn tally_rows(rt: &impl Print, s: &[u8], n: u64) -> io::Result<Tally> {
-    let mut tally = Tally::none();
-    let mut i = 0;
-    while i < s.len() / ROW {
-        tally = with_row(rt, s, ROW * i, next(i as u64), n, tally)?;
-        i += 1;
-    }
+fn tally_rows(rt: &impl Print, rows: &[u8], number: u64) -> io::Result<Tally> {
+    tally_of(rows, |position, row: Row| {
+        if row.expected.number != number {
+            return Ok(Tally::default());
+        }
+        let found = RowAnswer::from(evp_cells_of_row(row.words, row.travel));
+        with_answer(rt, "row", position, number, row.expected, found)
+    })
+}
+
+// The sums of one number
+fn tally_sums(rt: &impl Print, sums: &[u8], number: u64) -> io::Result<Tally> {
+    tally_of(sums, |position, sum: Sum| {
+        if sum.expected.number != number {
+            return Ok(Tally::default());
+        }
+        let found = SumAnswer::from(evp_add_cells(sum.first.into(), sum.second.into()));
+        with_answer(rt, "sum", position, number, sum.expected, found)
+    })
+}
+
+// A line for the rows or the sums of one number
+fn print_tally(rt: &impl Print, words: &str, tally: Tally) -> io::Result<Tally> {
+    println!(rt; "{words} {} agree {}", tally.tried, tally.right)?;
     Ok(tally)
 }
 
-fn tally_sums(rt: &impl Print, s: &[u8], n: u64) -> io::Result<Tally> {
-    let mut tally = Tally::none();
-    let mut i = 0;
-    while i < s.len() / SUM {
-        tally = with_sum(rt, s, SUM * i, next(i as u64), n, tally)?;
-        i += 1;
-    }
-    Ok(tally)
+fn report_rows(rt: &impl Print, rows: &[u8]) -> io::Result<u64> {
+    let given = print_tally(rt, "rows with cells", tally_rows(rt, rows, 0)?)?;
+    let wrong = print_tally(rt, "rows refused 27:", tally_rows(rt, rows, 27)?)?;
+    let travel = print_tally(rt, "rows refused 28:", tally_rows(rt, rows, 28)?)?;
+    Ok((given + wrong + travel).tried)
 }
 
-fn print_tally(rt: &impl Print, words: &str, tally: Tally) -> io::Result<()> {
-    number(rt, words, tally.tried)?;
-    number(rt, " agree ", tally.right)?;
-    text(rt, "\n")
+fn report_sums(rt: &impl Print, sums: &[u8]) -> io::Result<u64> {
+    let given = print_tally(rt, "sums with a cell", tally_sums(rt, sums, 0)?)?;
+    let wrong = print_tally(rt, "sums refused 27:", tally_sums(rt, sums, 27)?)?;
+    Ok((given + wrong).tried)
 }
 
-fn report_rows(rt: &impl Print, s: &[u8]) -> io::Result<u64> {
-    let given = tally_rows(rt, s, 0)?;
-    let wrong = tally_rows(rt, s, 27)?;
-    let travel = tally_rows(rt, s, 28)?;
-    print_tally(rt, "rows with cells ", given)?;
-    print_tally(rt, "rows refused 27: ", wrong)?;
-    print_tally(rt, "rows refused 28: ", travel)?;
-    let some = given.plus(wrong);
-    let all = some.plus(travel);
-    Ok(all.tried)
+// The counts of rows and sums, the rows and the sums, where the input is of the length that it says
+fn parts_of(input: &[u8]) -> Option<(&[u8], &[u8])> {
+    let mut rest = Rest::of(input);
+    let rows: u32 = rest.item()?;
+    let sums: u32 = rest.item()?;
+    Some((
+        rest.vectors(rows.into(), ROW)?,
+        rest.last(sums.into(), SUM)?,
+    ))
 }
 
-fn report_sums(rt: &impl Print, s: &[u8]) -> io::Result<u64> {
-    let given = tally_sums(rt, s, 0)?;
-    let wrong = tally_sums(rt, s, 27)?;
-    print_tally(rt, "sums with a cell ", given)?;
-    print_tally(rt, "sums refused 27: ", wrong)?;
-    let all = given.plus(wrong);
-    Ok(all.tried)
-}
-
-// A row or a sum that is cut off, or whose number is none of these, is missing from the tallies; the counts that the input gives show it.
-fn report(rt: &impl Print, s: &[u8]) -> io::Result<()> {
-    if s.len() < HEAD {
-        return vectors::print::no_count(rt);
-    }
-    let rows = u32_at(s, 0);
-    let sums = u32_at(s, 4);
-    let split = HEAD + ROW * rows as usize;
-    if s.len() < split {
-        return vectors::print::count(rt, 0, rows, " rows\n");
-    }
-    vectors::print::count(rt, report_rows(rt, &s[HEAD..split])?, rows, " rows\n")?;
-    vectors::print::count(rt, report_sums(rt, &s[split..])?, sums, " sums\n")
+// A row or a sum whose number is none of these is missing from the tallies.
+fn report(rt: &impl Print, input: &[u8]) -> io::Result<()> {
+    let Some((rows, sums)) = parts_of(input) else {
+        return println!(rt; "the input is not of the length that it says");
+    };
+    print_count(
+        rt,
+        report_rows(rt, rows)?,
+        (rows.len() / ROW) as u64,
+        " rows",
+    )?;
+    print_count(
+        rt,
+        report_sums(rt, sums)?,
+        (sums.len() / SUM) as u64,
+        " sums",
+    )
 }
 
 fn main(rt: HostRuntime) -> io::Result<()> {
-    let mut buffer = vectors::input::buffer();
-    let n = vectors::input::read_input(&rt, &mut buffer)?;
-    report(&rt, &buffer[..n])
+    with_bytes(&rt, |input| report(&rt, input))
 }

@@ -2,26 +2,86 @@
 // figures are to get each verdict, and how many of them get it and are off by as much.
 #![tactic(auto)]
 
-ghost use Rattle.std.specs.Prelude.{◌≤◌, length};
-
 use marking::{Filed, Unit, Verdict, mark};
-use std::io;
-use vectors::input::{COUNT, u32_at, u64_at};
-use vectors::print::{number, text};
-use vectors::tally::{Tally, next};
+use std::{fmt, io};
+use vectors::input::hold;
+use vectors::items::{Item, Rest, tally_of};
+use vectors::tally::Tally;
 
-// A figure has seven numbers of eight bytes: its digits, how many stand behind the point, its unit, the band's low and
-// high, and the mark.
-const VECTOR: usize = 56;
+// A verdict without how far the figure is off
+#[derive(Clone, Copy, Debug, PartialEq, Eq)]
+enum Kind {
+    Agrees,
+    Fits,
+    Low,
+    High,
+    Unreadable,
+}
 
-const VERDICTS: u64 = 5;
+// A verdict, and how many milligrams the figure is off, 0 where it has no such distance
+#[derive(Clone, Copy, Debug, PartialEq, Eq)]
+struct Mark {
+    kind: Kind,
+    off: u64,
+}
 
-// A verdict, from 0 agrees, fits, low, high and unreadable; and how many milligrams the figure is off, 0 where it has
-// no such distance
+// A figure, the band's low and high, and the mark that is expected
 #[derive(Clone, Copy)]
-pub struct Mark {
-    pub verdict: u64,
-    pub off: u64,
+struct Vector {
+    filed: Filed,
+    low: u64,
+    high: u64,
+    expected: Mark,
+}
+
+// A number of the input that stands for no verdict
+#[derive(Clone, Copy, Debug, PartialEq, Eq)]
+struct NoVerdict;
+
+impl TryFrom<u64> for Kind {
+    type Error = NoVerdict;
+
+    fn try_from(verdict: u64) -> Result<Kind, NoVerdict> {
+        match verdict {
+            0 => Ok(Kind::Agrees),
+            1 => Ok(Kind::Fits),
+            2 => Ok(Kind::Low),
+            3 => Ok(Kind::High),
+            4 => Ok(Kind::Unreadable),
+            _ => Err(NoVerdict),
+        }
+    }
+}
+
+impl fmt::Display for Kind {
+    fn fmt<W: fmt::Write>(&self, f: &mut fmt::Formatter<W>) -> fmt::Result {
+        f.write_str(match self {
+            Kind::Agrees => "agrees",
+            Kind::Fits => "fits",
+            Kind::Low => "low",
+            Kind::High => "high",
+            Kind::Unreadable => "unreadable",
+        })
+    }
+}
+
+impl fmt::Display for Mark {
+    fn fmt<W: fmt::Write>(&self, f: &mut fmt::Formatter<W>) -> fmt::Result {
+        write!(f, "{} by {}", self.kind, self.off)
+    }
+}
+
+impl From<Verdict> for Mark {
+    fn from(verdict: Verdict) -> Mark {
+        let (kind, off) = match verdict {
+            Verdict::Agrees => (Kind::Agrees, 0),
+            Verdict::Fits => (Kind::Fits, 0),
+            Verdict::Low(off) => (Kind::Low, off),
+            Verdict::High(off) => (Kind::High, off),
+            Verdict::Unreadable => (Kind::Unreadable, 0),
+        };
+        Mark { kind, off }
+    }
 }
 
 // The vectors have no other units.
@@ -34,127 +94,75 @@ fn unit_of(unit: u64) -> Unit {
     }
 }
 
-fn mark_of(verdict: Verdict) -> Mark {
-    match verdict {
-        Verdict::Agrees => Mark { verdict: 0, off: 0 },
-        Verdict::Fits => Mark { verdict: 1, off: 0 },
-        Verdict::Low(off) => Mark { verdict: 2, off },
-        Verdict::High(off) => Mark { verdict: 3, off },
-        Verdict::Unreadable => Mark { verdict: 4, off: 0 },
+impl<'a> Item<'a> for Mark {
+    fn read(input: &mut Rest<'a>) -> Option<Mark> {
+        let verdict: u64 = input.item()?;
+        Some(Mark {
+            kind: Kind::try_from(verdict).ok()?,
+            off: input.item()?,
+        })
     }
 }
 
-fn found_at(s: &[u8]) -> Mark
-    requires { 56 ≤ length s.now }
-{
-    let filed = Filed {
-        digits: u64_at(s, 0),
-        places: u64_at(s, 8),
-        unit: unit_of(u64_at(s, 16)),
-    };
-    mark_of(mark(filed, u64_at(s, 24), u64_at(s, 32)))
-}
-
-fn expected_at(s: &[u8]) -> Mark
-    requires { 56 ≤ length s.now }
-{
-    Mark {
-        verdict: u64_at(s, 40),
-        off: u64_at(s, 48),
+// Seven numbers of eight bytes: the figure's digits, how many stand behind the point, its unit, the band's low and high, and the mark
+impl<'a> Item<'a> for Vector {
+    fn read(input: &mut Rest<'a>) -> Option<Vector> {
+        let filed = Filed {
+            digits: input.item()?,
+            places: input.item()?,
+            unit: unit_of(input.item()?),
+        };
+        Some(Vector {
+            filed,
+            low: input.item()?,
+            high: input.item()?,
+            expected: input.item()?,
+        })
     }
 }
 
-fn print_verdict(rt: &impl Print, verdict: u64) -> io::Result<()> {
-    match verdict {
-        0 => text(rt, "agrees"),
-        1 => text(rt, "fits"),
-        2 => text(rt, "low"),
-        3 => text(rt, "high"),
-        _ => text(rt, "unreadable"),
-    }
-}
-
-fn print_mark(rt: &impl Print, mark: Mark) -> io::Result<()> {
-    print_verdict(rt, mark.verdict)?;
-    number(rt, " by ", mark.off)
-}
-
-// A line for a figure whose mark is another than the one expected; figures are counted from 1, as
+// A figure, and a line where its mark is another than the one expected; figures are counted from 1, as
 // tools/vectors/marks.py lists them.
-fn print_other(rt: &impl Print, position: u64, expected: Mark, found: Mark) -> io::Result<()> {
-    number(rt, "figure ", position)?;
-    text(rt, ": expected ")?;
-    print_mark(rt, expected)?;
-    text(rt, ", found ")?;
-    print_mark(rt, found)?;
-    text(rt, "\n")
-}
-
-// A tally with one figure more
-fn with_figure(rt: &impl Print, s: &[u8], position: u64, tally: Tally) -> io::Result<Tally>
-    requires { 56 ≤ length s.now }
-{
-    let expected = expected_at(s);
-    let found = found_at(s);
-    let right = (found.verdict == expected.verdict) & (found.off == expected.off);
-    if !right {
-        print_other(rt, position, expected, found)?;
+fn with_figure(rt: &impl Print, position: u64, vector: Vector) -> io::Result<Tally> {
+    let expected = vector.expected;
+    let found = Mark::from(mark(vector.filed, vector.low, vector.high));
+    if found != expected {
+        println!(rt; "figure {position}: expected {expected}, found {found}")?;
     }
-    Ok(tally.with(vectors::tally::Verdict::bare(right)))
+    Ok(Tally::from(found == expected))
 }
 
 // The figures of one verdict
-fn tally_of(rt: &impl Print, s: &[u8], verdict: u64) -> io::Result<Tally> {
-    let mut tally = Tally::none();
-    let mut position: u64 = 0;
-    let mut i: usize = 0;
-    while i < s.len() / VECTOR {
-        let from = VECTOR * i;
-        let to = from + VECTOR;
-        let figure = &s[from..to];
-        position = next(position);
-        if u64_at(figure, 40) == verdict {
-            tally = with_figure(rt, figure, position, tally)?;
+fn tally_kind(rt: &impl Print, vectors: &[u8], kind: Kind) -> io::Result<Tally> {
+    tally_of(vectors, |position, vector: Vector| {
+        if vector.expected.kind == kind {
+            with_figure(rt, position, vector)
+        } else {
+            Ok(Tally::default())
         }
-        i += 1;
-    }
-    Ok(tally)
+    })
 }
 
-fn print_tally(rt: &impl Print, tally: Tally) -> io::Result<()> {
-    number(rt, " ", tally.tried)?;
-    number(rt, " as given ", tally.right)?;
-    text(rt, "\n")
-}
-
-// A line for each verdict, and the tally of all of them
-fn report_verdicts(rt: &impl Print, s: &[u8]) -> io::Result<Tally> {
-    let mut all = Tally::none();
-    let mut verdict: u64 = 0;
-    while verdict < VERDICTS {
-        let tally = tally_of(rt, s, verdict)?;
-        print_verdict(rt, verdict)?;
-        print_tally(rt, tally)?;
-        all = all.plus(tally);
-        verdict += 1;
+// A line for each verdict, and one for all of them; how many figures they count. A figure that is cut off, or whose verdict is none of
+// these, ends the tally; the count that the input gives shows it.
+fn report(rt: &impl Print, vectors: &[u8]) -> io::Result<u64> {
+    let kinds = [
+        Kind::Agrees,
+        Kind::Fits,
+        Kind::Low,
+        Kind::High,
+        Kind::Unreadable,
+    ];
+    let mut all = Tally::default();
+    for kind in kinds {
+        let tally = tally_kind(rt, vectors, kind)?;
+        println!(rt; "{kind} {} as given {}", tally.tried, tally.right)?;
+        all = all + tally;
     }
-    Ok(all)
-}
-
-// A figure that is cut off, or whose verdict is above the last, is missing from the tally; the count that the input
-// gives shows it.
-fn report(rt: &impl Print, s: &[u8]) -> io::Result<()> {
-    if s.len() < COUNT {
-        return vectors::print::no_count(rt);
-    }
-    let all = report_verdicts(rt, &s[COUNT..])?;
-    text(rt, "figures")?;
-    print_tally(rt, all)?;
-    vectors::print::count(rt, all.tried, u32_at(s, 0), "\n")
+    println!(rt; "figures {} as given {}", all.tried, all.right)?;
+    Ok(all.tried)
 }
 
 fn main(rt: HostRuntime) -> io::Result<()> {
-    let mut buffer = vectors::input::buffer();
-    let n = vectors::input::read_input(&rt, &mut buffer)?;
-    report(&rt, &buffer[..n])
+    hold(&rt, "", |vectors| report(&rt, vectors))
 }

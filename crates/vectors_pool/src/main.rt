@@ -3,14 +3,13 @@
 // them left as they were; and how many of their reports have both sheets' row words in their places and the sums of their sums.
 #![tactic(auto)]
 
-ghost use Rattle.std.specs.Prelude.{◌+◌, ◌≤◌, length};
-
 use crate::words::words_right;
-use pooling::PoolAnswer;
+use pooling::PoolRefusal;
+use refusals::Refusal;
 use std::io;
-use vectors::input::{COUNT, record_at, u16_at, u32_at};
-use vectors::print::{number, text};
-use vectors::tally::{Tally, Verdict, next, smaller};
+use vectors::input::hold;
+use vectors::items::{Item, Rest, tally_of};
+use vectors::tally::Tally;
 
 mod words;
 
@@ -19,18 +18,16 @@ const ROOM: usize = 25344;
 
 const OLD: u8 = 165;
 
-// The bytes before each pair, seven numbers of two: the lengths of the first sheet, of the second and of the pooled one, the bytes of the
-// buffer, and the number, the place and the sheet of a refusal, all 0 where the pair is accepted
-const HEAD: usize = 14;
-
 // What is looked at in one pass: the refusals, the pooled sheets, or the words of their reports
-const REFUSALS: usize = 0;
+#[derive(Clone, Copy, Debug, PartialEq, Eq)]
+enum Pass {
+    Refusals,
+    Sheets,
+    Words,
+}
 
-const SHEETS: usize = 1;
-
-const WORDS: usize = 2;
-
-// The bytes of a pair's buffer, as far as there are, and the answer that is expected
+// The bytes of a pair's buffer, as far as there are, and the answer that is expected: its number, place and sheet are 0 where the pair is
+// accepted.
 #[derive(Clone, Copy)]
 struct Head {
     room: usize,
@@ -39,160 +36,123 @@ struct Head {
     sheet: u64,
 }
 
-fn head_at(s: &[u8], at: usize) -> Head
-    requires { at + 14 ≤ length s.now }
-    ensures { result.room ≤ 25344 }
-{
-    Head {
-        room: smaller(u16_at(s, at + 6) as usize, ROOM),
-        number: u16_at(s, at + 8),
-        place: u16_at(s, at + 10),
-        sheet: u16_at(s, at + 12),
+// A pair of sheets, and the pooled sheet that is expected
+#[derive(Clone, Copy)]
+struct Pair<'a> {
+    head: Head,
+    first: &'a [u8],
+    second: &'a [u8],
+    pooled: &'a [u8],
+}
+
+impl<'a> Item<'a> for Head {
+    fn read(input: &mut Rest<'a>) -> Option<Head> {
+        let room: u16 = input.item()?;
+        let number: u16 = input.item()?;
+        let place: u16 = input.item()?;
+        let sheet: u16 = input.item()?;
+        Some(Head {
+            room: ROOM.min(room.into()),
+            number: number.into(),
+            place: place.into(),
+            sheet: sheet.into(),
+        })
+    }
+}
+
+impl<'a> Item<'a> for Pair<'a> {
+    fn read(input: &mut Rest<'a>) -> Option<Pair<'a>> {
+        let first: u16 = input.item()?;
+        let second: u16 = input.item()?;
+        let pooled: u16 = input.item()?;
+        Some(Pair {
+            head: input.item()?,
+            first: input.part(first.into())?,
+            second: input.part(second.into())?,
+            pooled: input.part(pooled.into())?,
+        })
+    }
+}
+
+impl Pass {
+    // Whether a pass looks at the pairs with this number
+    fn looks_at(self, number: u64) -> bool {
+        (self == Pass::Refusals) == (number != 0)
     }
 }
 
 // Whether a refusal of this sheet is the one that is expected
-fn is_refusal(head: Head, sheet: u64, number: u64, place: u64) -> bool {
-    (head.sheet == sheet) & (head.number == number) & (head.place == place)
+fn is_refusal(head: Head, sheet: u64, refusal: Refusal) -> bool {
+    (head.sheet == sheet) & (head.number == refusal.rule.number()) & (head.place == refusal.place)
 }
 
-fn answers(found: PoolAnswer, head: Head) -> bool {
+fn answers(found: Result<(), PoolRefusal>, head: Head) -> bool {
     match found {
-        PoolAnswer::Accepted => head.number == 0,
-        PoolAnswer::First(number, place) => is_refusal(head, 1, number, place),
-        PoolAnswer::Second(number, place) => is_refusal(head, 2, number, place),
-        PoolAnswer::Pooled(number, place) => is_refusal(head, 3, number, place),
+        Ok(()) => head.number == 0,
+        Err(PoolRefusal::First(refusal)) => is_refusal(head, 1, refusal),
+        Err(PoolRefusal::Second(refusal)) => is_refusal(head, 2, refusal),
+        Err(PoolRefusal::Pooled(refusal)) => is_refusal(head, 3, refusal),
     }
 }
 
 // The pooled sheet into the first bytes of a buffer
-fn pool_into(a: &[u8], b: &[u8], room: usize, out: &mut [u8]) -> PoolAnswer
-    requires { room ≤ length out.old }
-{
-    pooling_calls::pool(a, b, &mut out[0..room])
+fn pool_into(pair: Pair, out: &mut [u8; 25344]) -> Result<(), PoolRefusal> {
+    let room = pair.head.room.min(ROOM);
+    pooling_calls::pool(pair.first, pair.second, &mut out[..room])
 }
 
-// Whether the buffer starts with these bytes
-fn starts_with(out: &[u8; 25344], bytes: &[u8]) -> bool
-    requires { length bytes.now ≤ 25344 }
-{
-    let mut i = 0;
-    while i < bytes.len() {
-        if out[i] != bytes[i] {
-            return false;
-        }
-        i += 1;
-    }
-    true
-}
-
-// Whether the bytes from here on are as they were
-fn kept(out: &[u8; 25344], from: usize) -> bool {
-    let mut i = from;
-    while i < ROOM {
-        if out[i] != OLD {
-            return false;
-        }
-        i += 1;
-    }
-    true
+// Whether the buffer starts with these bytes, and those beyond them are as they were
+fn holds_only(out: &[u8], bytes: &[u8]) -> bool {
+    out.strip_prefix(bytes)
+        .is_some_and(|rest| rest.iter().all(|byte| *byte == OLD))
 }
 
 // Whether a pair is answered as expected: the refusal, or the pooled sheet, and nothing else in the buffer; or the words of its report
-fn is_right(a: &[u8], b: &[u8], expected: &[u8], head: Head, pass: usize) -> bool
-    requires { (head.room ≤ 25344) × (length expected.now ≤ 25344) }
-{
-    let room = head.room;
+fn is_right(pair: Pair, pass: Pass) -> bool {
     let mut out = [OLD; 25344];
-    let right = answers(pool_into(a, b, room, &mut out), head);
-    if pass == WORDS {
-        return right & words_right(a, b, expected);
-    }
-    right & starts_with(&out, expected) & kept(&out, expected.len())
+    let right = answers(pool_into(pair, &mut out), pair.head);
+    right
+        & match pass {
+            Pass::Refusals | Pass::Sheets => holds_only(&out, pair.pooled),
+            Pass::Words => words_right(pair.first, pair.second, pair.pooled),
+        }
 }
 
-// A tally with one pair more, and a line where it is not right
-fn with_verdict(rt: &impl Print, right: bool, position: u64, tally: Tally) -> io::Result<Tally> {
+// A pair, and a line where it is not right
+fn with_pair(rt: &impl Print, position: u64, pair: Pair, pass: Pass) -> io::Result<Tally> {
+    let right = is_right(pair, pass);
     if !right {
-        number(rt, "pair ", position)?;
-        text(rt, " is answered otherwise\n")?;
+        println!(rt; "pair {position} is answered otherwise")?;
     }
-    Ok(tally.with(Verdict::bare(right)))
+    Ok(right.into())
 }
 
-// Whether a pass looks at the pairs with this number
-fn looks_at(pass: usize, number: u64) -> bool {
-    if pass == REFUSALS {
-        number != 0
-    } else {
-        number == 0
-    }
-}
-
-// The pairs of one pass, up to the first that the end of the input cuts
-fn tally_of(rt: &impl Print, s: &[u8], pass: usize) -> io::Result<Tally> {
-    let mut tally = Tally::none();
-    let mut position: u64 = 0;
-    let mut at = 0;
-    while HEAD <= s.len() - at {
-        let record = record_at(s, at, HEAD, 1);
-        let start = record.start;
-        let second = record.list;
-        let pooled = record.end;
-        if s.len() < pooled {
-            return Ok(tally);
+// The pairs of one pass
+fn tally_pass(rt: &impl Print, pairs: &[u8], pass: Pass) -> io::Result<Tally> {
+    tally_of(pairs, |position, pair: Pair| {
+        if pass.looks_at(pair.head.number) {
+            with_pair(rt, position, pair, pass)
+        } else {
+            Ok(Tally::default())
         }
-        let long = u16_at(s, at + 4) as usize;
-        if s.len() - pooled < long {
-            return Ok(tally);
-        }
-        let end = pooled + long;
-        let expected = pooled + smaller(long, ROOM);
-        position = next(position);
-        let head = head_at(s, at);
-        if looks_at(pass, head.number) {
-            let right = is_right(
-                &s[start..second],
-                &s[second..pooled],
-                &s[pooled..expected],
-                head,
-                pass,
-            );
-            tally = with_verdict(rt, right, position, tally)?;
-        }
-        at = end;
-    }
-    Ok(tally)
+    })
 }
 
 // The line of one pass
-fn print_pass(rt: &impl Print, s: &[u8], pass: usize, name: &str) -> io::Result<u64> {
-    let tally = tally_of(rt, s, pass)?;
-    number(rt, name, tally.tried)?;
-    number(rt, " right ", tally.right)?;
-    text(rt, "\n")?;
-    Ok(tally.tried)
+fn print_pass(rt: &impl Print, pairs: &[u8], pass: Pass, name: &str) -> io::Result<Tally> {
+    let tally = tally_pass(rt, pairs, pass)?;
+    println!(rt; "{name} {} right {}", tally.tried, tally.right)?;
+    Ok(tally)
 }
 
-// A pair that is cut off is missing from the tallies; the count that the input gives shows it.
-fn report(rt: &impl Print, s: &[u8]) -> io::Result<()> {
-    if s.len() < COUNT {
-        return vectors::print::no_count(rt);
-    }
-    let pairs = &s[COUNT..];
-    let refused = print_pass(rt, pairs, REFUSALS, "refused pairs ")?;
-    let accepted = print_pass(rt, pairs, SHEETS, "pooled sheets ")?;
-    print_pass(rt, pairs, WORDS, "pooled reports ")?;
-    vectors::print::count(
-        rt,
-        std::num::wrapping_add_u64(refused, accepted),
-        u32_at(s, 0),
-        " pairs\n",
-    )
+// The line of each pass, and how many pairs they looked at. A pair that is cut off is missing; the count that the input gives shows it.
+fn report(rt: &impl Print, pairs: &[u8]) -> io::Result<u64> {
+    let refused = print_pass(rt, pairs, Pass::Refusals, "refused pairs")?;
+    let accepted = print_pass(rt, pairs, Pass::Sheets, "pooled sheets")?;
+    print_pass(rt, pairs, Pass::Words, "pooled reports")?;
+    Ok((refused + accepted).tried)
 }
 
 fn main(rt: HostRuntime) -> io::Result<()> {
-    let mut buffer = vectors::input::buffer();
-    let n = vectors::input::read_input(&rt, &mut buffer)?;
-    report(&rt, &buffer[..n])
+    hold(&rt, " pairs", |pairs| report(&rt, pairs))
 }

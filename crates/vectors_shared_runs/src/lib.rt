@@ -1,187 +1,188 @@
-// One call of a list that tools/vectors/shared.py wrote, made on a shared ledger and held against what is expected, and its answer as numbers.
+// One call of a list that tools/vectors/shared.py wrote, made on a shared ledger and held against what is expected, and its answer.
 #![tactic(auto)]
 
-ghost use Rattle.std.specs.Prelude.{◌≡◌, ◌≤◌, ◌<◌, length};
-
+use refusals::Check;
 use shared_ledger::{RowAnswer, TotalsAnswer};
-use sheet::Check;
-use std::io;
-use vectors::bytes::{LONGEST, copy, room, same_bytes};
-use vectors::input::{u8_at, u16_at, u32_at, u64_at};
-use vectors::print::{number, text};
-use vectors::tally::smaller;
+use vectors::bytes::{LONGEST, room};
+use vectors::items::{Item, Rest};
 use vectors::words::{WORDS, stands};
 
-// The numbers of an answer: number, place, then what is told
-const ANSWER: usize = 28;
+// The bytes of a call
+pub const CALL: usize = 36;
 
-// Words are stored from a place on, where there is room.
-pub fn store(words: &mut [u64], place: usize, told: &[u64]) {
-    if words.len() < told.len() {
-        return;
-    }
-    if words.len() - told.len() < place {
-        return;
-    }
-    let mut i: usize = 0;
-    while i < told.len() {
-        words[place + i] = told[i];
-        i += 1;
+// What is asked: a change of a row by so many vehicles, a read of a row, or of the totals
+#[derive(Clone, Copy, Debug, PartialEq, Eq)]
+enum Call {
+    Arrive(u64, u64),
+    Depart(u64, u64),
+    Row(u64),
+    Totals,
+}
+
+// A call and who makes it; the number and place that are expected; the count that is told, from which word on the words told stand in the buffer,
+// and where the answer is kept to be compared, 0 where it is not
+#[derive(Clone, Copy)]
+pub struct Asked {
+    who: u64,
+    call: Call,
+    number: u64,
+    place: u64,
+    count: u64,
+    at: usize,
+    pub slot: usize,
+}
+
+impl<'a> Item<'a> for Asked {
+    fn read(input: &mut Rest<'a>) -> Option<Asked> {
+        let kind: u8 = input.item()?;
+        let (who, row, vehicles): (u64, u64, u64) = (input.item()?, input.item()?, input.item()?);
+        let number: u8 = input.item()?;
+        let place: u16 = input.item()?;
+        let count: u32 = input.item()?;
+        let (at, slot): (u16, u16) = (input.item()?, input.item()?);
+        Some(Asked {
+            who,
+            call: call_of(kind, row, vehicles)?,
+            number: number.into(),
+            place: place.into(),
+            count: count.into(),
+            at: at.into(),
+            slot: slot.into(),
+        })
     }
 }
 
-// An answer that tells nothing but a number and a place, 0 where it passes
-pub fn bare(found: Check) -> [u64; 28]
-    ensures { length result ≡ 28 }
-{
-    let mut answer = [0u64; 28];
-    match found {
-        Check::Pass => answer,
-        Check::Refused(number, place) => {
-            answer[0] = number;
-            answer[1] = place;
-            answer
+fn call_of(kind: u8, row: u64, vehicles: u64) -> Option<Call> {
+    match kind {
+        0 => Some(Call::Arrive(row, vehicles)),
+        1 => Some(Call::Depart(row, vehicles)),
+        2 => Some(Call::Row(row)),
+        3 => Some(Call::Totals),
+        _ => None,
+    }
+}
+
+// What an answer tells besides its number and place: a change nothing, or that it is refused and has changed a byte or a word; a read of a row the
+// count and six words, and one of the totals 26 words
+#[derive(Clone, Copy, Debug, Default, PartialEq, Eq)]
+pub enum Told {
+    #[default]
+    Nothing,
+    Changed,
+    Row(u64, [u64; 6]),
+    Totals([u64; 26]),
+}
+
+// A call's answer: number and place are 0 where it passes.
+#[derive(Clone, Copy, Debug, Default, PartialEq, Eq)]
+pub struct Answer {
+    pub number: u64,
+    pub place: u64,
+    pub told: Told,
+}
+
+// An answer that tells nothing but a number and a place
+impl From<Check> for Answer {
+    fn from(found: Check) -> Answer {
+        let (number, place) = match found {
+            Ok(()) => (0, 0),
+            Err(refusal) => (refusal.rule.number(), refusal.place),
+        };
+        Answer {
+            number,
+            place,
+            told: Told::Nothing,
         }
     }
 }
 
-// A read of a row: the count, then the six words
-fn of_row(found: RowAnswer) -> [u64; 28]
-    ensures { length result ≡ 28 }
-{
-    let check = found.check;
-    let words = found.words;
-    let mut answer = bare(check);
-    answer[2] = found.count;
-    store(&mut answer, 3, &words);
-    answer
-}
-
-// A read of the totals: the 26 words
-fn of_totals(found: TotalsAnswer) -> [u64; 28]
-    ensures { length result ≡ 28 }
-{
-    let check = found.check;
-    let words = found.words;
-    let mut answer = bare(check);
-    store(&mut answer, 2, &words);
-    answer
-}
-
-// The call for an arrival or a departure
-fn changed(sheet: &mut [u8], owners: &[u8], words: &mut [u64], c: &[u8]) -> Check
-    requires { 36 ≤ length c.now }
-{
-    let who = u64_at(c, 1);
-    let row = u64_at(c, 9);
-    let vehicles = u64_at(c, 17);
-    if u8_at(c, 0) == 0 {
-        return shared_ledger_calls::arrive(sheet, owners, words, who, row, vehicles);
+impl From<RowAnswer> for Answer {
+    fn from(found: RowAnswer) -> Answer {
+        let Answer { number, place, .. } = found.check.into();
+        Answer {
+            number,
+            place,
+            told: Told::Row(found.count, found.words),
+        }
     }
-    shared_ledger_calls::depart(sheet, owners, words, who, row, vehicles)
 }
 
-// A change tells nothing. Where it is refused and has changed a byte or a word, 1 stands in the place of what is told.
-fn of_change(sheet: &mut [u8], owners: &[u8], words: &mut [u64], c: &[u8]) -> [u64; 28]
-    requires { 36 ≤ length c.now }
-    ensures { length result ≡ 28 }
-{
-    let n = smaller(sheet.len(), LONGEST);
+impl From<TotalsAnswer> for Answer {
+    fn from(found: TotalsAnswer) -> Answer {
+        let Answer { number, place, .. } = found.check.into();
+        Answer {
+            number,
+            place,
+            told: Told::Totals(found.words),
+        }
+    }
+}
+
+// The call itself, where it is an arrival or a departure
+fn changed(sheet: &mut [u8], owners: &[u8], words: &mut [u64], who: u64, call: Call) -> Check {
+    match call {
+        Call::Arrive(row, vehicles) => {
+            shared_ledger_calls::arrive(sheet, owners, words, who, row, vehicles)
+        }
+        Call::Depart(row, vehicles) => {
+            shared_ledger_calls::depart(sheet, owners, words, who, row, vehicles)
+        }
+        Call::Row(_) | Call::Totals => Ok(()),
+    }
+}
+
+// A change, and whether it is refused and has changed a byte or a word
+fn of_change(sheet: &mut [u8], owners: &[u8], words: &mut [u64], who: u64, call: Call) -> Answer {
+    let (n, m) = (sheet.len().min(LONGEST), words.len().min(WORDS));
     let mut bytes = room();
-    copy(&mut bytes, &sheet[0..n]);
+    bytes[..n].copy_from_slice(&sheet[..n]);
     let mut old = [0u64; WORDS];
-    store(&mut old, 0, words);
-    let mut answer = bare(changed(sheet, owners, words, c));
-    let same = same_bytes(sheet, &bytes[0..n]) & stands(&old, 0, words);
-    if (answer[0] != 0) & !same {
-        answer[2] = 1;
+    old[..m].copy_from_slice(&words[..m]);
+    let mut answer = Answer::from(changed(sheet, owners, words, who, call));
+    let same = (sheet[..] == bytes[..n]) & (words[..] == old[..m]);
+    if (answer.number != 0) & !same {
+        answer.told = Told::Changed;
     }
     answer
 }
 
-// A read of a row or of the totals
-fn of_read(sheet: &[u8], owners: &[u8], words: &[u64], c: &[u8]) -> [u64; 28]
-    requires { 36 ≤ length c.now }
-    ensures { length result ≡ 28 }
-{
-    let who = u64_at(c, 1);
-    let row = u64_at(c, 9);
-    if u8_at(c, 0) == 2 {
-        return of_row(shared_ledger_calls::read_row(sheet, owners, words, who, row));
+// Makes a call: what it is answered.
+pub fn answer_of(sheet: &mut [u8], owners: &[u8], words: &mut [u64], asked: Asked) -> Answer {
+    let who = asked.who;
+    match asked.call {
+        Call::Arrive(_, _) | Call::Depart(_, _) => {
+            of_change(sheet, owners, words, who, asked.call)
+        }
+        Call::Row(row) => shared_ledger_calls::read_row(sheet, owners, words, who, row).into(),
+        Call::Totals => shared_ledger_calls::read_totals(sheet, owners, words, who).into(),
     }
-    of_totals(shared_ledger_calls::read_totals(sheet, owners, words, who))
 }
 
-// What a call is answered
-fn answer_of(sheet: &mut [u8], owners: &[u8], words: &mut [u64], c: &[u8]) -> [u64; 28]
-    requires { 36 ≤ length c.now }
-    ensures { length result ≡ 28 }
-{
-    if u8_at(c, 0) < 2 {
-        return of_change(sheet, owners, words, c);
+impl Told {
+    // Whether nothing is told: a read that is refused tells zeros.
+    fn is_nothing(self) -> bool {
+        match self {
+            Told::Nothing => true,
+            Told::Changed => false,
+            Told::Row(count, words) => (count == 0) & (words == [0; 6]),
+            Told::Totals(words) => words == [0; 26],
+        }
     }
-    of_read(sheet, owners, words, c)
 }
 
 // Whether a read told the words that stand in the buffer, and any other call and any refusal nothing
-fn tells(words: &[u64], answer: &[u64], c: &[u8]) -> bool
-    requires { (36 ≤ length c.now) × (28 ≤ length answer.now) }
-{
-    let at = u16_at(c, 32) as usize;
-    let asked = u8_at(c, 0);
-    if (answer[0] == 0) & (asked == 2) {
-        return (answer[2] == u32_at(c, 28)) & stands(words, at, &answer[3..9]);
+fn tells(words: &[u64], answer: Answer, asked: Asked) -> bool {
+    match answer.told {
+        Told::Row(count, told) if answer.number == 0 => {
+            (count == asked.count) & stands(words, asked.at, &told)
+        }
+        Told::Totals(told) if answer.number == 0 => stands(words, asked.at, &told),
+        told => told.is_nothing(),
     }
-    if (answer[0] == 0) & (asked == 3) {
-        return stands(words, at, &answer[2..28]);
-    }
-    let nothing = [0u64; 26];
-    stands(answer, 2, &nothing)
-}
-
-// An answer is kept in its place, counted from 1, where it is to be compared.
-fn keep(answers: &mut [u64], slot: usize, answer: &[u64])
-    requires { slot < 65536 }
-{
-    if slot == 0 {
-        return;
-    }
-    store(answers, ANSWER * (slot - 1), answer);
-}
-
-// The line of a call that is answered otherwise
-fn print_call(rt: &impl Print, call: u64, asked: u64, found: u64) -> io::Result<()> {
-    number(rt, "call ", call)?;
-    number(rt, " asked ", asked)?;
-    number(rt, " is answered ", found)?;
-    text(rt, " or leaves something else\n")
 }
 
 // Whether an answer is the one that is expected
-fn is_expected(words: &[u64], answer: &[u64], c: &[u8]) -> bool
-    requires { (36 ≤ length c.now) × (28 ≤ length answer.now) }
-{
-    let numbers = (answer[0] == u8_at(c, 25)) & (answer[1] == u16_at(c, 26));
-    numbers & tells(words, answer, c)
-}
-
-// Makes a call and keeps its answer. Whether it is the one that is expected
-pub fn call_right(
-    rt: &impl Print,
-    sheet: &mut [u8],
-    owners: &[u8],
-    words: &mut [u64],
-    answers: &mut [u64],
-    c: &[u8],
-    call: u64,
-) -> io::Result<bool>
-    requires { 36 ≤ length c.now }
-{
-    let answer = answer_of(sheet, owners, words, c);
-    let right = is_expected(words, &answer, c);
-    keep(answers, u16_at(c, 34) as usize, &answer);
-    if !right {
-        print_call(rt, call, u8_at(c, 0), answer[0])?;
-    }
-    Ok(right)
+pub fn is_expected(words: &[u64], answer: Answer, asked: Asked) -> bool {
+    let numbers = (answer.number == asked.number) & (answer.place == asked.place);
+    numbers & tells(words, answer, asked)
 }

@@ -1,41 +1,42 @@
 // The finding that is expected for a sheet, and the one that the explanation gives.
-ghost use Rattle.std.specs.Prelude.{◌≤◌, length};
-
 use findings::Finding;
 use std::io;
-use vectors::answer::Answer;
-use vectors::input::{u8_at, u16_at, u32_at};
-use vectors::print::number;
+use vectors::answer::{Refusal, answer_of, print_answer};
+use vectors::items::{Item, Rest};
 
-// The finding that is expected for the sheet whose head this is
-pub fn expected_of(head: &[u8]) -> Finding
-    requires { 29 ≤ length head.now }
-{
-    Finding {
-        number: u8_at(head, 6),
-        place: u16_at(head, 9),
-        reason: u8_at(head, 7),
-        index: u16_at(head, 11),
-        season: u8_at(head, 8),
-        at: u16_at(head, 13),
-        bytes: u16_at(head, 15),
-        value: u32_at(head, 17),
-        least: u32_at(head, 21),
-        most: u32_at(head, 25),
+// The finding that is expected
+#[derive(Clone, Copy)]
+pub struct Expected(pub Finding);
+
+impl<'a> Item<'a> for Expected {
+    fn read(input: &mut Rest<'a>) -> Option<Expected> {
+        let (number, reason, season): (u8, u8, u8) = (input.item()?, input.item()?, input.item()?);
+        let (place, index): (u16, u16) = (input.item()?, input.item()?);
+        let (at, bytes): (u16, u16) = (input.item()?, input.item()?);
+        let (value, least, most): (u32, u32, u32) = (input.item()?, input.item()?, input.item()?);
+        Some(Expected(Finding {
+            number: number.into(),
+            place: place.into(),
+            reason: reason.into(),
+            index: index.into(),
+            season: season.into(),
+            at: at.into(),
+            bytes: bytes.into(),
+            value: value.into(),
+            least: least.into(),
+            most: most.into(),
+        }))
     }
 }
 
 // What a finding has of the check's answer
-pub fn answer_in(f: Finding) -> Answer {
-    Answer {
-        number: f.number,
-        place: f.place,
-    }
+pub fn answer_in(f: Finding) -> Result<(), Refusal> {
+    answer_of(f.number, f.place)
 }
 
 // Number and place, and the reason with its record
 fn same_reason(a: Finding, b: Finding) -> bool {
-    let stop = answer_in(a).same(answer_in(b)) & (a.reason == b.reason);
+    let stop = (a.number == b.number) & (a.place == b.place) & (a.reason == b.reason);
     stop & (a.index == b.index) & (a.season == b.season)
 }
 
@@ -50,13 +51,11 @@ pub fn same(a: Finding, b: Finding) -> bool {
 }
 
 pub fn print(rt: &impl Print, f: Finding) -> io::Result<()> {
-    answer_in(f).print(rt)?;
-    number(rt, " reason ", f.reason)?;
-    number(rt, " index ", f.index)?;
-    number(rt, " season ", f.season)?;
-    number(rt, " field ", f.at)?;
-    number(rt, " size ", f.bytes)?;
-    number(rt, " value ", f.value)?;
-    number(rt, " least ", f.least)?;
-    number(rt, " most ", f.most)
+    print_answer(rt, answer_in(f))?;
+    print!(rt;
+        " reason {} index {} season {}",
+        f.reason, f.index, f.season
+    )?;
+    print!(rt; " field {} size {} value {}", f.at, f.bytes, f.value)?;
+    print!(rt; " least {} most {}", f.least, f.most)
 }

@@ -1,73 +1,55 @@
 // Holds the split of a total among the species against masses that tools/vectors/species.py put into standard input.
 #![tactic(auto)]
 
-ghost use Rattle.std.specs.Prelude.{◌≤◌, length};
-
 use speciation::split;
 use std::io;
-use vectors::input::u64_at;
-use vectors::print::{number, text};
-use vectors::tally::{Tally, Verdict};
+use vectors::items::{Item, Rest, tally_of};
+use vectors::tally::Tally;
 
-// Every number of the input has eight bytes. The first says how many vectors there are; a vector is a total and 29 masses.
-const HEAD: usize = 8;
-
+// The bytes of a vector: every number of the input has eight. The first says how many vectors there are.
 const VECTOR: usize = 240;
 
-// The most vectors in an input
-const MOST: u64 = 2000;
+// A total, and the 29 masses that it is to be split into
+#[derive(Clone, Copy)]
+struct Vector<'a> {
+    total: u64,
+    masses: &'a [u8],
+}
+
+impl<'a> Item<'a> for Vector<'a> {
+    fn read(input: &mut Rest<'a>) -> Option<Vector<'a>> {
+        Some(Vector {
+            total: input.item()?,
+            masses: input.part(232)?,
+        })
+    }
+}
 
 // Whether all masses of a vector are those of its total
-fn as_given(s: &[u8]) -> bool
-    requires { 240 ≤ length s.now }
-{
-    let masses = split(u64_at(s, 0));
-    let mut same = true;
-    let mut i: usize = 0;
-    while i < 29 {
-        same = same & (masses[i] == u64_at(s, 8 * i + 8));
-        i += 1;
-    }
-    same
+fn as_given(vector: Vector) -> bool {
+    let mut masses = Rest::of(vector.masses);
+    split(vector.total)
+        .iter()
+        .all(|mass| masses.item() == Some(*mass))
 }
 
-fn tried(s: &[u8]) -> Tally {
-    let mut tally = Tally::none();
-    let mut i: usize = 0;
-    while i < s.len() / VECTOR {
-        let from = VECTOR * i;
-        let to = from + VECTOR;
-        tally = tally.with(Verdict::bare(as_given(&s[from..to])));
-        i += 1;
-    }
-    tally
+// The vectors, where the input is of the length that it says
+fn vectors_of(input: &[u8]) -> Option<&[u8]> {
+    let mut rest = Rest::of(input);
+    let count = rest.item()?;
+    rest.last(count, VECTOR)
 }
 
-// False where the input is not of the length that it says
-fn report(rt: &impl Print, s: &[u8]) -> io::Result<bool> {
-    if s.len() < HEAD {
-        return Ok(false);
-    }
-    let count = u64_at(s, 0);
-    if MOST < count {
-        return Ok(false);
-    }
-    let end = HEAD + VECTOR * count as usize;
-    if s.len() != end {
-        return Ok(false);
-    }
-    let tally = tried(&s[HEAD..end]);
-    number(rt, "totals: ", tally.tried)?;
-    number(rt, " split as given ", tally.right)?;
-    text(rt, "\n")?;
-    Ok(true)
+fn report(rt: &impl Print, input: &[u8]) -> io::Result<()> {
+    let Some(vectors) = vectors_of(input) else {
+        return println!(rt; "the input is not of the length that it says");
+    };
+    let tally = tally_of(vectors, |_, vector: Vector| {
+        Ok(Tally::from(as_given(vector)))
+    })?;
+    println!(rt; "totals: {} split as given {}", tally.tried, tally.right)
 }
 
 fn main(rt: HostRuntime) -> io::Result<()> {
-    let mut buffer = vectors::input::buffer();
-    let n = vectors::input::read_input(&rt, &mut buffer)?;
-    if !report(&rt, &buffer[..n])? {
-        text(&rt, "the input is not of the length that it says\n")?;
-    }
-    Ok(())
+    vectors::input::with_bytes(&rt, |input| report(&rt, input))
 }

@@ -10,7 +10,7 @@ use Rattle.numbers.specs.Lists.{at}
 use Rattle.numbers.proofs.Order.{≤_trans, *-mono-left, whole-NonNegative}
 use Rattle.exact.specs.Masses.{Mechanism, diurnal, soak, running}
 use Rattle.exact.proofs.Volatile.{WithoutCanister, mass-rises}
-use Rattle.sheet.specs.declared.Check.TheVariants.{Pass}
+use Rattle.refusals.specs.Check.{Pass}
 use Rattle.sheet.specs.Bytes.{cells_of, season_list, row_at}
 use Rattle.sheet.specs.Sheet.{sheet_check}
 use Rattle.sheet.proofs.Accepted.{Bytes, accepted}
@@ -19,7 +19,8 @@ use Rattle.report_words.specs.Report.{report}
 use Rattle.report_words.specs.Promise.{RowPromise}
 use Rattle.report_words.proofs.Promised.{promise}
 use Rattle.inventory.specs.ReportAnswers.{report_check}
-use Rattle.inventory.proofs.CallConditions.{report-judged, report-sheet, number-zero}
+use Rattle.inventory.proofs.CallConditions.{report-sheet}
+use Rattle.refusals.proofs.Numbers.{zero-passes}
 use Rattle.volatility.specs.Pressure.{HigherPressure, OpenRow, low_place, high_place, MassTheorem, WordTheorem, Reported, CallTheorem}
 use Rattle.volatility.proofs.Alike.{rows_same, cells_same, row-alike, all_more}
 
@@ -64,7 +65,7 @@ reports-rise s t j i m b b' h pass pass' o =
 passed : {s words : List ℕ} → Reported s words → sheet_check s ≡ Pass
 passed {s} r =
     let room : ℕ = length r.old in
-    report-sheet s room (number-zero s (report_check s room) (report-judged s room) (omega arith) (rw r.left.answer-is at r.accepted))
+    report-sheet s room (zero-passes (report_check s room) (rw r.left.answer-is at r.accepted))
 
 pub calls-rise : CallTheorem
 calls-rise s t words others j i m h r r' o =

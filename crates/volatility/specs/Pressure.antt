@@ -4,11 +4,9 @@ use Rattle.numbers.specs.Fraction.{◌≤ᶠ◌}
 use Rattle.numbers.specs.Lists.{at}
 use Rattle.exact.specs.declared.Canister.TheVariants.{None}
 use Rattle.exact.specs.Masses.{Mechanism, diurnal, soak, running, mass}
-use Rattle.sheet.specs.declared.Check.{Check}
-use Rattle.sheet.specs.declared.Check.TheVariants.{Pass}
+use Rattle.refusals.specs.Check.{Check, Pass, number_of}
 use Rattle.sheet.specs.Integers.{u8_at, u16_at}
 use Rattle.sheet.specs.Bytes.{seasons_of, rows_of, cells_of, season_place, season_list, row_at}
-use Rattle.sheet.specs.Check.{number_of}
 use Rattle.sheet.specs.Sheet.{sheet_check}
 use Rattle.report_words.specs.Report.{report}
 use Rattle.inventory.specs.ReportCall.{ReportCall}

@@ -1,6 +1,6 @@
 -- `factor_table::row_factors` meets its contract: the answer is a function of the bytes and the two numbers, and is what is promised.
 use mathlib.Core.Path.{◌≡◌, refl, sym, ◌∙◌}
-use Rattle.sheet.specs.declared.Check.TheVariants.{Pass}
+use Rattle.refusals.specs.Check.{Pass}
 use Rattle.sheet.proofs.Accepted.{Bytes}
 use Rattle.inventory.proofs.CallConditions.{factor-accepted, factor-sheet}
 use Rattle.factor_table.specs.RowFactors.{row_check}
@@ -8,10 +8,10 @@ use Rattle.factor_table.proofs.Pairs.{bands-stored}
 use Rattle.factor_table.proofs.RowPromise.{row-promised, refused-is, passed_is}
 use Rattle.factor_table.proofs.row_factors.Goals as goal
 
-pub returns-in-Refused : goal.returns-in-Refused
-returns-in-Refused c =
+pub returns-in-Err : goal.returns-in-Err
+returns-in-Err c =
     let bytes : Bytes c.args.s.now = record { byte = λ k. (c.type_inv.s k).fits } in
-    let told = c.in-Refused.is in
+    let told = c.in-Err.is in
     row-promised _ _ _ bytes (refused-is _ _ _ bytes (sym c.factor_check-check.ensures ∙ told) refl told refl)
 
 pub factors_at-units-requires : goal.factors_at-units-requires

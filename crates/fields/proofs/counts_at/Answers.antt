@@ -1,23 +1,16 @@
 -- `fields::counts_at` meets its contract: the counts stored and those left are the list.
 -- Assumes nothing.
-use mathlib.Core.Path.{refl}
-use Prim.Native.Nat.{◌-◌}
-use borrow.Author.Rules.{rules}
 use native.Mathlib.Omega.{arith}
 use lib.ListN.{length-set}
-use Rattle.sheet.proofs.Counts.{left-all, stored_more, stored-all}
+use Rattle.sheet.proofs.Counts.{stored_more, stored-all}
 use Rattle.fields.proofs.counts_at.Goals as goal
 
 pub loop-i-preserved : goal.loop-i-preserved
-loop-i-preserved c =
+loop-i-preserved g c =
     let l = c.loop-i in (
-      search rules,
-      simp length-set l.invariant.1,
-      stored_more _ l.counts _ 24 l.i _ (omega arith) (omega arith) l.invariant.2 c.u16_at.ensures.0,
+      simp length-set l.invariant.0,
+      stored_more _ l.x-items _ g.row.N l.i _ (omega arith) (omega arith) l.invariant.1 c.u16_at.ensures.0,
     )
 
 pub returns : goal.returns
-returns c = let l = c.loop-i in stored-all _ _ _ 24 l.i (omega arith) (omega arith) l.invariant.2
-
-pub loop-i-init : goal.loop-i-init
-loop-i-init c = (search rules, refl, left-all _ _ 24)
+returns g c = let l = c.loop-i in stored-all _ _ _ g.row.N l.i (omega arith) (omega arith) l.invariant.1

@@ -14,7 +14,7 @@ use Rattle.largest_loads.proofs.largest_of.Goals as goal
 
 pub loop-i-init : goal.loop-i-init
 unfolding largest_of
-loop-i-init c = (search rules, refl)
+loop-i-init c = refl
 
 pub largest_in-requires : goal.largest_in-requires
 largest_in-requires c =
@@ -28,10 +28,10 @@ pub loop-i-preserved : goal.loop-i-preserved
 unfolding largest_of
 loop-i-preserved c =
     let l = c.loop-i in
-    (search rules, rw (add-one, c.smaller-most.ensures, c.largest_in.ensures, c.season_at.ensures.0, l.invariant.1))
+    rw (add-one, c.min-most.ensures, c.largest_in.ensures, c.season_at.ensures.0, l.invariant)
 
 pub returns : goal.returns
-returns c = let l = c.loop-i in l.invariant.1 ∙ ap (largest_of _ _ _) (le_antisymm (search rules) (search rules))
+returns c = let l = c.loop-i in l.invariant ∙ ap (largest_of _ _ _) (le_antisymm (search rules) (search rules))
 
 pub seasons_of-n-requires : goal.seasons_of-n-requires
 seasons_of-n-requires c = omega (arith, start_between c.args.s.now)

@@ -1,12 +1,8 @@
 -- `largest_loads::largest_of` meets its contract: `most` is the largest that passes in the seasons before i.
 -- Assumes nothing.
 use mathlib.Core.Path.{◌≡◌}
-use Prim.Native.Nat.{◌-◌, ◌≤◌}
 use Rattle.findings.specs.Canisters.{largest_of}
 use Rattle.largest_loads.proofs.largest_of.Given as goal
 
 abbrev pub invariant-loop-i : goal.invariant-loop-i
-invariant-loop-i l = (l.i ≤ l.n) × (l.most ≡ largest_of l.limit l.canister l.s l.i)
-
-abbrev pub decreases-loop-i : goal.decreases-loop-i
-decreases-loop-i l = l.n - l.i
+invariant-loop-i l = l.most ≡ largest_of l.limit l.canister l.s l.i

@@ -1,26 +1,20 @@
--- `ledger_calls::change` meets its contract: what opening would refuse is refused alike, then 29, then the call is carried out.
+-- `ledger_calls::change` meets its contract: what is refused stays as it is, and what is allowed is carried out.
 -- Assumes nothing.
-use mathlib.Core.Path.{sym, ◌∙◌}
-use Rattle.inventory.proofs.CallConditions.{report-sheet}
-use Rattle.ledger_calls.proofs.Outcome.{not-open, wrong-call, right-call}
+use mathlib.Core.Path.{◌≡◌, sym, ◌∙◌}
+use Rattle.std.proofs.Common.{Err, rules}
+use Rattle.refusals.specs.Check.{Check}
+use Rattle.ledger_calls.proofs.Outcome.{call-refused, call-passes, right-call}
 use Rattle.ledger_calls.proofs.change.Goals as goal
 
-pub returns-in-Refused : goal.returns-in-Refused
-returns-in-Refused c = not-open _ _ _ c.report_check-check.ensures c.in-Refused.is
+pub returns-in_err-change_check : goal.returns-in_err-change_check
+returns-in_err-change_check c =
+    let handed : ◌≡◌ {A = Check} c.from_residual.result (Err c.in_err-change_check.field-0.0) = search rules in
+    call-refused _ _ _ (handed ∙ sym c.in_err-change_check.was ∙ c.change_check.ensures) handed
 
--- the buffers hold a ledger
-pub call_wrong-requires : goal.call_wrong-requires
-call_wrong-requires c = report-sheet _ _ (sym c.report_check-check.ensures ∙ c.in_default.is)
-
-pub returns-then-call_wrong : goal.returns-then-call_wrong
-returns-then-call_wrong c =
-    wrong-call _ _ _ (sym c.report_check-check.ensures ∙ c.in_default.is) (sym c.call_wrong.ensures ∙ c.if-call_wrong.true)
-
--- and the call is allowed
 pub apply-requires : goal.apply-requires
-apply-requires c = (sym c.report_check-check.ensures ∙ c.in_default.is, sym c.call_wrong.ensures ∙ c.if-call_wrong.false)
+apply-requires c = call-passes _ _ _ (sym c.change_check.ensures ∙ c.in_ok-change_check.was)
 
 pub returns : goal.returns
 returns c =
-    right-call _ _ _ (sym c.report_check-check.ensures ∙ c.in_default.is) (sym c.call_wrong.ensures ∙ c.if-call_wrong.false)
-    c.apply.ensures.0 c.apply.ensures.1
+    let passes = call-passes _ _ _ (sym c.change_check.ensures ∙ c.in_ok-change_check.was) in
+    right-call _ _ _ passes.0 passes.1 c.apply.ensures.0 c.apply.ensures.1

@@ -24,7 +24,7 @@ returns-then-power_of_ten-digits c =
     (rw (
       ← u,
       le-ltb _ _ c.if-power-places.false,
-      ← c.cut_difference-above.ensures,
+      ← c.saturating_sub-above.ensures,
       ← c.power_of_ten.ensures.0,
       le-leb _ _ c.if-power_of_ten-digits.true,
     ))
@@ -49,7 +49,7 @@ compare-requires c = (
   omega (arith, room c.power_of_ten.ensures.0 c.if-power_of_ten-digits.false c.power_of_ten-spread.ensures.0 (search rules)),
   c.power_of_ten-spread.ensures.1,
   rw c.power_of_ten-2.ensures.0
-      (omega (arith, ten-pos c.cut_difference-below.result)),
+      (omega (arith, ten-pos c.saturating_sub-below.result)),
   omega (arith, c.power_of_ten-2.ensures.1),
 )
 
@@ -61,8 +61,8 @@ returns c =
     (rw (
       ← u,
       le-ltb _ _ c.if-power-places.false,
-      ← c.cut_difference-above.ensures,
-      ← c.cut_difference-below.ensures,
+      ← c.saturating_sub-above.ensures,
+      ← c.saturating_sub-below.ensures,
       ← c.power_of_ten.ensures.0,
       lt-leb _ _ c.if-power_of_ten-digits.false,
       ← c.power_of_ten-spread.ensures.0,

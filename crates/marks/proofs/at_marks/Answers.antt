@@ -41,9 +41,6 @@ heats-heat-requires c =
     few-most c.season_temperatures-temperature.ensures.1 c.by_distance-few.ensures in
     (c.requires.0, temperate)
 
-pub pressure_factor-pressure-requires : goal.pressure_factor-pressure-requires
-pressure_factor-pressure-requires c = (c.requires.0, c.requires.1.vp-most)
-
 pub mark_rates-requires : goal.mark_rates-requires
 mark_rates-requires c =
     let temperate : AllAtMost (80 * 10 ^ 10) c.by_distance-few.result =

@@ -1,15 +1,7 @@
--- `marks::by_distance` meets its contract: the first distances hold their values.
-use mathlib.Core.Path.{refl}
-use native.Mathlib.Omega.{arith}
-use lib.ListN.{replicate}
-use Rattle.numbers.proofs.Lists.{filled_none, filled_more, filled-all}
+-- `marks::by_distance` meets its contract: at each distance stands its value.
+use borrow.Author.Rules.{rules}
+use Rattle.numbers.proofs.Made.{made-all}
 use Rattle.marks.proofs.by_distance.Goals as goal
 
-pub loop-d-init : goal.loop-d-init
-loop-d-init c = filled_none _ (replicate 25 0) refl
-
-pub loop-d-preserved : goal.loop-d-preserved
-loop-d-preserved c = filled_more c.loop-d.invariant (omega arith) refl
-
 pub returns : goal.returns
-returns c = filled-all c.loop-d.invariant (omega arith)
+returns c = made-all _ _ _ (λ i y q w. search rules) c.from_fn.ensures.items

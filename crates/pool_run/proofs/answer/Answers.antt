@@ -3,7 +3,7 @@ use Rattle.std.proofs.Common.{sym, ap, ◌∙◌, arith, length}
 use Rattle.program.specs.Reads.{counted}
 use Rattle.pooling.proofs.PoolWritten.{pools}
 use Rattle.pool_run.proofs.Printing.{refused_only}
-use Rattle.pool_run.proofs.Refusing.{first-status, second-status, pooled-status}
+use Rattle.pool_run.proofs.Refusing.{refused-status}
 use Rattle.pool_run.proofs.answer.Goals as goal
 
 -- the parts of the buffers that were read
@@ -14,33 +14,21 @@ pub slice_bounds-b-end : goal.slice_bounds-b-end
 slice_bounds-b-end g c = (counted _ _ _ c.requires.1).1
 
 pub pool_length-end-requires : goal.pool_length-end-requires
-pool_length-end-requires g c = (pools c.pool-reply.ensures c.in-Accepted.is).regions
+pool_length-end-requires g c = (pools c.pool-reply.ensures c.in-Ok.is).regions
 
 pub slice_bounds-bytes-end : goal.slice_bounds-bytes-end
-slice_bounds-bytes-end g c = omega (arith, (pools c.pool-reply.ensures c.in-Accepted.is).fits)
+slice_bounds-bytes-end g c = omega (arith, (pools c.pool-reply.ensures c.in-Ok.is).fits)
 
 pub slice_bounds-write_pool-end : goal.slice_bounds-write_pool-end
 slice_bounds-write_pool-end g c =
-    rw c.pool_length-end.ensures (ap length (sym (pools c.pool-reply.ensures c.in-Accepted.is).first))
+    rw c.pool_length-end.ensures (ap length (sym (pools c.pool-reply.ensures c.in-Ok.is).first))
 
 pub write_pool-requires-clause-longest_value : goal.write_pool-requires-clause-longest_value
 write_pool-requires-clause-longest_value g c =
-    (sym c.pool-reply.ensures.answer-is ∙ c.in-Accepted.is, rw c.pool_length-end.ensures (pools c.pool-reply.ensures c.in-Accepted.is).first)
+    (sym c.pool-reply.ensures.answer-is ∙ c.in-Ok.is, rw c.pool_length-end.ensures (pools c.pool-reply.ensures c.in-Ok.is).first)
 
 pub refuse-requires-clause-answer_value : goal.refuse-requires-clause-answer_value
-refuse-requires-clause-answer_value g c = (c.pool-reply.ensures.answer-is, first-status c.in-First.is)
+refuse-requires-clause-answer_value g c = (c.pool-reply.ensures.answer-is, refused-status c.in-Err.is)
 
-pub refuse-requires-in-Second-clause-answer_value : goal.refuse-requires-in-Second-clause-answer_value
-refuse-requires-in-Second-clause-answer_value g c = (c.pool-reply.ensures.answer-is, second-status c.in-Second.is)
-
-pub refuse-requires-in-Pooled-clause-answer_value : goal.refuse-requires-in-Pooled-clause-answer_value
-refuse-requires-in-Pooled-clause-answer_value g c = (c.pool-reply.ensures.answer-is, pooled-status c.in-Pooled.is)
-
-pub returns-in-First-clause-printed : goal.returns-in-First-clause-printed
-returns-in-First-clause-printed g c = refused_only _ c.refuse.ensures.printed
-
-pub returns-in-Second-clause-printed : goal.returns-in-Second-clause-printed
-returns-in-Second-clause-printed g c = refused_only _ c.refuse-in-Second.ensures.printed
-
-pub returns-in-Pooled-clause-printed : goal.returns-in-Pooled-clause-printed
-returns-in-Pooled-clause-printed g c = refused_only _ c.refuse-in-Pooled.ensures.printed
+pub returns-in-Err-clause-printed : goal.returns-in-Err-clause-printed
+returns-in-Err-clause-printed g c = refused_only _ c.refuse.ensures.printed

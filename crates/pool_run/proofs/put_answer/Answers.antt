@@ -1,28 +1,26 @@
 -- `pool_run::put_answer` meets its contract: the line of each answer.
-use Rattle.std.proofs.Common.{arith}
-use Rattle.pool_run.proofs.Refusing.{line-most, line-room, first-text, second-text, pooled-text, none_told, told}
+use mathlib.Core.Path.{ap}
+use Rattle.std.proofs.Common.{Err, ◌∙◌}
+use Rattle.pool_run.proofs.Refusing.{first-text, second-text, pooled-text, none_told}
 use Rattle.pool_run.proofs.put_answer.Goals as goal
 
-pub put_pair-requires : goal.put_pair-requires
-put_pair-requires c = line-room _ _ _ (omega arith) (omega arith) (omega arith)
+pub returns-in-Ok : goal.returns-in-Ok
+returns-in-Ok c = none_told c.in-Ok.is
 
-pub put_pair-requires-in-Second : goal.put_pair-requires-in-Second
-put_pair-requires-in-Second c = line-room _ _ _ (omega arith) (omega arith) (omega arith)
+pub returns-in-Err-First : goal.returns-in-Err-First
+returns-in-Err-First c =
+    let line = c.put_refusal.ensures in
+    let which = rw c.in-Err-First.is at c.in-Err-First.field-0-is in
+    (line.0 ∙ first-text (c.in-Err-First.is ∙ ap Err which), line.1)
 
-pub put_pair-requires-in-Pooled : goal.put_pair-requires-in-Pooled
-put_pair-requires-in-Pooled c = line-room _ _ _ (omega arith) (omega arith) (omega arith)
+pub returns-in-Err-Second : goal.returns-in-Err-Second
+returns-in-Err-Second c =
+    let line = c.put_refusal-in-Err-Second.ensures in
+    let which = rw c.in-Err-Second.is at c.in-Err-Second.field-0-is in
+    (line.0 ∙ second-text (c.in-Err-Second.is ∙ ap Err which), line.1)
 
-pub returns-in-Accepted : goal.returns-in-Accepted
-returns-in-Accepted c = none_told c.in-Accepted.is
-
-pub returns-in-First : goal.returns-in-First
-returns-in-First c =
-    told c.put_pair.ensures (first-text c.in-First.is) (line-most _ _ _ (omega arith) (omega arith) (omega arith)) c.requires
-
-pub returns-in-Second : goal.returns-in-Second
-returns-in-Second c =
-    told c.put_pair-in-Second.ensures (second-text c.in-Second.is) (line-most _ _ _ (omega arith) (omega arith) (omega arith)) c.requires
-
-pub returns-in-Pooled : goal.returns-in-Pooled
-returns-in-Pooled c =
-    told c.put_pair-in-Pooled.ensures (pooled-text c.in-Pooled.is) (line-most _ _ _ (omega arith) (omega arith) (omega arith)) c.requires
+pub returns-in-Err-Pooled : goal.returns-in-Err-Pooled
+returns-in-Err-Pooled c =
+    let line = c.put_refusal-in-Err-Pooled.ensures in
+    let which = rw c.in-Err-Pooled.is at c.in-Err-Pooled.field-0-is in
+    (line.0 ∙ pooled-text (c.in-Err-Pooled.is ∙ ap Err which), line.1)

@@ -1,20 +1,22 @@
 -- `pooling_calls::pool` meets its contract: a refusal leaves the buffer, and where all passes the pooled sheet is written.
 -- Assumes nothing.
-use mathlib.Core.Path.{refl, sym, ◌∙◌}
+use mathlib.Core.Path.{◌≡◌, refl, sym, ◌∙◌}
+use Rattle.std.proofs.Common.{Err, rules}
 use Rattle.inventory.specs.ReportCall.{written}
+use Rattle.pooling.specs.PoolCall.{PoolAnswer, check_of}
 use Rattle.pooling.proofs.PoolWritten.{pool-reply, answer-passes}
 use Rattle.pooling_calls.proofs.pool.Goals as goal
 
-pub returns-in-Refused : goal.returns-in-Refused
-unfolding written
-returns-in-Refused c =
-    pool-reply c.pool_answer-answer.ensures (rw (← c.check_of.ensures, c.in-Refused.is) refl)
+pub returns-in_err-pool_answer : goal.returns-in_err-pool_answer
+unfolding check_of written
+returns-in_err-pool_answer c =
+    let handed : ◌≡◌ {A = PoolAnswer} c.from_residual.result (Err c.in_err-pool_answer.field-0.0) = search rules in
+    pool-reply (handed ∙ sym c.in_err-pool_answer.was ∙ c.pool_answer.ensures) (rw handed refl)
 
 pub returns : goal.returns
-returns c =
-    pool-reply c.pool_answer-answer.ensures
-    (rw (← c.check_of.ensures, c.in_default.is) c.write_pool.ensures)
+unfolding check_of
+returns c = pool-reply (sym c.in_ok-pool_answer.was ∙ c.pool_answer.ensures) c.write_pool.ensures
 
 pub write_pool-requires : goal.write_pool-requires
-write_pool-requires c =
-    answer-passes c.pool_answer-answer.ensures (sym c.check_of.ensures ∙ c.in_default.is)
+unfolding check_of
+write_pool-requires c = answer-passes (sym c.in_ok-pool_answer.was ∙ c.pool_answer.ensures) refl

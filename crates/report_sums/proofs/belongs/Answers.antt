@@ -1,22 +1,22 @@
 -- `report_sums::belongs` meets its contract.
 -- Assumes nothing.
-use Rattle.std.proofs.Common.{sym, refl}
-use Rattle.report_words.specs.Categories.{car, light_duty, two_wheeler}
-use Rattle.report_words.specs.Categories.{category}
-use Rattle.report_words.proofs.ReportPlaces.{category-rest}
+use Rattle.std.proofs.Common.{refl}
+use Rattle.report_words.specs.Categories.{car, light_duty, two_wheeler, any_class, category}
+use Rattle.report_sums.specs.Numbers.{number}
 use Rattle.report_sums.proofs.belongs.Goals as goal
 
-pub returns-in-0 : goal.returns-in-0
-unfolding category car
-returns-in-0 c = rw c.in-0.is refl
+pub returns-in-Cars : goal.returns-in-Cars
+unfolding category car number
+returns-in-Cars c = rw c.in-Cars.is refl
 
-pub returns-in-1 : goal.returns-in-1
-unfolding category light_duty
-returns-in-1 c = rw c.in-1.is refl
+pub returns-in-LightDuty : goal.returns-in-LightDuty
+unfolding category light_duty number
+returns-in-LightDuty c = rw c.in-LightDuty.is refl
 
-pub returns-in-2 : goal.returns-in-2
-unfolding category two_wheeler
-returns-in-2 c = rw c.in-2.is refl
+pub returns-in-TwoWheelers : goal.returns-in-TwoWheelers
+unfolding category two_wheeler number
+returns-in-TwoWheelers c = rw c.in-TwoWheelers.is refl
 
-pub returns-in_default : goal.returns-in_default
-returns-in_default c = let n = c.in_default.in_default-own.rest in sym (category-rest _ _ n.0.0.1 n.0.1 n.1)
+pub returns-in-AllRows : goal.returns-in-AllRows
+unfolding category any_class number
+returns-in-AllRows c = rw c.in-AllRows.is refl

@@ -2,14 +2,11 @@
 -- their days.
 -- Assumes nothing.
 use mathlib.Core.Path.{◌≡◌}
-use Prim.Native.Nat.{◌*◌, ◌-◌, ◌≤◌}
+use Prim.Native.Nat.{◌*◌, ◌≤◌}
 use Rattle.sheet.specs.RunningSums.{days_before}
 use Rattle.findings.specs.Lines.{each_finding}
 use Rattle.findings.specs.Table.{season_finding}
 use Rattle.season_findings.proofs.seasons_finding.Given as goal
 
 abbrev pub invariant-loop-i : goal.invariant-loop-i
-invariant-loop-i l = (l.i ≤ l.n) × (l.found ≡ each_finding (season_finding l.s) l.i) × (l.before ≡ days_before l.s l.i) × (l.before ≤ 65536 * l.i)
-
-abbrev pub decreases-loop-i : goal.decreases-loop-i
-decreases-loop-i l = l.n - l.i
+invariant-loop-i l = (l.found ≡ each_finding (season_finding l.s) l.i) × (l.before ≡ days_before l.s l.i) × (l.before ≤ 65536 * l.i)

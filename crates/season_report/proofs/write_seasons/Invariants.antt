@@ -1,6 +1,6 @@
 -- `season_report::write_seasons` meets its contract: the words of the first j seasons are stored, the others are as they were.
 use mathlib.Core.Path.{◌≡◌}
-use Prim.Native.Nat.{◌+◌, ◌*◌, ◌-◌, ◌≤◌}
+use Prim.Native.Nat.{◌+◌, ◌*◌}
 use lib.ListN.{length}
 use Rattle.sheet.specs.Bytes.{rows_of}
 use Rattle.blocks.proofs.Blocks.{filled_blocks}
@@ -9,8 +9,5 @@ use Rattle.season_report.proofs.SeasonsPromise.{block-length}
 use Rattle.season_report.proofs.write_seasons.Given as goal
 
 abbrev pub invariant-loop-j : goal.invariant-loop-j
-invariant-loop-j l = (l.j ≤ l.seasons) × (length l.words ≡ length l.initial.words)
+invariant-loop-j l = (length l.words ≡ length l.initial.words)
     × (l.words ≡ filled_blocks (season_report l.s) (6 * rows_of l.s + 26) (block-length l.s) l.initial.words l.j)
-
-abbrev pub decreases-loop-j : goal.decreases-loop-j
-decreases-loop-j l = l.seasons - l.j

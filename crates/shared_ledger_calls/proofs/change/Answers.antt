@@ -1,17 +1,22 @@
 -- `shared_ledger_calls::change` meets its contract.
 -- Assumes nothing.
+use mathlib.Core.Path.{◌≡◌, refl, sym, ◌∙◌}
+use Rattle.std.proofs.Common.{Err, rules}
+use Rattle.refusals.specs.Check.{Check}
 use Rattle.shared_ledger_calls.proofs.Outcome.{change-refused, change-allowed, change-done}
 use Rattle.shared_ledger_calls.proofs.change.Goals as goal
 
-pub returns-in-Refused : goal.returns-in-Refused
-returns-in-Refused c = change-refused _ _ _ _ _ c.change_check-check.ensures c.in-Refused.is
+pub returns-in_err-change_check : goal.returns-in_err-change_check
+returns-in_err-change_check c =
+    let handed : ◌≡◌ {A = Check} c.from_residual.result (Err c.in_err-change_check.field-0.0) = search rules in
+    change-refused _ _ _ _ _ (handed ∙ sym c.in_err-change_check.was ∙ c.change_check.ensures) handed
 
 pub apply-requires : goal.apply-requires
 apply-requires c =
     let x = c.args in
-    change-allowed x.s.now x.owners.now x.words.now x.who x.call c.change_check-check.ensures c.in_default.is
+    change-allowed x.s.now x.owners.now x.words.now x.who x.call c.change_check.ensures c.in_ok-change_check.was
 
 pub returns : goal.returns
 returns c =
     let e = c.apply.ensures in
-    change-done _ _ _ _ _ c.change_check-check.ensures c.in_default.is e.0 e.1
+    change-done _ _ _ _ _ (sym c.in_ok-change_check.was ∙ c.change_check.ensures) refl e.0 e.1

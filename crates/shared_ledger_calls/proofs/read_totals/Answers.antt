@@ -6,8 +6,7 @@ use Prim.Native.Nat.{ℕ, ◌+◌, ◌*◌, ◌≤◌}
 use native.Mathlib.Omega.{arith}
 use lib.ListN.{length}
 use Rattle.numbers.specs.Lists.{tab}
-use Rattle.sheet.specs.declared.Check.{Check}
-use Rattle.sheet.specs.declared.Check.TheVariants.{Pass}
+use Rattle.refusals.specs.Check.{Check, Pass}
 use Rattle.sheet.specs.Bytes.{rows_of}
 use Rattle.sheet.specs.Sheet.{sheet_check}
 use Rattle.sheet.proofs.Places.{parking-there}
@@ -15,9 +14,9 @@ use Rattle.shared_ledger.specs.Calls.{shared_totals_check, zeros}
 use Rattle.shared_ledger_calls.proofs.Outcome.{totals-refused, totals-done, totals-there}
 use Rattle.shared_ledger_calls.proofs.read_totals.Goals as goal
 
-pub returns-in-Refused : goal.returns-in-Refused
+pub returns-in-Err : goal.returns-in-Err
 unfolding zeros tab
-returns-in-Refused c = totals-refused _ _ _ _ c.totals_check-check.ensures c.in-Refused.is
+returns-in-Err c = totals-refused _ _ _ _ c.totals_check-check.ensures c.in-Err.is
 
 -- the buffers hold a report
 there : (s owners w : List ℕ) (who : ℕ) {r : Check} → r ≡ shared_totals_check s owners (length w) who → r ≡ Pass

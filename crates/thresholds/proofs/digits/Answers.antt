@@ -1,50 +1,52 @@
 -- `thresholds::digits` meets its contract. The loop's invariant: what the digits left find from d is what all of them find from 0.
--- The measure is how many are left.
-use mathlib.Core.Path.{◌≡◌, refl, ◌∙◌, ap, sym}
-use Prim.Native.Nat.{ℕ, suc, zero, ◌-◌, ◌/◌, ◌^◌, ◌<◌}
+use mathlib.Core.Path.{◌≡◌, ◌∙◌}
+use Prim.Native.Nat.{ℕ, suc, ◌+◌, ◌*◌, ◌-◌, ◌%◌, ◌^◌, ◌<◌}
 use native.Mathlib.Omega.{arith}
-use native.Mathlib.Nat.{pow-suc}
+use native.Mathlib.Nat.{pow-suc, mod-eq_of_lt}
+use Rattle.std.proofs.lemmas.Nat.{pow_below}
 use Rattle.thresholds.specs.Thresholds.{digit, digits}
 use Rattle.thresholds.proofs.digits.Goals as goal
 
--- half of a power of two
-halved : (k : ℕ) → 0 < k → 2 ^ k / 2 ≡ 2 ^ (k - 1)
-halved zero h = absurd (omega arith)
-halved (suc k) h = let e : suc k - 1 ≡ k = omega arith in rw (e, pow-suc) (omega arith)
+-- what is left is the next digit and what is left after it
+record Next (i left bit : ℕ) : Type 0 where
+  pub left-is : 47 - i ≡ suc left
+  pub after : 47 - (i + 1) ≡ left
+  pub bit-is : bit ≡ 2 ^ left
+  pub halves : 2 ^ (47 - i) ≡ 2 * 2 ^ left
+
+next : (i : ℕ) → i < 47 → Next i (46 - i) (1 * 2 ^ (46 - i) % 2 ^ 64)
+next i h =
+    let e : 47 - i ≡ suc (46 - i) = omega arith in
+    let small : 2 ^ (46 - i) < 2 ^ 47 = pow_below (46 - i) 47 (omega arith) in
+    record {
+      left-is = e;
+      after = omega arith;
+      bit-is = mod-eq_of_lt {n = 1 * 2 ^ (46 - i)} {m = 2 ^ 64} (omega arith) ∙ omega arith;
+      halves = rw (e, pow-suc) (omega arith);
+    }
 
 -- one digit more
-step : (M c k d bit : ℕ) {r : ℕ} → 0 < k → bit ≡ 2 ^ (k - 1) → r ≡ digit M c d bit → digits M c (k - 1) r ≡ digits M c k d
+step : (M c i d : ℕ) {left bit r : ℕ} → Next i left bit → r ≡ digit M c d bit → digits M c (47 - (i + 1)) r ≡ digits M c (47 - i) d
 unfolding digits
-step M c zero d bit h b e = absurd (omega arith)
-step M c (suc k) d bit h b e = let z : suc k - 1 ≡ k = omega arith in rw (e, b, z)
-
--- no digit left
-found : (M c d k : ℕ) → k ≡ 0 → digits M c k d ≡ d
-unfolding digits
-found M c d k e = rw e
-
-pub loop-left-init : goal.loop-left-init
-loop-left-init c = (refl, refl, omega arith, omega arith)
+step M c i d n e = rw (n.left-is, n.after, e, n.bit-is)
 
 pub digit-d-requires : goal.digit-d-requires
 digit-d-requires c =
-    let s = c.before.before in
-    (s.requires.0, s.requires.1, s.requires.2, s.requires.3, omega (arith, c.loop-left.invariant.2))
+    let s = c.requires in
+    let n = next c.loop-found.found (omega arith) in
+    (s.0, s.1, s.2, s.3, omega (arith, c.loop-found.invariant.1, n.bit-is, n.halves))
 
-pub loop-left-preserved : goal.loop-left-preserved
-loop-left-preserved c =
-    let l = c.loop-left in
-    let a = c.args in
-    let more : 0 < l.left = omega arith in
-    let half : l.bit / 2 ≡ 2 ^ (l.left - 1) = ap (λ (x : ℕ). x / 2) l.invariant.1 ∙ halved l.left more in (
-      step a.mileage a.c l.left l.d (l.bit / 2) more half c.digit-d.ensures.0 ∙ l.invariant.0,
-      half,
-      omega (arith, l.invariant.2, c.digit-d.ensures.1),
-      omega (arith, l.invariant.3),
+pub loop-found-preserved : goal.loop-found-preserved
+loop-found-preserved c =
+    let l = c.loop-found in
+    let n = next l.found (omega arith) in (
+      step c.args.mileage c.args.c l.found l.d n c.digit-d.ensures.0 ∙ l.invariant.0,
+      rw n.after (omega (arith, l.invariant.1, n.bit-is, n.halves, c.digit-d.ensures.1)),
     )
 
 pub returns : goal.returns
+unfolding digits
 returns c =
-    let l = c.loop-left in
-    let a = c.args in
-    (sym (found a.mileage a.c l.d l.left (omega arith)) ∙ l.invariant.0, omega (arith, l.invariant.2))
+    let l = c.loop-found in
+    let e : 47 - l.found ≡ 0 = omega arith in
+    (rw e at l.invariant.0, omega (arith, l.invariant.1))

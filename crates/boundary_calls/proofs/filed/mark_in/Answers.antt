@@ -6,4 +6,4 @@ pub returns-in_default : goal.returns-in_default
 returns-in_default c = not-marked _ _ _ _ c.in_default.is
 
 pub returns : goal.returns
-returns c = marked-in _ _ _ _ _ c.in-Named.is c.mark.ensures.0
+returns c = marked-in _ _ _ _ _ c.in-Some.is c.mark.ensures.0

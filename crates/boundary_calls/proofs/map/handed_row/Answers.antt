@@ -7,4 +7,4 @@ pub returns-in_default : goal.returns-in_default
 returns-in_default c = row-untold _ c.in_default.is
 
 pub returns : goal.returns
-returns c = row_told _ _ c.in-Told.is c.cells_of_row.ensures.0
+returns c = row_told _ _ c.in-Some.is c.cells_of_row.ensures.0

@@ -6,7 +6,7 @@ pub returns-in_default : goal.returns-in_default
 returns-in_default c = first-none _ c.in_default.is
 
 pub returns-in_default-b : goal.returns-in_default-b
-returns-in_default-b c = second_none _ c.in-Given.is c.in_default-b.is
+returns-in_default-b c = second_none _ c.in-Some.is c.in_default-b.is
 
 pub returns : goal.returns
-returns c = both-given _ c.in-Given.is _ c.in-Given-b.is c.add_cells.ensures.0
+returns c = both-given _ c.in-Some.is _ c.in-Some-b.is c.add_cells.ensures.0

@@ -6,20 +6,26 @@ use Rattle.boundary.proofs.PoolNumbers.{both-pass}
 use Rattle.boundary_calls.proofs.pool.pool_numbers.Goals as goal
 
 pub pool_length-requires : goal.pool_length-requires
-pool_length-requires c = both-pass _ _ _ c.requires c.in-Accepted.is
+pool_length-requires c = both-pass _ _ _ c.requires c.in-Ok.is
 
-pub returns-in-Accepted : goal.returns-in-Accepted
+pub returns-in-Ok : goal.returns-in-Ok
 unfolding pool_numbers
-returns-in-Accepted c = rw (c.in-Accepted.is, c.pool_length.ensures) refl
+returns-in-Ok c = rw (c.in-Ok.is, c.pool_length.ensures) refl
 
-pub returns-in-First : goal.returns-in-First
+pub returns-in-Err-First : goal.returns-in-Err-First
 unfolding pool_numbers
-returns-in-First c = rw c.in-First.is c.refused_pool.ensures
+returns-in-Err-First c =
+    let which = rw c.in-Err-First.is at c.in-Err-First.field-0-is in
+    rw (c.in-Err-First.is, which) c.refused_pool.ensures
 
-pub returns-in-Second : goal.returns-in-Second
+pub returns-in-Err-Second : goal.returns-in-Err-Second
 unfolding pool_numbers
-returns-in-Second c = rw c.in-Second.is c.refused_pool-in-Second.ensures
+returns-in-Err-Second c =
+    let which = rw c.in-Err-Second.is at c.in-Err-Second.field-0-is in
+    rw (c.in-Err-Second.is, which) c.refused_pool-in-Err-Second.ensures
 
-pub returns-in-Pooled : goal.returns-in-Pooled
+pub returns-in-Err-Pooled : goal.returns-in-Err-Pooled
 unfolding pool_numbers
-returns-in-Pooled c = rw c.in-Pooled.is c.refused_pool-in-Pooled.ensures
+returns-in-Err-Pooled c =
+    let which = rw c.in-Err-Pooled.is at c.in-Err-Pooled.field-0-is in
+    rw (c.in-Err-Pooled.is, which) c.refused_pool-in-Err-Pooled.ensures

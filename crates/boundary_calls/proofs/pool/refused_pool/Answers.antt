@@ -1,7 +1,6 @@
 -- `boundary_calls::pool::refused_pool` meets its contract.
 -- Assumes nothing.
-use mathlib.Core.Path.{refl}
 use Rattle.boundary_calls.proofs.pool.refused_pool.Goals as goal
 
 pub returns : goal.returns
-returns c = refl
+returns c = rw c.number.ensures

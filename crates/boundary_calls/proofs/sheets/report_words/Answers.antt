@@ -4,12 +4,12 @@ use mathlib.Core.Path.{sym, ◌∙◌}
 use Rattle.boundary.proofs.WordsCounted.{none-counted, head-there, all-counted}
 use Rattle.boundary_calls.proofs.sheets.report_words.Goals as goal
 
-pub returns-in-Refused : goal.returns-in-Refused
-returns-in-Refused c = none-counted _ (sym c.check_sheet.ensures.0 ∙ c.in-Refused.is)
+pub returns-in-Err : goal.returns-in-Err
+returns-in-Err c = none-counted _ (sym c.check_sheet.ensures.0 ∙ c.in-Err.is)
 
 pub rows_of-requires : goal.rows_of-requires
-rows_of-requires c = head-there _ (sym c.check_sheet.ensures.0 ∙ c.in_default.is)
+rows_of-requires c = head-there _ (sym c.check_sheet.ensures.0 ∙ c.in-Ok.is)
 
-pub returns : goal.returns
-returns c =
-    all-counted _ (sym c.check_sheet.ensures.0 ∙ c.in_default.is) c.rows_of.ensures.0
+pub returns-in-Ok : goal.returns-in-Ok
+returns-in-Ok c =
+    all-counted _ (sym c.check_sheet.ensures.0 ∙ c.in-Ok.is) c.rows_of.ensures.0

@@ -1,21 +1,16 @@
--- `boundary_calls::species::write_masses` meets its contract: after i turns the first i words are replaced.
+-- `boundary_calls::species::write_masses` meets its contract: the first 29 words are replaced.
 -- Assumes nothing.
-use mathlib.Core.Path.{refl, ◌∙◌}
-use native.Mathlib.Omega.{arith}
-use borrow.Author.Rules.{rules}
-use lib.ListN.{length-set}
-use Rattle.report_words.proofs.Filled.{filled_none, filled_more, filled-all}
-use Rattle.boundary.proofs.MassesWritten.{mass-at, masses-written}
+use Rattle.std.proofs.Common.{sym, ap, ◌∙◌, length, length-take-le}
+use Rattle.inventory.specs.ReportCall.{written}
+use Rattle.boundary.proofs.MassesWritten.{masses-length}
 use Rattle.boundary_calls.proofs.species.write_masses.Goals as goal
 
-pub loop-i-init : goal.loop-i-init
-loop-i-init c = (search rules, refl, filled_none _ _, c.split-masses.ensures.0)
-
-pub loop-i-preserved : goal.loop-i-preserved
-loop-i-preserved c =
-    let l = c.loop-i in
-    let mass = mass-at _ l.i l.invariant.3 (omega arith) in
-    (search rules, simp length-set l.invariant.1, rw l.invariant.2 (filled_more _ _ l.i (omega arith) mass), l.invariant.3)
+pub copy_from_slice-requires : goal.copy_from_slice-requires
+copy_from_slice-requires c =
+    length-take-le 29 c.args.milligrams.now c.requires ∙ sym (ap length c.split.ensures.0 ∙ masses-length c.args.total)
 
 pub returns : goal.returns
-returns c = let l = c.loop-i in l.invariant.2 ∙ filled-all _ _ l.i 29 (omega arith) (omega arith) ∙ masses-written _ _
+unfolding written
+returns c =
+    let copied = c.copy_from_slice.ensures.after ∙ c.split.ensures.0 in
+    rw (copied, masses-length c.args.total)

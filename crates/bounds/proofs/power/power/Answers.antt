@@ -1,21 +1,14 @@
 -- `bounds::power::power` meets its contract: the cut difference is at most 65·10¹⁰, and the computed T^2.5 encloses the exact one.
 use mathlib.Core.Path.{◌≡◌}
-use Prim.Native.Nat.{◌*◌, ◌-◌, ◌/◌, ◌^◌}
-use native.Mathlib.Omega.{arith}
+use Prim.Native.Nat.{◌*◌, ◌/◌, ◌^◌}
 use Rattle.bounds.specs.Power.{power, power_from}
 use Rattle.bounds.proofs.PowerBound.{power_size, power-within}
 use Rattle.bounds.proofs.power.power.Goals as goal
-use Rattle.bounds.proofs.power.power.Goals.{then-warmth-lt-FREEZING, else-warmth-lt-FREEZING}
-
--- the cut difference
-cut : (c : goal.After-half_power) → c.if-warmth-lt-FREEZING.n ≡ c.args.warmth - 30 * 10 ^ 10
-cut c =
-    elim c.if-warmth-lt-FREEZING.branch [ then-warmth-lt-FREEZING w ↦ omega arith | else-warmth-lt-FREEZING w ↦ omega arith ]
 
 -- the result is the computed T^2.5
 same : (c : goal.After-half_power) → c.half_power.result * 8307674973 / 2 ^ 24 ≡ power c.args.warmth
 unfolding power power_from
-same c = cc (cut c)
+same c = cc
 
 pub returns : goal.returns
 returns c =

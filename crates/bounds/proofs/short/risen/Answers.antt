@@ -22,7 +22,7 @@ known c = record {
 pub returns : goal.returns
 returns c =
     let a = c.args in
-    c.smaller.ensures ∙ ap (λ (y : ℕ). min (a.z + y) a.top) ((known c.before).together ∙ ap (λ (y : ℕ). y / 2 ^ 23) (mul_comm a.r a.k))
+    c.min.ensures ∙ ap (λ (y : ℕ). min (a.z + y) a.top) ((known c.before).together ∙ ap (λ (y : ℕ). y / 2 ^ 23) (mul_comm a.r a.k))
 
 pub overflow_mul-r : goal.overflow_mul-r
 overflow_mul-r c = omega (arith, known c)

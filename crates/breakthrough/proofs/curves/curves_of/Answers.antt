@@ -24,38 +24,22 @@ module _ {bases growths loads : List ℕ} {σ g e : ℕ} (f : CurvesFit bases gr
   exponents-fit e =
       tab-at-most _ 25 e (λ i h. omega (arith, f.exponents-most i h, line-mono (at bases i) (at growths i) (f.loads-most.at_most i)))
 
-lasts-known : (c : goal.After-lines)
-    → let a = c.args in
-    c.lines.result ≡ tab (λ (d : ℕ). line_of (at a.bases.now d) (at a.growths.now d) a.saturation) 25
-lasts-known c =
-    let a = c.args in
-    c.lines.ensures ∙
-    tab-ext 25 (λ d h. ap (line_of (at a.bases.now d) (at a.growths.now d)) (same_at a.saturation d h))
-
 pub returns : goal.returns
 returns c =
     let a = c.args in
     let line : ℕ → ℕ = λ i. line_of (at a.bases.now i) (at a.growths.now i) (at a.loads.now i) in
     record {
       exponents-are = c.lines-exponents.ensures;
-      lasts_are = lasts-known c.before.before.before.before;
+      lasts_are =
+          c.lines.ensures ∙ tab-ext 25 (λ d h. ap (line_of (at a.bases.now d) (at a.growths.now d)) (same_at a.saturation d h));
       reaches-are = c.reaches.ensures;
       rooms-are = c.rooms.ensures;
       firsts-are = c.first_losses.ensures ∙ tab-ext 25 (λ i h. rw (c.lines-exponents.ensures, get_d-tab line 25 i h));
       gain-is = refl;
     }
 
-pub lines-exponents-requires : goal.lines-exponents-requires
-lines-exponents-requires c = let f = c.requires.1 in (f.bases-most, f.growths-most, small-loads f)
-
 pub lines-requires : goal.lines-requires
 lines-requires c = let f = c.requires.1 in (f.bases-most, f.growths-most, small-full f)
-
-pub reaches-requires : goal.reaches-requires
-reaches-requires c = let f = c.requires.1 in (f.growths-most, f.gain-most)
-
-pub rooms-requires : goal.rooms-requires
-rooms-requires c = let f = c.requires.1 in (f.loads-most, f.saturation-most)
 
 pub first_losses-requires : goal.first_losses-requires
 first_losses-requires c =

@@ -3,19 +3,13 @@ use mathlib.Core.Path.{refl, ap}
 use Prim.Native.Nat.{ℕ, ◌+◌, ◌*◌, ◌^◌}
 use native.Mathlib.Omega.{arith}
 use lib.ListN.{replicate}
-use Rattle.numbers.proofs.Lists.{filled_none, filled_more, filled-all}
+use Rattle.numbers.proofs.Lists.{filled_none, filled_more}
 use Rattle.breakthrough.proofs.curves.first_losses.Goals as goal
 
 pub loop-d-init : goal.loop-d-init
 loop-d-init c = filled_none _ (replicate 25 0) refl
 
-pub short-requires : goal.short-requires
-short-requires c = let p = c.requires in (p.0, omega (arith, p.1.at_most c.loop-d.d))
-
 pub loop-d-preserved : goal.loop-d-preserved
 loop-d-preserved c =
     filled_more c.loop-d.invariant (omega arith)
     (ap (λ (x : ℕ). x * 2 ^ 4 + c.args.error) c.short.ensures.0)
-
-pub returns : goal.returns
-returns c = filled-all c.loop-d.invariant (omega arith)

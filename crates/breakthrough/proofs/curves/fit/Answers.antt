@@ -16,9 +16,3 @@ returns c =
     curves-by (λ d h. refl) (λ d h. refl)
     (λ d h. rw c.start_loads-loads.ensures (get_d-tab (starts_by a.row a.bases.now a.growths.now) 25 d h))
     c.tenth_grams-saturation.ensures refl c.loss_error.ensures.0 c.curves_of.ensures
-
-pub start_loads-loads-requires : goal.start_loads-loads-requires
-start_loads-loads-requires c = let p = c.requires in (p.0, p.1.loads-ready, p.1.kept_of)
-
-pub tenth_grams-saturation-requires : goal.tenth_grams-saturation-requires
-tenth_grams-saturation-requires c = c.requires.1.loads-ready.saturation-most

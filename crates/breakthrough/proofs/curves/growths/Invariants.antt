@@ -6,7 +6,4 @@ use Rattle.bounds.specs.Short.{binary}
 use Rattle.breakthrough.proofs.curves.growths.Given as goal
 
 abbrev pub invariant-loop-d : goal.invariant-loop-d
-invariant-loop-d l = Filled (λ (k : ℕ). binary ((112 * 10 ^ 11 + at l.warmths k - 15 * 10 ^ 8 * l.vp) * l.times)) 25 l.d l.out
-
-abbrev pub decreases-loop-d : goal.decreases-loop-d
-decreases-loop-d l = 25 - l.d
+invariant-loop-d l = Filled (λ (k : ℕ). binary ((112 * 10 ^ 11 + at l.warmths k - 15 * 10 ^ 8 * l.vp) * l.times)) 25 l.d l.growth-items

@@ -2,20 +2,11 @@
 use mathlib.Core.Path.{refl}
 use native.Mathlib.Omega.{arith}
 use lib.ListN.{replicate}
-use Rattle.numbers.proofs.Lists.{filled_none, filled_more, filled-all}
+use Rattle.numbers.proofs.Lists.{filled_none, filled_more}
 use Rattle.breakthrough.proofs.curves.reaches.Goals as goal
 
 pub loop-d-init : goal.loop-d-init
 loop-d-init c = filled_none _ (replicate 25 0) refl
 
-pub mul_shift-requires : goal.mul_shift-requires
-mul_shift-requires c = (
-  omega (arith, c.requires.0.at_most c.loop-d.d),
-  omega (arith, c.requires.1),
-)
-
 pub loop-d-preserved : goal.loop-d-preserved
 loop-d-preserved c = filled_more c.loop-d.invariant (omega arith) (omega (arith, c.mul_shift.ensures.0))
-
-pub returns : goal.returns
-returns c = filled-all c.loop-d.invariant (omega arith)

@@ -5,7 +5,4 @@ use Rattle.numbers.proofs.Lists.{Filled}
 use Rattle.breakthrough.proofs.curves.rooms.Given as goal
 
 abbrev pub invariant-loop-d : goal.invariant-loop-d
-invariant-loop-d l = Filled (λ (k : ℕ). l.saturation + 1 - at l.loads k) 25 l.d l.out
-
-abbrev pub decreases-loop-d : goal.decreases-loop-d
-decreases-loop-d l = 25 - l.d
+invariant-loop-d l = Filled (λ (k : ℕ). l.saturation + 1 - at l.loads k) 25 l.d l.room-items

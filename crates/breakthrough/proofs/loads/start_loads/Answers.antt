@@ -4,10 +4,6 @@ use Rattle.numbers.proofs.Lists.{tab-ext, tab-constant}
 use Rattle.factors.proofs.Starts.{start-driven, start-written}
 use Rattle.breakthrough.proofs.loads.start_loads.Goals as goal
 
-pub starts-requires : goal.starts-requires
-starts-requires c =
-    (c.requires.0, rw c.tenth_grams.ensures (c.requires.1.balanced c.if-row-ge-FIRST_KILOMETRES.true))
-
 pub returns-then-row-ge-FIRST_KILOMETRES : goal.returns-then-row-ge-FIRST_KILOMETRES
 returns-then-row-ge-FIRST_KILOMETRES c =
     let km = c.if-row-ge-FIRST_KILOMETRES.true in

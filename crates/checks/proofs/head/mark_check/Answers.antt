@@ -1,7 +1,7 @@
 -- `checks::head::mark_check` meets its contract: a sheet under 8 bytes stops at once.
 -- Assumes nothing.
 use borrow.Author.Tests.{lt-ltb, le-ltb}
-use Rattle.sheet.specs.Check.{refuse, ◌then◌}
+use Rattle.refusals.specs.Check.{refuse, ◌then◌}
 use Rattle.sheet.specs.Sheet.{mark_check}
 use Rattle.sheet.proofs.Stages.{passed}
 use Rattle.checks.proofs.head.mark_check.Goals as goal
@@ -12,4 +12,4 @@ returns-then-s-lt-HEAD c = simp (lt-ltb _ _ c.if-s-lt-HEAD.true)
 
 pub returns : goal.returns
 unfolding mark_check
-returns c = passed _ _ _ (le-ltb _ _ c.if-s-lt-HEAD.false) (rw (c.when.ensures, c.letters_missing.ensures))
+returns c = passed _ _ _ (le-ltb _ _ c.if-s-lt-HEAD.false) (rw (c.refuse.ensures, c.letters_missing.ensures))

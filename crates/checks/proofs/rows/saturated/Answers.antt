@@ -13,25 +13,24 @@ use Rattle.checks.proofs.rows.saturated.Goals as goal
 
 pub loop-i-init : goal.loop-i-init
 unfolding some_season
-loop-i-init c = (search rules, refl)
+loop-i-init c = refl
 
 pub saturation_above-wrong-requires : goal.saturation_above-wrong-requires
 saturation_above-wrong-requires c =
     let l = c.loop-i in
-    let start = c.before.before.before.before.before in
     let season = c.season_at.ensures in
-    let s = start.args.s.now in
-    let passes = each-pass (season_check s) _ start.requires.0.passed l.i (search rules) in
-    (passed-in-range s l.i passes season.0 season.2 season.3, start.requires.1, start.requires.2)
+    let s = c.args.s.now in
+    let passes = each-pass (season_check s) _ c.requires.0.passed l.i (search rules) in
+    (passed-in-range s l.i passes season.0 season.2 season.3, c.requires.1, c.requires.2)
 
 pub loop-i-preserved : goal.loop-i-preserved
 unfolding some_season
 loop-i-preserved c =
     let l = c.loop-i in
-    (search rules, rw (add-one, l.invariant.1, c.saturation_above-wrong.ensures, c.season_at.ensures.0))
+    rw (add-one, l.invariant, c.saturation_above-wrong.ensures, c.season_at.ensures.0)
 
 pub returns : goal.returns
-returns c = let l = c.loop-i in l.invariant.1 ∙ ap (some_season _ _) (le_antisymm (search rules) (search rules))
+returns c = let l = c.loop-i in l.invariant ∙ ap (some_season _ _) (le_antisymm (search rules) (search rules))
 
-pub seasons_of-n-requires : goal.seasons_of-n-requires
-seasons_of-n-requires c = omega (arith, start_between c.args.s.now)
+pub seasons_of-i-end-requires : goal.seasons_of-i-end-requires
+seasons_of-i-end-requires c = omega (arith, start_between c.args.s.now)

@@ -4,7 +4,6 @@ use mathlib.Core.Path.{◌≡◌, refl, ◌∙◌, ap}
 use Prim.Native.Nat.{ℕ, ◌+◌, ◌*◌, ◌-◌, ◌≤◌, ◌<◌}
 use native.Mathlib.Omega.{arith}
 use native.Mathlib.Nat.{mul-le-mul, mul-le-mul_left}
-use borrow.Author.Rules.{rules}
 use lib.ListN.{length, length-take, length-drop}
 use Rattle.sheet.specs.Bytes.{seasons_of, rows_of}
 use Rattle.sheet.proofs.Accepted.{accepted}
@@ -25,7 +24,7 @@ season_factors-requires c =
     let end = fits _ c.args.words.now there c.requires.2 in
     let counted = c.rows_of-size.ensures.0 in
     let p = c.requires in
-    rw counted (p.0, there, simp (length-take, length-drop) (omega (arith, end, c.loop-j.invariant.1)), p.1)
+    rw counted (p.0, there, simp (length-take, length-drop) (omega (arith, end, c.loop-j.invariant.0)), p.1)
 
 pub loop-j-preserved : goal.loop-j-preserved
 loop-j-preserved c =
@@ -38,9 +37,8 @@ loop-j-preserved c =
     let n = 14 * c.rows_of-size.result in
     let left : n * l.j + n - n * l.j ≡ n = omega arith in
     let next = blocks-put (season_factors s) (14 * rows_of s) (season-length s) x.words.now l.j (n * l.j) (n * l.j + n - n * l.j) l.words
-    c.season_factors.new.words l.invariant.2 (ap (λ (r : ℕ). 14 * r * l.j) counted)
+    c.season_factors.new.words l.invariant.1 (ap (λ (r : ℕ). 14 * r * l.j) counted)
     (left ∙ ap (λ (r : ℕ). 14 * r) counted) c.season_factors.ensures in (
-      search rules,
       ap length next ∙ blocks-kept (season_factors s) (14 * rows_of s) (season-length s) x.words.now (l.j + 1) (omega (arith, end)),
       next,
     )
@@ -50,7 +48,7 @@ returns c =
     let l = c.loop-j in
     let s = c.args.s.now in
     let all : l.j ≡ seasons_of s = omega arith in
-    l.invariant.2 ∙ all-written s l.j _ all
+    l.invariant.1 ∙ all-written s l.j _ all
 
 pub rows_of-size-requires : goal.rows_of-size-requires
 rows_of-size-requires c = omega (arith, parking-there _ c.requires.0.passes)
@@ -62,7 +60,7 @@ pub seasons_of-seasons-requires : goal.seasons_of-seasons-requires
 seasons_of-seasons-requires c = omega (arith, parking-there _ c.requires.0.passes)
 
 pub loop-j-init : goal.loop-j-init
-loop-j-init c = let s = c.args.s.now in (search rules, refl, blocks-none _ (14 * rows_of s) (season-length s) _)
+loop-j-init c = let s = c.args.s.now in (refl, blocks-none _ (14 * rows_of s) (season-length s) _)
 
 pub overflow_mul-start : goal.overflow_mul-start
 overflow_mul-start c =
@@ -94,8 +92,8 @@ slice_bounds-season_factors-end c =
     let end = fits _ c.args.words.now there c.requires.2 in
     let counted = c.rows_of-size.ensures.0 in
     let within : 14 * c.rows_of-size.result * c.loop-j.j + 14 * c.rows_of-size.result ≤ length c.loop-j.words =
-    rw counted (omega (arith, end, c.loop-j.invariant.1)) in
+    rw counted (omega (arith, end, c.loop-j.invariant.0)) in
     omega (arith, within)
 
 pub shape_of-words : goal.shape_of-words
-shape_of-words c = c.loop-j.invariant.1
+shape_of-words c = c.loop-j.invariant.0

@@ -1,6 +1,6 @@
 -- `factor_table::table::all_factors` meets its contract: the words of the first j seasons are stored, the others are as they were.
 use mathlib.Core.Path.{◌≡◌}
-use Prim.Native.Nat.{◌*◌, ◌-◌, ◌≤◌}
+use Prim.Native.Nat.{◌*◌}
 use lib.ListN.{length}
 use Rattle.sheet.specs.Bytes.{rows_of}
 use Rattle.blocks.proofs.Blocks.{filled_blocks}
@@ -9,8 +9,5 @@ use Rattle.factor_table.proofs.SheetTable.{season-length}
 use Rattle.factor_table.proofs.table.all_factors.Given as goal
 
 abbrev pub invariant-loop-j : goal.invariant-loop-j
-invariant-loop-j l = (l.j ≤ l.seasons) × (length l.words ≡ length l.initial.words)
+invariant-loop-j l = (length l.words ≡ length l.initial.words)
     × (l.words ≡ filled_blocks (season_factors l.s) (14 * rows_of l.s) (season-length l.s) l.initial.words l.j)
-
-abbrev pub decreases-loop-j : goal.decreases-loop-j
-decreases-loop-j l = l.seasons - l.j

@@ -2,7 +2,6 @@
 use mathlib.Core.Path.{◌≡◌, refl, ◌∙◌}
 use Prim.Native.Nat.{◌<◌}
 use native.Mathlib.Omega.{arith}
-use borrow.Author.Rules.{rules}
 use Rattle.sheet.specs.Range.{SeasonInRange}
 use Rattle.sheet.specs.Bytes.{rows_of, cells_of, season_at, row_at}
 use Rattle.sheet.proofs.Accepted.{Bytes, accepted}
@@ -44,7 +43,7 @@ put_bands-requires c =
     season-lent bytes p.0 p.1 season-is c.at_season-at.ensures.1 in
     -- it is a row of the sheet
     let there : c.loop-i.i < rows_of c.args.s.now = omega (arith, c.loop-i-test.true, c.rows_of-rows.ensures.0) in (
-      omega (arith, there, c.loop-i.invariant.1, c.requires.2),
+      omega (arith, there, c.loop-i.invariant.0, c.requires.2),
       rw c.row_units-units.ensures
           (units-in-range ready.lent.day-ready.season-in (rw c.row_at.ensures.0 (ready.rows_in _ there)) _),
     )
@@ -62,17 +61,16 @@ loop-i-preserved c =
     c.row_units-units.ensures ∙ alike season-is c.row_at.ensures.0 c.requires.0.cells_are in
     let l = c.loop-i in
     let x = c.args in (
-      search rules,
       cc,
-      c.put_bands.ensures ∙ row-stored x.s.now x.j l.i x.words.now l.words l.invariant.2
-          (omega (arith, there, l.invariant.1, c.requires.2)) units,
+      c.put_bands.ensures ∙ row-stored x.s.now x.j l.i x.words.now l.words l.invariant.1
+          (omega (arith, there, l.invariant.0, c.requires.2)) units,
     )
 
 pub returns : goal.returns
 returns c =
     let l = c.loop-i in
     let all : l.i ≡ rows_of c.args.s.now = omega (arith, c.rows_of-rows.ensures.0) in
-    l.invariant.2 ∙ season-whole c.args.s.now c.args.j l.i c.args.words.now all c.requires.2
+    l.invariant.1 ∙ season-whole c.args.s.now c.args.j l.i c.args.words.now all c.requires.2
 
 pub season_at-requires : goal.season_at-requires
 season_at-requires c = let p = c.requires in season-there _ p.0.passes p.1
@@ -89,7 +87,7 @@ pub rows_of-rows-requires : goal.rows_of-rows-requires
 rows_of-rows-requires c = omega (arith, parking-there _ c.requires.0.passes)
 
 pub loop-i-init : goal.loop-i-init
-loop-i-init c = let x = c.args in (search rules, refl, blocks-none _ 14 (bands-length x.s.now x.j) _)
+loop-i-init c = let x = c.args in (refl, blocks-none _ 14 (bands-length x.s.now x.j) _)
 
 pub row_at-requires : goal.row_at-requires
 row_at-requires c =
@@ -110,4 +108,4 @@ overflow_mul-i c =
     omega (arith, c.loop-i-test.true, c.rows_of-rows.ensures.0, rows_fit _ c.requires.0.passes)
 
 pub shape_of-words : goal.shape_of-words
-shape_of-words c = c.loop-i.invariant.1
+shape_of-words c = c.loop-i.invariant.0

@@ -1,6 +1,5 @@
 -- `factor_table::table::season_factors` meets its contract: the words of the first i rows are stored, the others are as they were.
 use mathlib.Core.Path.{◌≡◌}
-use Prim.Native.Nat.{◌-◌, ◌≤◌}
 use lib.ListN.{length}
 use Rattle.blocks.proofs.Blocks.{filled_blocks}
 use Rattle.factor_table.specs.RowFactors.{band_words}
@@ -8,8 +7,5 @@ use Rattle.factor_table.proofs.Pairs.{bands-length}
 use Rattle.factor_table.proofs.table.season_factors.Given as goal
 
 abbrev pub invariant-loop-i : goal.invariant-loop-i
-invariant-loop-i l = (l.i ≤ l.rows) × (length l.words ≡ length l.initial.words)
+invariant-loop-i l = (length l.words ≡ length l.initial.words)
     × (l.words ≡ filled_blocks (band_words l.s l.j) 14 (bands-length l.s l.j) l.initial.words l.i)
-
-abbrev pub decreases-loop-i : goal.decreases-loop-i
-decreases-loop-i l = l.rows - l.i

@@ -7,7 +7,7 @@ use Prim.Native.Nat.{ℕ, ◌<◌}
 use native.Mathlib.Omega.{arith}
 use Rattle.numbers.specs.Lists.{at}
 use Rattle.exact.specs.Factors.{total}
-use Rattle.sheet.specs.declared.Check.TheVariants.{Pass}
+use Rattle.refusals.specs.Check.{Pass}
 use Rattle.sheet.specs.Sheet.{sheet_check}
 use Rattle.sheet.specs.Bytes.{rows_of, row_at}
 use Rattle.sheet.specs.Versions.{has_many_rows}

@@ -17,17 +17,17 @@ returns-in_default c = kept (sum_first _ _ c.masses_of-first.ensures c.in_defaul
 
 pub returns-in_default-second : goal.returns-in_default-second
 returns-in_default-second c =
-    kept (sum-second _ _ c.masses_of-first.ensures _ _ c.in-Between.is c.masses_of-second.ensures c.in_default-second.is)
+    kept (sum-second _ _ c.masses_of-first.ensures _ _ c.in-Some.is c.masses_of-second.ensures c.in_default-second.is)
 
 pub add_masses-requires : goal.add_masses-requires
 add_masses-requires c =
-    let first = masses-in-order _ _ _ (sym c.masses_of-first.ensures ∙ c.in-Between.is) in
-    let second = masses-in-order _ _ _ (sym c.masses_of-second.ensures ∙ c.in-Between-second.is) in
+    let first = masses-in-order _ _ _ (sym c.masses_of-first.ensures ∙ c.in-Some.is) in
+    let second = masses-in-order _ _ _ (sym c.masses_of-second.ensures ∙ c.in-Some-second.is) in
     (first.order, first.limit, second.order, second.limit)
 
 pub returns : goal.returns
 returns c =
     kept
     (c.add_masses.ensures
-    ∙ sym (sum_both _ _ c.masses_of-first.ensures _ _ _ _ c.in-Between.is c.masses_of-second.ensures
-    c.in-Between-second.is))
+    ∙ sym (sum_both _ _ c.masses_of-first.ensures _ _ _ _ c.in-Some.is c.masses_of-second.ensures
+    c.in-Some-second.is))

@@ -10,8 +10,8 @@ use Rattle.parking.proofs.Sums.{at-le-total}
 use Rattle.parking.proofs.Products.{products-tab}
 use Rattle.parking.proofs.cells.products.Goals as goal
 
-pub overflow_mul-out : goal.overflow_mul-out
-overflow_mul-out c =
+pub overflow_mul-product : goal.overflow_mul-product
+overflow_mul-product c =
     let fits : at c.args.durations (c.loop-cell.cell % 24) * at c.args.hours (c.loop-cell.cell / 24) ≤ 1000 * 1000
     = mul-le-mul {n₂ = 1000} {m₂ = 1000} (omega (arith, at-le-total c.args.durations (c.loop-cell.cell % 24)))
     (omega (arith, at-le-total c.args.hours (c.loop-cell.cell / 24))) in

@@ -1,10 +1,9 @@
 -- `parking::grid::apart_counts` meets its contract: the distances hold the tally of the first cells.
-use mathlib.Core.Path.{◌∙◌, ap}
+use mathlib.Core.Path.{ap}
 use Prim.Native.Nat.{◌≤◌}
 use native.Mathlib.Omega.{arith}
-use borrow.Author.Rules.{rules}
 use Rattle.numbers.specs.Lists.{at, sum}
-use Rattle.parking.specs.Grid.{apart_of, tally}
+use Rattle.parking.specs.Grid.{is_end, apart_of}
 use Rattle.parking.proofs.Sums.{total-is, sum-within}
 use Rattle.parking.proofs.Tally.{apart_of-below, tally-le, tally-none, tally-more}
 use Rattle.parking.proofs.grid.apart_counts.Goals as goal
@@ -15,16 +14,13 @@ overflow_add-out c =
     let d = c.apart_of-d.result in
     let cells = c.args.cells.now in
     let old : at l.out d ≤ sum (at cells) l.cell
-    = rw l.invariant.1 (tally-le 25 (apart_of c.args.ends) cells (apart_of-below c.args.ends) l.cell d) in
+    = rw l.invariant (tally-le 25 (apart_of (is_end c.args.moment)) cells (apart_of-below (is_end c.args.moment)) l.cell d) in
     omega (arith, total-is cells, ap (sum (at cells)) c.requires.length-is, sum-within (at cells) {k = l.cell} {n = 576} (omega arith))
 
 pub loop-cell-preserved : goal.loop-cell-preserved
 loop-cell-preserved c =
     let l = c.loop-cell in
-    (search rules, rw (c.apart_of-d.ensures.0, l.invariant.1) (tally-more _ _ _ l.cell))
+    rw (c.apart_of-d.ensures.0, l.invariant) (tally-more _ _ _ l.cell)
 
 pub loop-cell-init : goal.loop-cell-init
-loop-cell-init c = (search rules, tally-none _ _ _)
-
-pub returns : goal.returns
-returns c = c.loop-cell.invariant.1 ∙ ap (tally _ _ _) {y = 576} (omega arith)
+loop-cell-init c = tally-none _ _ _

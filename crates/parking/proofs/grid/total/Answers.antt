@@ -1,7 +1,6 @@
 -- `parking::grid::total` meets its contract: the sum so far is that of the first cells.
 use mathlib.Core.Path.{refl, sym, ◌∙◌, ap}
 use native.Mathlib.Omega.{arith}
-use borrow.Author.Rules.{rules}
 use Rattle.numbers.specs.Lists as lists
 use Rattle.numbers.specs.Lists.{at}
 use Rattle.numbers.proofs.Lists.{sum-none, sum_more, sum-all}
@@ -16,13 +15,13 @@ overflow_add-sum c =
     omega (arith, total-is cells, ap (lists.sum (at cells)) r.length-is, sum-within (at cells) {k = l.cell} {n = 576} (omega arith))
 
 pub loop-cell-init : goal.loop-cell-init
-loop-cell-init c = (search rules, sum-none _)
+loop-cell-init c = sum-none _
 
 pub loop-cell-preserved : goal.loop-cell-preserved
-loop-cell-preserved c = (search rules, sum_more _ _ c.loop-cell.invariant.1 refl)
+loop-cell-preserved c = sum_more _ _ c.loop-cell.invariant refl
 
 pub returns : goal.returns
 returns c =
     let cells = c.args.cells.now in
-    sum-all _ _ 576 c.loop-cell.invariant.1 (omega arith) (omega arith) ∙
+    sum-all _ _ 576 c.loop-cell.invariant (omega arith) (omega arith) ∙
     ap (lists.sum (at cells)) (sym c.requires.length-is) ∙ sym (total-is cells)

@@ -1,7 +1,7 @@
 -- `parking::means::mean_by_cell` meets its contract: the sum so far is that of the first cells.
 use mathlib.Core.List.{List}
 use mathlib.Core.Path.{◌≡◌}
-use Prim.Native.Nat.{ℕ, ◌*◌, ◌-◌, ◌/◌, ◌^◌, ◌≤◌}
+use Prim.Native.Nat.{ℕ, ◌*◌, ◌/◌, ◌^◌}
 use Rattle.numbers.specs.Lists as lists
 use Rattle.numbers.specs.Lists.{at}
 use Rattle.parking.proofs.means.mean_by_cell.Given as goal
@@ -11,7 +11,4 @@ abbrev pub part : List ℕ → List ℕ → ℕ → ℕ
 part grid values cell = at grid cell * (at values cell / 2 ^ 12)
 
 abbrev pub invariant-loop-cell : goal.invariant-loop-cell
-invariant-loop-cell l = (l.cell ≤ 576) × (l.sum ≡ lists.sum (part l.grid l.values) l.cell)
-
-abbrev pub decreases-loop-cell : goal.decreases-loop-cell
-decreases-loop-cell l = 576 - l.cell
+invariant-loop-cell l = l.sum ≡ lists.sum (part l.grid l.values) l.cell

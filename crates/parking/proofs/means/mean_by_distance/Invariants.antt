@@ -2,10 +2,10 @@
 use mathlib.Core.Bool.{Bool}
 use mathlib.Core.List.{List}
 use mathlib.Core.Path.{◌≡◌}
-use Prim.Native.Nat.{ℕ, ◌+◌, ◌*◌, ◌-◌, ◌/◌, ◌^◌, ◌≤◌}
+use Prim.Native.Nat.{ℕ, ◌+◌, ◌*◌, ◌/◌, ◌^◌}
 use Rattle.numbers.specs.Lists as lists
 use Rattle.numbers.specs.Lists.{at}
-use Rattle.parking.specs.Grid.{apart_place}
+use Rattle.parking.specs.Grid.{is_end, apart_place}
 use Rattle.parking.proofs.means.mean_by_distance.Given as goal
 
 -- what a distance adds
@@ -13,7 +13,4 @@ abbrev pub part : List ℕ → Bool → List ℕ → ℕ → ℕ
 part grid ends values d = at grid (apart_place ends + d) * (at values d / 2 ^ 12)
 
 abbrev pub invariant-loop-d : goal.invariant-loop-d
-invariant-loop-d l = (l.d ≤ 25) × (l.sum ≡ lists.sum (part l.grid l.ends l.values) l.d)
-
-abbrev pub decreases-loop-d : goal.decreases-loop-d
-decreases-loop-d l = 25 - l.d
+invariant-loop-d l = l.sum ≡ lists.sum (part l.grid (is_end l.fn.moment) l.values) l.d

@@ -4,6 +4,7 @@ use Prim.Native.Nat.{ℕ}
 use Rattle.numbers.specs.Lists.{at}
 use Rattle.numbers.proofs.Lists.{tab-at-most}
 use Rattle.bounds.specs.Ahead.{ahead}
+use Rattle.parking.specs.Grid.{is_end}
 use Rattle.parking.proofs.Weighted.{mean-distances}
 use Rattle.parking.proofs.means.mean_by_mark.Goals as goal
 
@@ -14,5 +15,5 @@ mean_by_distance-requires c =
 pub returns : goal.returns
 returns c =
     c.mean_by_distance.ensures ∙
-    mean-distances _ c.args.ends (λ (d : ℕ). at c.args.values.now (ahead d))
+    mean-distances _ (is_end c.args.moment) (λ (d : ℕ). at c.args.values.now (ahead d))
     c.by_distance-by.ensures

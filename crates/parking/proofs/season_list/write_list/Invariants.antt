@@ -1,6 +1,5 @@
 -- `parking::season_list::write_list` meets its contract: the first cells are counted.
 use mathlib.Core.Path.{◌≡◌}
-use Prim.Native.Nat.{◌-◌, ◌≤◌}
 use lib.ListN.{length}
 use Rattle.numbers.specs.Lists.{AllAtMost}
 use Rattle.parking.specs.Grid.{cells_in}
@@ -9,8 +8,5 @@ use Rattle.parking.proofs.CountedRises.{counted_rises}
 use Rattle.parking.proofs.season_list.write_list.Given as goal
 
 abbrev pub invariant-loop-cell : goal.invariant-loop-cell
-invariant-loop-cell l = (l.cell ≤ 576) × Counted (cells_in l.grid) (counted_rises (cells_in l.grid) l.rises) l.cell l.starts l.values l.counts l.len
+invariant-loop-cell l = Counted (cells_in l.grid) (counted_rises (cells_in l.grid) l.rises) l.cell l.starts l.values l.counts l.len
     × AllAtMost 576 l.last × (length l.last ≡ 48)
-
-abbrev pub decreases-loop-cell : goal.decreases-loop-cell
-decreases-loop-cell l = 576 - l.cell

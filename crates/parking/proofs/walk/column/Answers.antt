@@ -1,6 +1,6 @@
 -- `parking::walk::column` meets its contract: the first durations hold what passed in their parkings, and what is carried is the last of
 -- these, in one step for each.
-use mathlib.Core.Path.{◌≡◌, refl, sym, ◌∙◌, ap}
+use mathlib.Core.Path.{◌≡◌, refl, ◌∙◌, ap}
 use Prim.Native.Nat.{◌+◌, ◌^◌}
 use native.Mathlib.Numerals.{add-one}
 use native.Mathlib.Nat.{mul-le-mul_right}
@@ -36,9 +36,6 @@ loop-d-preserved c =
     passed-more (at c.args.values.now) c.args.hour l.d l.invariant.1
     (ap (at c.args.values.now) c.start_mark-mark.ensures.0) in
     (filled_more l.invariant.0 (omega arith) (rw add-one at next), next, omega arith)
-
-pub shape_of-out : goal.shape_of-out
-shape_of-out c = c.loop-d.invariant.0.long ∙ sym c.requires.2
 
 pub returns : goal.returns
 returns c = (filled-all c.loop-d.invariant.0 (omega arith) ∙ column-is _ _, omega arith)

@@ -6,7 +6,4 @@ use Rattle.numbers.proofs.Lists.{Filled}
 use Rattle.parking.proofs.walk.lowered.Given as goal
 
 abbrev pub invariant-loop-cell : goal.invariant-loop-cell
-invariant-loop-cell l = Filled (λ (k : ℕ). at l.values k - rise_error) 576 l.cell l.out
-
-abbrev pub decreases-loop-cell : goal.decreases-loop-cell
-decreases-loop-cell l = 576 - l.cell
+invariant-loop-cell l = Filled (λ (k : ℕ). at l.values k - rise_error) 576 l.cell l.lower-items

@@ -3,16 +3,18 @@
 use mathlib.Core.List.{List}
 use mathlib.Core.Path.{◌≡◌, refl, sym, ap, ◌∙◌}
 use Prim.Native.Nat.{ℕ, ◌+◌}
+use Rattle.std.proofs.Common.{Err}
 use native.Mathlib.Omega.{arith}
 use borrow.Author.Rules.{rules}
 use Rattle.sheet.specs.Bytes.{rows_of, row_at}
-use Rattle.sheet.specs.Check.{each}
+use Rattle.refusals.specs.Check.{Check, each}
 use Rattle.sheet.specs.RunningSums.{vehicles_before}
 use Rattle.sheet.proofs.Fleet.{vehicles-none, vehicles-more}
-use Rattle.sheet.proofs.Stages.{each_none, each_more, each-stop, each_all}
+use Rattle.sheet.proofs.Stages.{each_none, each_more, each_all}
+use Rattle.refusals.proofs.Chain.{each_stops}
 use Rattle.pooling.proofs.PoolBytes.{start, length-is, length_most, rows-most}
 use Rattle.pooling.proofs.PoolAnswers.{region}
-use Rattle.pooling.proofs.LateSteps.{fleet-stops, fleet-goes}
+use Rattle.pooling.proofs.LateSteps.{fleet-is}
 use Rattle.pooling_calls.proofs.check.fleet_check.Goals as goal
 
 -- the vehicles of the first sheet and of the second up to row i
@@ -20,36 +22,37 @@ together : (a b : List ℕ) (i : ℕ) {sum v : ℕ} → sum ≡ vehicles_before 
     → sum + v ≡ vehicles_before a (rows_of a) + vehicles_before b (i + 1)
 together a b i before row = omega (arith, vehicles-more b i refl row)
 
-pub returns-then-vehicles-gt-FLEET_LIMIT : goal.returns-then-vehicles-gt-FLEET_LIMIT
-returns-then-vehicles-gt-FLEET_LIMIT c =
+pub returns-in_err-refuse : goal.returns-in_err-refuse
+returns-in_err-refuse c =
     let l = c.loop-i in
-    let both = together c.args.a.now c.args.b.now l.i l.invariant.2 c.vehicles_of-vehicles.ensures.0 in
-    each-stop _ l.i _ l.invariant.1 (omega arith) (fleet-stops _ _ l.i both (region _ c.requires.first) (omega arith)) ∙
-    ap (each _) c.rows_of-n.ensures.0
+    let both = together c.args.a.now c.args.b.now l.i l.invariant.1 c.vehicles_of-vehicles.ensures.0 in
+    let here = fleet-is c.args.a.now c.args.b.now l.i (region _ c.requires.first) both refl c.refuse.ensures in
+    let handed : ◌≡◌ {A = Check} c.from_residual.result (Err c.in_err-refuse.field-0.0) = search rules in
+    handed ∙ sym (each_stops _ l.i _ _ l.invariant.0 (omega (arith, c.rows_of-i-end.ensures.0)) (sym here ∙ c.in_err-refuse.was))
 
 pub loop-i-preserved : goal.loop-i-preserved
 loop-i-preserved c =
     let l = c.loop-i in
-    let both = together c.args.a.now c.args.b.now l.i l.invariant.2 c.vehicles_of-vehicles.ensures.0 in (
-      search rules,
-      each_more _ l.i l.invariant.1 (sym (fleet-goes _ _ l.i both (omega arith))) refl,
+    let both = together c.args.a.now c.args.b.now l.i l.invariant.1 c.vehicles_of-vehicles.ensures.0 in
+    let here = fleet-is c.args.a.now c.args.b.now l.i (region _ c.requires.first) both refl c.refuse.ensures in (
+      each_more _ l.i l.invariant.0 here c.in_ok-refuse.was,
       both,
-      omega (arith, c.vehicles_of-vehicles.ensures.1, l.invariant.3),
+      omega (arith, c.vehicles_of-vehicles.ensures.1, l.invariant.2),
     )
 
 pub returns : goal.returns
 returns c =
     let l = c.loop-i in
-    each_all _ l.i _ l.invariant.1 (omega arith) (omega arith) ∙ ap (each _) c.rows_of-n.ensures.0
+    each_all _ l.i _ l.invariant.0 (omega arith) (omega arith) ∙ ap (each _) c.rows_of-i-end.ensures.0
 
-pub rows_of-n-requires : goal.rows_of-n-requires
-rows_of-n-requires c = omega (arith, length-is (region _ c.requires.second))
+pub rows_of-i-end-requires : goal.rows_of-i-end-requires
+rows_of-i-end-requires c = omega (arith, length-is (region _ c.requires.second))
 
 pub fleet_of-vehicles-requires : goal.fleet_of-vehicles-requires
 fleet_of-vehicles-requires c = (region _ c.requires.first).passed
 
 pub loop-i-init : goal.loop-i-init
-loop-i-init c = (search rules, each_none _, omega (arith, vehicles-none c.args.b.now), omega arith)
+loop-i-init c = (each_none _, omega (arith, vehicles-none c.args.b.now), omega arith)
 
 pub vehicles_of-vehicles-requires : goal.vehicles_of-vehicles-requires
 vehicles_of-vehicles-requires c = let r = region _ c.requires.second in omega (arith, length-is r, start r)
@@ -57,9 +60,9 @@ vehicles_of-vehicles-requires c = let r = region _ c.requires.second in omega (a
 pub overflow_add-vehicles : goal.overflow_add-vehicles
 overflow_add-vehicles c =
     let r = region _ c.requires.second in
-    omega (arith, rows-most r, c.loop-i.invariant.3)
+    omega (arith, rows-most r, c.loop-i.invariant.2)
 
-pub overflow_add-result : goal.overflow_add-result
-overflow_add-result c =
+pub overflow_add-a : goal.overflow_add-a
+overflow_add-a c =
     let p = c.requires in
     omega (arith, length_most (region _ p.first), rows-most (region _ p.second))

@@ -1,17 +1,13 @@
 -- `pooling_calls::check::fleet_check` meets its contract: every row before i has passed, and their vehicles are counted.
 -- Assumes nothing.
 use mathlib.Core.Path.{◌≡◌}
-use Prim.Native.Nat.{◌+◌, ◌*◌, ◌-◌, ◌^◌, ◌≤◌}
-use Rattle.sheet.specs.declared.Check.TheVariants.{Pass}
+use Prim.Native.Nat.{◌+◌, ◌*◌, ◌^◌, ◌≤◌}
+use Rattle.refusals.specs.Check.{Pass, each}
 use Rattle.sheet.specs.Bytes.{rows_of}
-use Rattle.sheet.specs.Check.{each}
 use Rattle.sheet.specs.RunningSums.{vehicles_before}
 use Rattle.pooling.specs.Late.{fleet_check}
 use Rattle.pooling_calls.proofs.check.fleet_check.Given as goal
 
 abbrev pub invariant-loop-i : goal.invariant-loop-i
-invariant-loop-i l = (l.i ≤ l.n) × (each (fleet_check l.a l.b) l.i ≡ Pass)
+invariant-loop-i l = (each (fleet_check l.a l.b) l.i ≡ Pass)
     × (l.vehicles ≡ vehicles_before l.a (rows_of l.a) + vehicles_before l.b l.i) × (l.vehicles ≤ (1000 + l.i) * 2 ^ 32)
-
-abbrev pub decreases-loop-i : goal.decreases-loop-i
-decreases-loop-i l = l.n - l.i

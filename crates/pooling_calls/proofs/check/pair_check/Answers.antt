@@ -1,40 +1,24 @@
--- `pooling_calls::check::pair_check` meets its contract: 32, what is left of the pooled sheet's checks, and 22.
+-- `pooling_calls::check::pair_check` meets its contract: the two sheets agree, what is left of their pool passes, and it has room.
 -- Assumes nothing.
-use mathlib.Core.Path.{refl, sym, ◌∙◌}
-use Prim.Native.Nat.{◌+◌, ◌*◌}
-use native.Mathlib.Omega.{arith}
-use borrow.Author.Tests.{lt-ltb, le-ltb}
+use mathlib.Core.Bool.{Bool}
+use mathlib.Core.Path.{◌≡◌, sym, ap, ◌∙◌}
+use Prim.Native.Nat.{ℕ, ◌+◌, ◌*◌}
+use lib.Dec.{ltb}
 use lib.ListN.{length}
+use Rattle.refusals.specs.declared.Rule.TheVariants as rule
+use Rattle.refusals.specs.Check.{refuse}
 use Rattle.sheet.specs.Bytes.{rows_of}
-use Rattle.sheet.proofs.Stages.{stop, go, passed}
-use Rattle.inventory.proofs.CallConditions.{refused, allowed}
+use Rattle.sheet.proofs.Stages.{go}
 use Rattle.pooling.proofs.PoolBytes.{pool-long}
 use Rattle.pooling.proofs.PoolAnswers.{region, late}
 use Rattle.pooling_calls.proofs.check.pair_check.Goals as goal
 
-pub returns-then-differ : goal.returns-then-differ
-returns-then-differ c =
-    stop _ _ (refused 32 0 (sym c.differ.ensures ∙ c.if-differ.true)) refl ∙ sym (late _ _ _ c.requires.first c.requires.second)
-
-pub returns-in-Refused : goal.returns-in-Refused
-returns-in-Refused c =
-    passed 32 0 _ (sym c.differ.ensures ∙ c.if-differ.false) (stop _ _ c.late_check-late.ensures c.in-Refused.is) ∙
-    sym (late _ _ _ c.requires.first c.requires.second)
-
-pub returns-then-room-pool_length : goal.returns-then-room-pool_length
-returns-then-room-pool_length c =
-    let a = c.args.a.now in
-    passed 32 0 _ (sym c.differ.ensures ∙ c.if-differ.false)
-    (go _ _ c.late_check-late.ensures c.in_default.is
-    (refused 22 0 (lt-ltb c.args.room (length a + 24 * rows_of c.args.b.now)
-    (omega (arith, pool-long a (region _ c.requires.second)))))) ∙
-    sym (late _ _ _ c.requires.first c.requires.second)
-
 pub returns : goal.returns
 returns c =
-    let a = c.args.a.now in
-    passed 32 0 _ (sym c.differ.ensures ∙ c.if-differ.false)
-    (go _ _ c.late_check-late.ensures c.in_default.is
-    (allowed 22 0 (le-ltb c.args.room (length a + 24 * rows_of c.args.b.now)
-    (omega (arith, pool-long a (region _ c.requires.second)))))) ∙
+    let x = c.args in
+    let long : c.pool_length.result ≡ length x.a.now + 24 * rows_of x.b.now =
+    c.pool_length.ensures ∙ pool-long x.a.now (region _ c.requires.second) in
+    go _ _ (c.refuse.ensures ∙ ap (λ (b : Bool). refuse b rule.Differ 0) c.differ.ensures) c.in_ok-refuse.was
+    (go _ _ c.late_check.ensures c.in_ok-late_check.was
+    (c.refuse-2.ensures ∙ ap (λ (n : ℕ). refuse (ltb x.room n) rule.Room 0) long)) ∙
     sym (late _ _ _ c.requires.first c.requires.second)

@@ -4,13 +4,13 @@ use mathlib.Core.Path.{sym, ◌∙◌}
 use Rattle.pooling.proofs.PoolAnswers.{first-is, second_is, pooled-is, accepted-is}
 use Rattle.pooling_calls.proofs.check.pool_answer.Goals as goal
 
-pub returns-in-Refused : goal.returns-in-Refused
-returns-in-Refused c = first-is _ _ _ (sym c.region_check.ensures ∙ c.in-Refused.is)
+pub returns-in-Err : goal.returns-in-Err
+returns-in-Err c = first-is _ _ _ (sym c.region_check.ensures ∙ c.in-Err.is)
 
 -- the first sheet has passed,
-pub returns-in-Refused-region_check : goal.returns-in-Refused-region_check
-returns-in-Refused-region_check c =
-    second_is _ _ _ (sym c.region_check.ensures ∙ c.in_default.is) (sym c.region_check-2.ensures ∙ c.in-Refused-region_check.is)
+pub returns-in-Err-region_check : goal.returns-in-Err-region_check
+returns-in-Err-region_check c =
+    second_is _ _ _ (sym c.region_check.ensures ∙ c.in_default.is) (sym c.region_check-2.ensures ∙ c.in-Err-region_check.is)
 
 -- and the second
 pub pair_check-requires : goal.pair_check-requires
@@ -19,10 +19,10 @@ pair_check-requires c = record {
   second = sym c.region_check-2.ensures ∙ c.in_default-region_check.is;
 }
 
-pub returns-in-Refused-pair_check : goal.returns-in-Refused-pair_check
-returns-in-Refused-pair_check c =
+pub returns-in-Err-pair_check : goal.returns-in-Err-pair_check
+returns-in-Err-pair_check c =
     pooled-is _ _ _ (sym c.region_check.ensures ∙ c.in_default.is) (sym c.region_check-2.ensures ∙ c.in_default-region_check.is)
-    (sym c.pair_check.ensures ∙ c.in-Refused-pair_check.is)
+    (sym c.pair_check.ensures ∙ c.in-Err-pair_check.is)
 
 pub returns : goal.returns
 returns c =

@@ -1,31 +1,19 @@
 -- `report_sums::renewal::words_of` meets its contract: the first m words are the row's.
 -- Assumes nothing.
-use Rattle.std.proofs.Common.{◌≡◌, get_or, refl, ◌∙◌, arith, rules}
+use Rattle.std.proofs.Common.{◌≡◌, get_or, refl, ◌∙◌, arith}
 use Rattle.numbers.proofs.Lists.{filled_none, filled_more, filled-all, get_d-tab}
 use Rattle.sheet.specs.Bytes.{seasons_of}
-use Rattle.sheet.proofs.Accepted.{Bytes, accepted}
+use Rattle.sheet.proofs.Accepted.{accepted}
 use Rattle.sheet.proofs.Places.{row-there}
 use Rattle.report_words.proofs.YearWords.{word-from-year}
 use Rattle.report_sums.specs.RowYear.{row_year}
-use Rattle.report_sums.proofs.OneRow.{year-bits, words-tab}
+use Rattle.report_sums.proofs.OneRow.{words-tab}
 use Rattle.report_sums.proofs.renewal.words_of.Goals as goal
 
-pub year_of-year-requires : goal.year_of-year-requires
-year_of-year-requires c = search rules
-
-pub milligrams-requires : goal.milligrams-requires
-milligrams-requires c =
-    let figure : let x = c.args in
-    get_or c.year_of-year.result c.loop-m.m 0 ≡ row_year x.s.now x.i (seasons_of x.s.now) c.loop-m.m =
-    rw c.year_of-year.ensures (get_d-tab _ 6 c.loop-m.m (omega arith)) in
-    let x = c.args in
-    let s = x.s.now in
-    let bytes : Bytes s = record { byte = λ k. (c.shared_slice_known-1.given k).fits } in
-    let a = accepted s c.requires.0 in (
-      rw figure (year-bits bytes a x.i c.loop-m.m c.requires.1),
-      omega (arith, (a.row x.i c.requires.1).vehicles-most, c.vehicles_of-vehicles.ensures.0),
-      omega arith,
-    )
+pub row_word-requires : goal.row_word-requires
+row_word-requires c =
+    let a = accepted c.args.s.now c.requires.0 in
+    omega (arith, (a.row c.args.i c.requires.1).vehicles-most, c.vehicles_of-vehicles.ensures.0)
 
 pub loop-m-preserved : goal.loop-m-preserved
 loop-m-preserved c =
@@ -35,7 +23,7 @@ loop-m-preserved c =
     let l = c.loop-m in
     let x = c.args in
     filled_more l.invariant (omega arith)
-    (c.milligrams.ensures ∙
+    (c.row_word.ensures ∙
     rw (figure, c.vehicles_of-vehicles.ensures.0)
     (word-from-year x.s.now x.i l.m (omega arith)))
 

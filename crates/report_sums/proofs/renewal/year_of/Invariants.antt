@@ -1,12 +1,9 @@
 -- `report_sums::renewal::year_of` meets its contract: the figures are those of the first j seasons.
 -- Assumes nothing.
-use Rattle.std.proofs.Common.{◌≡◌, ◌-◌, ◌≤◌}
+use Rattle.std.proofs.Common.{◌≡◌}
 use Rattle.numbers.specs.Lists.{tab}
 use Rattle.report_sums.specs.RowYear.{row_year}
 use Rattle.report_sums.proofs.renewal.year_of.Given as goal
 
 abbrev pub invariant-loop-j : goal.invariant-loop-j
-invariant-loop-j l = (l.j ≤ l.seasons) × (l.year ≡ tab (row_year l.s l.i l.j) 6)
-
-abbrev pub decreases-loop-j : goal.decreases-loop-j
-decreases-loop-j l = l.seasons - l.j
+invariant-loop-j l = l.year ≡ tab (row_year l.s l.i l.j) 6

@@ -2,7 +2,6 @@
 -- Assumes nothing.
 use mathlib.Core.Path.{◌≡◌, refl, ◌∙◌}
 use Prim.Native.Nat.{◌/◌, ◌<◌}
-use borrow.Author.Rules.{rules}
 use native.Mathlib.Omega.{arith}
 use lib.ListN.{get_or, length-set}
 use Rattle.sheet.specs.Bytes.{rows_of}
@@ -17,37 +16,31 @@ vehicles_of-requires c =
     let row : c.loop-k.k / 6 < rows_of c.args.s.now = omega arith in
     row-there _ c.requires.0 row
 
-pub milligrams-requires : goal.milligrams-requires
-milligrams-requires c =
-    let figure : get_or c.loop-k.words c.loop-k.k 0 ≡ get_or c.args.words.now c.loop-k.k 0 = let l = c.loop-k in
-    rw l.invariant.2 (filled-beyond _ _ l.k l.k (omega arith)) in
+pub row_word-requires : goal.row_word-requires
+row_word-requires c =
     let row : c.loop-k.k / 6 < rows_of c.args.s.now = omega arith in
-    let s = c.args.s.now in
-    let a = accepted s c.requires.0 in (
-      rw figure (c.slice_known-1.given c.loop-k.k).fits,
-      omega (arith, (a.row _ row).vehicles-most, c.vehicles_of.ensures.0),
-      omega arith,
-    )
+    let a = accepted c.args.s.now c.requires.0 in
+    omega (arith, (a.row _ row).vehicles-most, c.vehicles_of.ensures.0)
 
 pub loop-k-preserved : goal.loop-k-preserved
 loop-k-preserved c =
     let figure : get_or c.loop-k.words c.loop-k.k 0 ≡ get_or c.args.words.now c.loop-k.k 0 = let l = c.loop-k in
-    rw l.invariant.2 (filled-beyond _ _ l.k l.k (omega arith)) in
+    rw l.invariant.1 (filled-beyond _ _ l.k l.k (omega arith)) in
     let l = c.loop-k in
     let s = c.args.s.now in
     let old = c.args.words.now in
-    let word : c.milligrams.result ≡ in_milligrams s old l.k =
-    c.milligrams.ensures ∙ rw (figure, c.vehicles_of.ensures.0) refl in
-    (search rules, simp length-set l.invariant.1, rw l.invariant.2 (filled_more _ _ l.k (omega arith) word))
+    let word : c.row_word.result ≡ in_milligrams s old l.k =
+    c.row_word.ensures ∙ rw (figure, c.vehicles_of.ensures.0) refl in
+    (simp length-set l.invariant.0, rw l.invariant.1 (filled_more _ _ l.k (omega arith) word))
 
 pub returns : goal.returns
-returns c = let l = c.loop-k in l.invariant.2 ∙ filled-all _ _ l.k _ (omega arith) (omega arith)
+returns c = let l = c.loop-k in l.invariant.1 ∙ filled-all _ _ l.k _ (omega arith) (omega arith)
 
 pub rows_of-n-requires : goal.rows_of-n-requires
 rows_of-n-requires c = omega (arith, parking-there _ c.requires.0)
 
 pub loop-k-init : goal.loop-k-init
-loop-k-init c = (search rules, refl, filled_none _ _)
+loop-k-init c = (refl, filled_none _ _)
 
 pub shape_of-words : goal.shape_of-words
-shape_of-words c = c.loop-k.invariant.1
+shape_of-words c = c.loop-k.invariant.0

@@ -1,7 +1,6 @@
 -- `report_words::year::add_days` meets its contract: the first m of the six words have their figures added, the others are as they were.
 -- Assumes nothing.
 use mathlib.Core.Path.{◌≡◌}
-use Prim.Native.Nat.{◌-◌, ◌≤◌}
 use lib.ListN.{length}
 use lib.Seq.{sets}
 use Rattle.numbers.specs.Lists.{tab}
@@ -9,8 +8,5 @@ use Rattle.report_words.specs.Years.{days_added}
 use Rattle.report_words.proofs.year.add_days.Given as goal
 
 abbrev pub invariant-loop-m : goal.invariant-loop-m
-invariant-loop-m l = (l.m ≤ 6) × (length l.words ≡ length l.initial.words)
+invariant-loop-m l = (length l.words ≡ length l.initial.words)
     × (l.words ≡ sets l.initial.words l.at (tab (days_added l.initial.words l.at l.days l.figures) l.m))
-
-abbrev pub decreases-loop-m : goal.decreases-loop-m
-decreases-loop-m l = 6 - l.m

@@ -15,7 +15,6 @@ use Rattle.sheet_factors.proofs.SeasonWork.{SeasonLent, season-lent, use-in-rang
 use Rattle.report_words.specs.Years.{season_added, SeasonFits, filled}
 use Rattle.report_words.proofs.Filled.{filled_none, filled-all}
 use Rattle.report_words.proofs.SeasonWords.{row-sums-fit, row-stored}
-use borrow.Author.Rules.{rules}
 use Rattle.report_words.proofs.year.add_season.Goals as goal
 
 -- equal rows and cells have equal figures
@@ -61,8 +60,8 @@ add_days-requires c =
     let x = c.args in
     let fits = same-fits season-is c.requires.3 in
     rw figures (
-      omega (arith, c.loop-i-test.true, c.rows_of-rows.ensures.0, l.invariant.1, c.requires.2),
-      row-sums-fit x.s.now _ x.words.now l.words l.i l.invariant.2
+      omega (arith, c.loop-i-test.true, c.rows_of-rows.ensures.0, l.invariant.0, c.requires.2),
+      row-sums-fit x.s.now _ x.words.now l.words l.i l.invariant.1
           (omega (arith, c.loop-i-test.true, c.rows_of-rows.ensures.0)) fits,
     )
 
@@ -74,10 +73,9 @@ loop-i-preserved c =
     let l = c.loop-i in
     let x = c.args in
     let room : 6 * l.i + 6 ≤ length x.words.now = omega (arith, c.requires.2, c.loop-i-test.true, c.rows_of-rows.ensures.0) in (
-      search rules,
       cc,
       rw figures at c.add_days.ensures ∙
-          row-stored x.s.now _ x.words.now l.words l.i l.invariant.2 room _ (omega arith),
+          row-stored x.s.now _ x.words.now l.words l.i l.invariant.1 room _ (omega arith),
     )
 
 pub returns : goal.returns
@@ -86,7 +84,7 @@ returns c =
     rw c.season_at.ensures.0 at c.at_season-at.ensures.0 in
     let l = c.loop-i in
     let x = c.args in
-    l.invariant.2 ∙ filled-all _ _ _ _ (omega (arith, c.rows_of-rows.ensures.0)) (omega (arith, c.rows_of-rows.ensures.0)) ∙
+    l.invariant.1 ∙ filled-all _ _ _ _ (omega (arith, c.rows_of-rows.ensures.0)) (omega (arith, c.rows_of-rows.ensures.0)) ∙
     same-season x.s.now x.words.now season-is
 
 pub season_at-requires : goal.season_at-requires
@@ -103,7 +101,7 @@ pub rows_of-rows-requires : goal.rows_of-rows-requires
 rows_of-rows-requires c = omega (arith, parking-there _ c.requires.0.passes)
 
 pub loop-i-init : goal.loop-i-init
-loop-i-init c = (search rules, refl, filled_none _ _ ∙ filled-all _ _ _ _ (omega arith) (omega arith))
+loop-i-init c = (refl, filled_none _ _ ∙ filled-all _ _ _ _ (omega arith) (omega arith))
 
 pub row_at-requires : goal.row_at-requires
 row_at-requires c =
@@ -120,4 +118,4 @@ bounds-kept-i c =
     omega (arith, placed)
 
 pub shape_of-words : goal.shape_of-words
-shape_of-words c = c.loop-i.invariant.1
+shape_of-words c = c.loop-i.invariant.0

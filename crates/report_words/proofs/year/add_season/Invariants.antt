@@ -1,13 +1,10 @@
 -- `report_words::year::add_season` meets its contract: the words of the first i rows have the season added, the others are as they were.
 use mathlib.Core.Path.{◌≡◌}
-use Prim.Native.Nat.{◌*◌, ◌-◌, ◌≤◌}
+use Prim.Native.Nat.{◌*◌}
 use lib.ListN.{length}
 use Rattle.report_words.specs.Years.{season_added, filled}
 use Rattle.report_words.proofs.year.add_season.Given as goal
 
 abbrev pub invariant-loop-i : goal.invariant-loop-i
-invariant-loop-i l = (l.i ≤ l.rows) × (length l.words ≡ length l.initial.words)
+invariant-loop-i l = (length l.words ≡ length l.initial.words)
     × (l.words ≡ filled (season_added l.s l.at.season l.initial.words) (6 * l.i) l.initial.words)
-
-abbrev pub decreases-loop-i : goal.decreases-loop-i
-decreases-loop-i l = l.rows - l.i

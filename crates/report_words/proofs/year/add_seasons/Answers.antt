@@ -2,7 +2,6 @@
 -- Assumes nothing.
 use mathlib.Core.Path.{◌≡◌, refl, ◌∙◌, ap}
 use Prim.Native.Nat.{◌+◌, ◌*◌}
-use borrow.Author.Rules.{rules}
 use native.Mathlib.Omega.{arith}
 use lib.ListN.{take}
 use Rattle.sheet.specs.Bytes.{seasons_of, rows_of, season_at}
@@ -19,7 +18,7 @@ add_season-requires c =
     let l = c.loop-j in
     let p = c.requires in
     let n = 6 * rows_of c.args.s.now in
-    let first = ap (take n) l.invariant.2 ∙ filled-less _ _ n n (omega arith) in
+    let first = ap (take n) l.invariant.1 ∙ filled-less _ _ n n (omega arith) in
     let s = c.args.s.now in
     let a = accepted s p.0.passes in (
       p.0,
@@ -34,23 +33,23 @@ loop-j-preserved c =
     let l = c.loop-j in
     let s = c.args.s.now in
     let n = 6 * rows_of s in
-    let first = ap (take n) l.invariant.2 ∙ filled-less _ _ n n (omega arith) in
+    let first = ap (take n) l.invariant.1 ∙ filled-less _ _ n n (omega arith) in
     let one : filled (season_added s (season_at s l.j) l.words) n l.words ≡ filled (year_word s (l.j + 1)) n l.words
     = season-stored s l.words l.j refl first in
-    (search rules, cc, c.add_season.ensures ∙ one ∙ rw l.invariant.2 (filled-again (year_word s l.j) _ _ n n (omega arith)))
+    (cc, c.add_season.ensures ∙ one ∙ rw l.invariant.1 (filled-again (year_word s l.j) _ _ n n (omega arith)))
 
 pub returns : goal.returns
 returns c =
     let l = c.loop-j in
     let s = c.args.s.now in
     let all : l.j ≡ seasons_of s = omega arith in
-    rw all at l.invariant.2
+    rw all at l.invariant.1
 
 pub seasons_of-seasons-requires : goal.seasons_of-seasons-requires
 seasons_of-seasons-requires c = omega (arith, parking-there _ c.requires.0.passes)
 
 pub loop-j-init : goal.loop-j-init
-loop-j-init c = (search rules, refl, filled-same _ _ _ c.requires.1.words_are)
+loop-j-init c = (refl, filled-same _ _ _ c.requires.1.words_are)
 
 pub shape_of-words : goal.shape_of-words
-shape_of-words c = c.loop-j.invariant.1
+shape_of-words c = c.loop-j.invariant.0

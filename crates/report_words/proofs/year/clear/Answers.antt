@@ -1,22 +1,16 @@
--- `report_words::year::clear` meets its contract: the first k words are 0, the others as they were.
+-- `report_words::year::clear` meets its contract: n zeros stand before the words that stay.
 -- Assumes nothing.
-use mathlib.Core.Path.{refl, ◌∙◌}
-use borrow.Author.Rules.{rules}
-use native.Mathlib.Omega.{arith}
-use lib.ListN.{length-set}
-use Rattle.report_words.proofs.Filled.{filled_none, filled_more, filled-all}
+use mathlib.Core.List.{List, ◌++◌}
+use mathlib.Core.Path.{refl, ◌∙◌, ap}
+use Prim.Native.Nat.{ℕ}
+use lib.ListN.{drop, replicate}
+use lib.Seq.{length-take-le}
+use Rattle.numbers.proofs.Lists.{tab-constant}
 use Rattle.report_words.proofs.year.clear.Goals as goal
 
-pub loop-k-preserved : goal.loop-k-preserved
-loop-k-preserved c =
-    let l = c.loop-k in
-    (search rules, simp length-set l.invariant.1, rw l.invariant.2 (filled_more _ _ l.k (omega arith) refl))
-
 pub returns : goal.returns
-returns c = let l = c.loop-k in l.invariant.2 ∙ filled-all _ _ l.k _ (omega arith) (omega arith)
-
-pub loop-k-init : goal.loop-k-init
-loop-k-init c = (search rules, refl, filled_none _ _)
-
-pub shape_of-words : goal.shape_of-words
-shape_of-words c = c.loop-k.invariant.1
+returns c =
+    let x = c.args in
+    let zeros = c.fill.ensures.after (λ y h. h) in
+    ap (λ (r : List ℕ). r ++ drop x.n x.words.now)
+    (zeros ∙ ap (λ (k : ℕ). replicate k 0) (length-take-le x.n x.words.now c.requires) ∙ tab-constant x.n 0 (λ k h. refl))

@@ -32,12 +32,3 @@ same c =
 pub returns : goal.returns
 returns c =
     (same c, rw (same c) (gain-most c.requires.1 c.requires.2))
-
-pub overflow_mul-result : goal.overflow_mul-result
-overflow_mul-result c =
-    let share : (100 - c.args.row.fill) * c.args.row.tank ≤ percent_limit * tank_limit =
-    mul-le-mul {n₂ = percent_limit} {m₂ = tank_limit} (omega arith) c.requires.2.tank-most in
-    omega (arith, share)
-
-pub overflow_mul-result-2 : goal.overflow_mul-result-2
-overflow_mul-result-2 c = omega (arith, product c)

@@ -13,6 +13,3 @@ open_escapes-requires c =
 pub returns-then-halves-eq0 : goal.returns-then-halves-eq0
 returns-then-halves-eq0 c =
     open-two-wheeler c.requires c.gain-vapour.ensures.0 (omega (arith, c.if-halves-eq0.true, c.halves.ensures.0)) c.open_escapes.ensures
-
-pub gain-vapour-requires : goal.gain-vapour-requires
-gain-vapour-requires c = let r = c.requires in (r.lent.tables-are, r.lent.day-ready.season-in, r.row_in)

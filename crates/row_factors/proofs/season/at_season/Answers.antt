@@ -19,20 +19,8 @@ returns c =
       λ wanted. rw (← rises-ready) (c.list_where.ensures wanted),
     )
 
-pub at_marks-values-requires : goal.at_marks-values-requires
-at_marks-values-requires c = (c.requires.0, c.requires.2)
-
 pub rises-rises-requires : goal.rises-rises-requires
 rises-rises-requires c = steps-most c.requires.2 c.at_marks-values.ensures
-
-pub list_where-requires : goal.list_where-requires
-list_where-requires c = c.requires.1
-
-pub day_of-day-requires : goal.day_of-day-requires
-day_of-day-requires c =
-    let marks-ready : MarksReady c.args.season c.at_marks-values.result =
-    record { season-in = c.requires.2; marks-are = c.at_marks-values.ensures } in
-    marks-ready
 
 pub means_of-means-requires : goal.means_of-means-requires
 means_of-means-requires c =

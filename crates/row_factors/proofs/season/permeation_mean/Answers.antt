@@ -10,9 +10,6 @@ use Rattle.parking.proofs.Weighted.{mean-tab}
 use Rattle.parking.proofs.Walked.{walked-is}
 use Rattle.row_factors.proofs.season.permeation_mean.Goals as goal
 
-pub walk-all-requires : goal.walk-all-requires
-walk-all-requires c = record { at_most = λ k. omega (arith, c.requires.1.at_most k) }
-
 pub mean_by_cell-requires : goal.mean_by_cell-requires
 mean_by_cell-requires c =
     let halved-known : c.halved-halves.result ≡ tab (λ (cell : ℕ). passed_in c.args.rates.now cell / 2) 576 = c.halved-halves.ensures ∙

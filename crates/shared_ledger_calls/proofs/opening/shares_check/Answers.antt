@@ -13,7 +13,7 @@ use Rattle.numbers.proofs.Lists.{get_d-tab}
 use Rattle.sheet.specs.Limits.{vehicles_limit}
 use Rattle.sheet.proofs.Accepted.{accepted}
 use Rattle.sheet.specs.Bytes.{row_at}
-use Rattle.sheet.specs.Check.{each}
+use Rattle.refusals.specs.Check.{each}
 use Rattle.sheet.proofs.Stages.{each_none, each_more, each-stop, each_all}
 use Rattle.sheet.proofs.Places.{parking-there, row-there}
 use Rattle.shared_ledger.specs.Opening.{participants, rows_each, vehicles_each, share_wrong}
@@ -23,21 +23,21 @@ use Rattle.shared_ledger_calls.proofs.opening.shares_check.Goals as goal
 
 pub loop-i-init : goal.loop-i-init
 unfolding tab held_of sum
-loop-i-init c = (search rules, each_none _, refl, refl)
+loop-i-init c = (each_none _, refl, refl)
 
-pub rows_of-n-requires : goal.rows_of-n-requires
-rows_of-n-requires c = omega (arith, parking-there _ c.requires)
+pub rows_of-i-end-requires : goal.rows_of-i-end-requires
+rows_of-i-end-requires c = omega (arith, parking-there _ c.requires)
 
-pub row_place-requires : goal.row_place-requires
-row_place-requires c = row-there _ c.requires (omega (arith, c.rows_of-n.ensures.0))
+pub row_place-place-requires : goal.row_place-place-requires
+row_place-place-requires c = row-there _ c.requires (omega (arith, c.rows_of-i-end.ensures.0))
 
 pub returns-then-owner : goal.returns-then-owner
 returns-then-owner c =
     let l = c.loop-i in
-    each-stop _ l.i _ l.invariant.1 (omega arith)
+    each-stop _ l.i _ l.invariant.0 (omega arith)
     (share-refused _ _ l.i (share-unowned _ _ l.i c.owner_at-owner.ensures c.if-owner.true)
-    c.row_place.ensures) ∙
-    ap (each _) c.rows_of-n.ensures.0
+    c.row_place-place.ensures) ∙
+    ap (each _) c.rows_of-i-end.ensures.0
 
 -- the owner is one of the eight
 pub offset_bounds-more_rows-who : goal.offset_bounds-more_rows-who
@@ -59,25 +59,25 @@ with_more-more_rows-requires c =
       mine,
       omega (
         arith,
-        tally-size _ _ l.i _ 1 _ l.invariant.2 mine (λ j k. omega arith),
+        tally-size _ _ l.i _ 1 _ l.invariant.1 mine (λ j k. omega arith),
         (accepted _ c.requires).rows-most,
-        c.rows_of-n.ensures.0,
+        c.rows_of-i-end.ensures.0,
       ),
     )
 
 pub vehicles_of-requires : goal.vehicles_of-requires
-vehicles_of-requires c = row-there _ c.requires (omega (arith, c.rows_of-n.ensures.0))
+vehicles_of-requires c = row-there _ c.requires (omega (arith, c.rows_of-i-end.ensures.0))
 
 pub with_more-more_vehicles-requires : goal.with_more-more_vehicles-requires
 with_more-more_vehicles-requires c =
     let mine = owned-range _ c.if-owner.false in
     let l = c.loop-i in
     let a = accepted _ c.requires in
-    let rows = c.rows_of-n.ensures.0 in (
+    let rows = c.rows_of-i-end.ensures.0 in (
       mine,
       omega (
         arith,
-        tally-size _ _ l.i _ vehicles_limit _ l.invariant.3 mine
+        tally-size _ _ l.i _ vehicles_limit _ l.invariant.2 mine
             (λ j k. (a.row j (omega (arith, rows))).vehicles-most),
         a.rows-most,
         rows,
@@ -111,17 +111,14 @@ module _ (s owners : List ℕ) (i : ℕ) {who v : ℕ} {rows vehicles more_rows 
       (ap (λ (l : List ℕ). get_or l who 0) vehicles-more ∙
       get_d-tab (held_of owners (λ (j : ℕ). (row_at s j).vehicles) (i + 1)) 9 who mine ∙ vehicles-tally s owners (i + 1) who)
 
-pub row_place-requires-then-more_rows-who : goal.row_place-requires-then-more_rows-who
-row_place-requires-then-more_rows-who c = row-there _ c.requires (omega (arith, c.rows_of-n.ensures.0))
-
 pub returns-then-more_rows-who : goal.returns-then-more_rows-who
 returns-then-more_rows-who c =
     let l = c.loop-i in
-    let wrong = wrong-is c.args.s.now c.args.owners.now l.i c.owner_at-owner.ensures c.if-owner.false c.vehicles_of.ensures.0 l.invariant.2
-    l.invariant.3 c.with_more-more_rows.ensures c.with_more-more_vehicles.ensures in
-    each-stop _ l.i _ l.invariant.1 (omega arith)
-    (share-refused _ _ l.i (sym wrong ∙ c.if-more_rows-who.true) c.row_place-then-more_rows-who.ensures) ∙
-    ap (each _) c.rows_of-n.ensures.0
+    let wrong = wrong-is c.args.s.now c.args.owners.now l.i c.owner_at-owner.ensures c.if-owner.false c.vehicles_of.ensures.0 l.invariant.1
+    l.invariant.2 c.with_more-more_rows.ensures c.with_more-more_vehicles.ensures in
+    each-stop _ l.i _ l.invariant.0 (omega arith)
+    (share-refused _ _ l.i (sym wrong ∙ c.if-more_rows-who.true) c.row_place-place.ensures) ∙
+    ap (each _) c.rows_of-i-end.ensures.0
 
 pub loop-i-preserved : goal.loop-i-preserved
 loop-i-preserved c =
@@ -133,14 +130,13 @@ loop-i-preserved c =
     let row = c.vehicles_of.ensures.0 in
     let rows = c.with_more-more_rows.ensures in
     let vehicles = c.with_more-more_vehicles.ensures in
-    let wrong = wrong-is s owners l.i own owned row l.invariant.2 l.invariant.3 rows vehicles in (
-      search rules,
-      each_more _ l.i l.invariant.1 (sym (share-passed _ _ l.i (sym wrong ∙ c.if-more_rows-who.false))) refl,
-      rows_more s owners l.i own owned row l.invariant.2 l.invariant.3 rows vehicles,
-      vehicles-more s owners l.i own owned row l.invariant.2 l.invariant.3 rows vehicles,
+    let wrong = wrong-is s owners l.i own owned row l.invariant.1 l.invariant.2 rows vehicles in (
+      each_more _ l.i l.invariant.0 (sym (share-passed _ _ l.i (sym wrong ∙ c.if-more_rows-who.false))) refl,
+      rows_more s owners l.i own owned row l.invariant.1 l.invariant.2 rows vehicles,
+      vehicles-more s owners l.i own owned row l.invariant.1 l.invariant.2 rows vehicles,
     )
 
 pub returns : goal.returns
 returns c =
     let l = c.loop-i in
-    each_all _ l.i _ l.invariant.1 (omega arith) (omega arith) ∙ ap (each _) c.rows_of-n.ensures.0
+    each_all _ l.i _ l.invariant.0 (omega arith) (omega arith) ∙ ap (each _) c.rows_of-i-end.ensures.0

@@ -17,13 +17,12 @@ pub loop-i-preserved : goal.loop-i-preserved
 loop-i-preserved c =
     let inside : c.loop-i.i < 1000 = omega (arith, c.loop-i-test.true, c.rows_of-rows.ensures.0, rows_fit _ c.requires.1) in
     let l = c.loop-i in
-    let there : l.i < length l.out = omega (arith, inside, l.invariant.1) in (
-      omega (arith, c.loop-i-test.true),
-      length-set l.out l.i _ ∙ l.invariant.1,
+    let there : l.i < length l.out = omega (arith, inside, l.invariant.0) in (
+      length-set l.out l.i _ ∙ l.invariant.0,
       λ k h.
           elim (ℕ_discrete k l.i) [
             | yes e ↦ rw (e, get_or-set_same l.out l.i c.row_kept.result 0 there) c.row_kept.ensures
-            | no e ↦ rw (get_or-set_other l.out l.i k c.row_kept.result 0 e) (l.invariant.2 k (omega arith))
+            | no e ↦ rw (get_or-set_other l.out l.i k c.row_kept.result 0 e) (l.invariant.1 k (omega arith))
           ],
     )
 
@@ -31,7 +30,7 @@ pub rows_of-rows-requires : goal.rows_of-rows-requires
 rows_of-rows-requires c = omega (arith, parking-there _ c.requires.1)
 
 pub loop-i-init : goal.loop-i-init
-loop-i-init c = (omega arith, length-replicate {A = ℕ} 1000 0, λ k h. absurd (omega arith))
+loop-i-init c = (length-replicate {A = ℕ} 1000 0, λ k h. absurd (omega arith))
 
 pub offset_bounds-out-i : goal.offset_bounds-out-i
 offset_bounds-out-i c =
@@ -45,4 +44,4 @@ bounds-out-i c =
 
 pub returns : goal.returns
 returns c =
-    record { kept_of = λ i h. c.loop-i.invariant.2 i (omega (arith, c.loop-i-test.false, c.rows_of-rows.ensures.0)) }
+    record { kept_of = λ i h. c.loop-i.invariant.1 i (omega (arith, c.loop-i-test.false, c.rows_of-rows.ensures.0)) }

@@ -4,8 +4,8 @@ use mathlib.Core.Path.{refl}
 use Rattle.species_report.proofs.Answered.{refusal_is, head-there, last-there, species-are}
 use Rattle.species_report.proofs.composition.species_of.Goals as goal
 
-pub returns-in-Refused : goal.returns-in-Refused
-returns-in-Refused c = refusal_is c.report-check.ensures c.in-Refused.is
+pub returns-in-Err : goal.returns-in-Err
+returns-in-Err c = refusal_is c.report-check.ensures c.in-Err.is
 
 pub rows_of-requires : goal.rows_of-requires
 rows_of-requires c = head-there c.report-check.ensures c.in_default.is

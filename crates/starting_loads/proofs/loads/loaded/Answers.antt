@@ -34,5 +34,5 @@ returns c =
     let m = o.before.before in
     let a = m.args in
     let lost = o.short-y.ensures.0 ∙ ap short m.line-x.ensures.0 in
-    c.smaller.ensures ∙
+    c.min.ensures ∙
     ap (λ (x : ℕ). min a.c.saturation (a.net + x)) (o.loss.ensures.0 ∙ ap (λ (y : ℕ). loss a.c.growth (y / 2 ^ 4)) lost)

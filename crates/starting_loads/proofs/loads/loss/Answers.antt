@@ -7,9 +7,6 @@ use Rattle.bounds.specs.Theta.{theta}
 use Rattle.starting_loads.specs.Loss.{loss}
 use Rattle.starting_loads.proofs.loads.loss.Goals as goal
 
-pub overflow_mul-result : goal.overflow_mul-result
-overflow_mul-result c = record { fits = omega (arith, mul-le-mul c.requires.2 c.theta.ensures.1) }
-
 pub returns : goal.returns
 unfolding loss
 returns c = (

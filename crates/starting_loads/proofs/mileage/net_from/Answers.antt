@@ -17,9 +17,3 @@ most c = omega (arith, div-le_self (2 * (813 * c.args.y - 229200000000000000)) c
 pub returns : goal.returns
 unfolding net
 returns c = let t = most c in (in_parts (2 * (813 * c.args.y - 229200000000000000) / c.args.halves), omega arith)
-
-pub overflow_mul-result : goal.overflow_mul-result
-overflow_mul-result c = let t = most c in record { fits = omega arith }
-
-pub overflow_add-result : goal.overflow_add-result
-overflow_add-result c = let t = most c in record { fits = omega arith }

@@ -7,8 +7,6 @@ use Rattle.text.specs.Lines.{fields}
 use Rattle.text.specs.Put.{Put}
 use Rattle.text.proofs.lines.put_fields.Given as goal
 
-abbrev pub invariant-loop-k : goal.invariant-loop-k
-invariant-loop-k l = (l.k ≤ length l.words) × (length l.out ≡ length l.initial.out) × Put l.initial.out l.at (fields (take l.k l.words)) l.out l.next
-
-abbrev pub decreases-loop-k : goal.decreases-loop-k
-decreases-loop-k l = length l.words - l.k
+abbrev pub invariant-loop-word : goal.invariant-loop-word
+invariant-loop-word l = (l.word-index ≤ length l.words) × (length l.out ≡ length l.initial.out)
+    × Put l.initial.out l.at (fields (take l.word-index l.words)) l.out l.next

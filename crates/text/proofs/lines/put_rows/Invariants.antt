@@ -9,6 +9,3 @@ use Rattle.text.proofs.lines.put_rows.Given as goal
 
 abbrev pub invariant-loop-i : goal.invariant-loop-i
 invariant-loop-i l = (l.i ≤ l.rows) × (length l.out ≡ length l.initial.out) × Put l.initial.out l.at (row_lines l.words l.i) l.out l.next
-
-abbrev pub decreases-loop-i : goal.decreases-loop-i
-decreases-loop-i l = l.rows - l.i

@@ -1,8 +1,0 @@
--- `fields::refusal::outside` meets its contract.
--- Assumes nothing.
-use Rattle.sheet.specs.Sheet.{outside}
-use Rattle.fields.proofs.refusal.outside.Goals as goal
-
-pub returns : goal.returns
-unfolding outside
-returns c = cc
