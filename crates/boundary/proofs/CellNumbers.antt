@@ -1,5 +1,7 @@
 -- The cells that pass the boundary, as the program meets them.
-use Rattle.std.proofs.Common.{Option, Some, None}
+use Rattle.std.proofs.Common.{Option, Some, None, Ok, Err}
+use Rattle.refusals.specs.declared.Refusal.{Refusal}
+use Rattle.refusals.specs.Rule.{number}
 use mathlib.Core.Logic.{◌⊎◌, inl, inr}
 use mathlib.Core.Path.{◌≡◌, refl}
 use mathlib.Core.Bool.{true, false, true≢false}
@@ -10,21 +12,17 @@ use lib.Ieee.{nan, Float, fin, up, down, eq, inf}
 use borrow.Author.Tests.{eq-eqb, ne_eqb, lt-ltb, le-ltb}
 use Rattle.map_cells.specs.declared.Cell.{Cell}
 use Rattle.map_cells.specs.declared.Cell.TheVariants.{Empty, Exact, Band}
-use Rattle.map_cells.specs.declared.CellAnswer.{CellAnswer}
-use Rattle.map_cells.specs.declared.CellAnswer.TheVariants as sum
-use Rattle.map_cells.specs.Sums.{cell_sum}
+use Rattle.map_cells.specs.Sums.{CellAnswer, cell_refusal, cell_sum}
 use Rattle.map_cells.specs.Values.{Plus, NoMinus}
 use Rattle.map_cells.specs.Promise.{SumPromise}
 use Rattle.map_cells.proofs.Promised.{promised}
 use Rattle.map_shares.specs.declared.Travel.{Travel}
 use Rattle.map_shares.specs.declared.Words.{Words}
 use Rattle.map_rows.specs.Promise.{RowCellsPromise}
-use Rattle.map_rows.specs.Rows.{row_cells_answer}
+use Rattle.map_rows.specs.Rows.{RowCellsAnswer, travel_refusal, row_cells_answer}
 use Rattle.map_rows.proofs.Promised as rows
 use Rattle.boundary.specs.declared.EvpCellSum.{EvpCellSum}
 use Rattle.map_rows.specs.declared.RowCells.{RowCells}
-use Rattle.map_rows.specs.declared.RowCellsAnswer.{RowCellsAnswer}
-use Rattle.map_rows.specs.declared.RowCellsAnswer.TheVariants as row
 use Rattle.boundary.specs.declared.EvpCell.{EvpCell}
 use Rattle.boundary.specs.declared.EvpRowCells.{EvpRowCells}
 use Rattle.boundary.specs.declared.EvpTravel.{EvpTravel}
@@ -33,24 +31,25 @@ use Rattle.boundary.specs.Cells.{travel_handed, handed_row, RowCellsNone, RowCel
 use Rattle.boundary.specs.Cells.{CellSumNumbers}
 
 module _ {a : RowCellsAnswer} {u r h : EvpCell} where
-  pub row-cells : (v : RowCells) → a ≡ row.Cells v → u ≡ cell_numbers v.urban → r ≡ cell_numbers v.rural → h ≡ cell_numbers v.highway
+  pub row-cells : (v : RowCells) → a ≡ Ok v → u ≡ cell_numbers v.urban → r ≡ cell_numbers v.rural → h ≡ cell_numbers v.highway
       → record { number = 0; place = 0; urban = u; rural = r; highway = h } ≡ row_numbers a
   unfolding row_numbers
   row-cells v e f g k = rw (e, f, g, k)
 
-  pub row-refused : (n p : ℕ) → a ≡ row.Refused n p → u ≡ no_cell → r ≡ no_cell → h ≡ no_cell
-      → record { number = n; place = p; urban = u; rural = r; highway = h } ≡ row_numbers a
+  pub row-refused : {n : ℕ} (f : Refusal) → a ≡ Err f → n ≡ number f.rule → u ≡ no_cell → r ≡ no_cell → h ≡ no_cell
+      → record { number = n; place = f.place; urban = u; rural = r; highway = h } ≡ row_numbers a
   unfolding row_numbers
-  row-refused n p e f g k = rw (e, f, g, k)
+  row-refused f e i j g k = rw (e, i, j, g, k)
 
 module _ {a : CellAnswer} {u : EvpCell} where
-  pub sum-cell : (c : Cell) → a ≡ sum.Sum c → u ≡ cell_numbers c → record { number = 0; place = 0; cell = u } ≡ sum_numbers a
+  pub sum-cell : (c : Cell) → a ≡ Ok c → u ≡ cell_numbers c → record { number = 0; place = 0; cell = u } ≡ sum_numbers a
   unfolding sum_numbers
   sum-cell c e f = rw (e, f)
 
-  pub sum-refused : (n p : ℕ) → a ≡ sum.Refused n p → u ≡ no_cell → record { number = n; place = p; cell = u } ≡ sum_numbers a
+  pub sum-refused : {n : ℕ} (f : Refusal) → a ≡ Err f → n ≡ number f.rule → u ≡ no_cell
+      → record { number = n; place = f.place; cell = u } ≡ sum_numbers a
   unfolding sum_numbers
-  sum-refused n p e f = rw (e, f)
+  sum-refused f e i j = rw (e, i, j)
 
 module _ (low high : Float) where
   pub both_equal : eq low high ≡ true → Some (Exact low) ≡ exact_handed low high
@@ -81,12 +80,12 @@ module _ (c : EvpCell) where
       unfolding cell_handed
       kind-other n2 = rw (ne_eqb c.kind 0 n0, ne_eqb c.kind 1 n1, ne_eqb c.kind 2 n2)
 
-pub first-none : {a : Option Cell} (b : Option Cell) → a ≡ None → sum.Refused 27 0 ≡ handed_sum a b
+pub first-none : {a : Option Cell} (b : Option Cell) → a ≡ None → ◌≡◌ {A = CellAnswer} (Err cell_refusal) (handed_sum a b)
 unfolding handed_sum
 first-none b e = rw e
 
 module _ {a b : Option Cell} (x : Cell) (e : a ≡ Some x) where
-  pub second_none : b ≡ None → sum.Refused 27 0 ≡ handed_sum a b
+  pub second_none : b ≡ None → ◌≡◌ {A = CellAnswer} (Err cell_refusal) (handed_sum a b)
   unfolding handed_sum
   second_none f = rw (e, f)
 
@@ -105,7 +104,7 @@ module _ (t : EvpTravel) where
   town-told h = rw (le-ltb 1 t.town h)
 
 module _ {t : Option Travel} (w : Words) where
-  pub row-untold : t ≡ None → row.Refused 28 0 ≡ handed_row w t
+  pub row-untold : t ≡ None → ◌≡◌ {A = RowCellsAnswer} (Err travel_refusal) (handed_row w t)
   unfolding handed_row
   row-untold e = rw e
 
@@ -140,10 +139,10 @@ none-handed = refl
 
 row-none : (a : RowCellsAnswer) → ¬ ((row_numbers a).number ≡ 0) → RowCellsNone (row_numbers a)
 unfolding row_numbers
-row-none (row.Cells v) n = absurd (n refl)
-row-none (row.Refused number place) n = record { urban = none-handed; rural = none-handed; highway = none-handed }
+row-none (Ok v) n = absurd (n refl)
+row-none (Err refusal) n = record { urban = none-handed; rural = none-handed; highway = none-handed }
 
-row-given : {w : Words} {t : Travel} (a : RowCellsAnswer) → RowCellsPromise w t a → (v : RowCells) → a ≡ row.Cells v → RowCellsGiven v (row_numbers a)
+row-given : {w : Words} {t : Travel} (a : RowCellsAnswer) → RowCellsPromise w t a → (v : RowCells) → a ≡ Ok v → RowCellsGiven v (row_numbers a)
 unfolding row_numbers
 row-given a p v e =
     let q = p.cells v e in
@@ -157,14 +156,14 @@ handed-row-promise : (w : Words) (t : Option Travel) (x : Travel) → t ≡ Some
 unfolding handed_row
 handed-row-promise w t x e = rw e (rows.promised w x _ refl)
 
-row_back : (w : Words) (t : Option Travel) (v : RowCells) → handed_row w t ≡ row.Cells v → RowCellsGiven v (row_numbers (handed_row w t))
+row_back : (w : Words) (t : Option Travel) (v : RowCells) → handed_row w t ≡ Ok v → RowCellsGiven v (row_numbers (handed_row w t))
 unfolding handed_row
 row_back w (Some x) v e = row-given (row_cells_answer w x) (rows.promised w x _ refl) v e
 row_back w None v e = let z : ◌≡◌ {A = ℕ} 0 1 = cc in absurd (omega arith)
 
 untold-numbers : (w : Words) (t : EvpTravel) → 1 < t.town
     → ((row_numbers (handed_row w (travel_handed t))).number ≡ 28) × ((row_numbers (handed_row w (travel_handed t))).place ≡ 0)
-unfolding row_numbers handed_row
+unfolding row_numbers handed_row number
 untold-numbers w t h = rw (← town-none t h) (refl, refl)
 
 pub row-numbers-kept : (w : Words) (t : EvpTravel) {r : EvpRowCells} → r ≡ row_numbers (handed_row w (travel_handed t)) → RowCellsNumbers w t r
@@ -182,7 +181,7 @@ handed-promise : (a b : Option Cell) (x y : Cell) → a ≡ Some x → b ≡ Som
 unfolding handed_sum
 handed-promise a b x y e f = rw (e, f) (promised x y refl)
 
-handed-none : (a b : Option Cell) → (a ≡ None) ⊎ (b ≡ None) → handed_sum a b ≡ sum.Refused 27 0
+handed-none : (a b : Option Cell) → (a ≡ None) ⊎ (b ≡ None) → handed_sum a b ≡ Err cell_refusal
 unfolding handed_sum
 handed-none a b (inl e) = rw e
 handed-none (Some x) b (inr e) = rw e
@@ -190,17 +189,17 @@ handed-none None b (inr e) = refl
 
 sum-none : (a : CellAnswer) → ¬ ((sum_numbers a).number ≡ 0) → cell_handed (sum_numbers a).cell ≡ None
 unfolding sum_numbers
-sum-none (sum.Sum c) n = absurd (n refl)
-sum-none (sum.Refused number place) n = none-handed
+sum-none (Ok c) n = absurd (n refl)
+sum-none (Err refusal) n = none-handed
 
-sum_back : (a b : Option Cell) (c : Cell) → handed_sum a b ≡ sum.Sum c → NoMinus c
+sum_back : (a b : Option Cell) (c : Cell) → handed_sum a b ≡ Ok c → NoMinus c
 unfolding handed_sum
 sum_back (Some x) (Some y) c e = ((promised x y refl).cell c e).no_minus
 sum_back (Some x) None c e = let z : ◌≡◌ {A = ℕ} 0 1 = cc in absurd (omega arith)
 sum_back None b c e = let z : ◌≡◌ {A = ℕ} 0 1 = cc in absurd (omega arith)
 
 pub sum-numbers-kept : (a b : EvpCell) {r : EvpCellSum} → r ≡ sum_numbers (handed_sum (cell_handed a) (cell_handed b)) → CellSumNumbers a b r
-unfolding sum_numbers
+unfolding sum_numbers number
 sum-numbers-kept a b e =
     let s = handed_sum (cell_handed a) (cell_handed b) in
     rw e

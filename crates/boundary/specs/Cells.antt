@@ -1,20 +1,17 @@
 -- Cells for a program in another language: numbers and doubles. Definitions only.
-use Rattle.std.specs.Prelude.{Option, Some, None, cond, false, ◌⊎◌, ◌≡◌, ◌<◌, eqb, ltb, pos, Float}
+use Rattle.std.specs.Prelude.{Option, Some, None, Ok, Err, cond, false, ◌⊎◌, ◌≡◌, ◌<◌, eqb, ltb, pos, Float}
 use Rattle.std.specs.Float.{fin}
 use Rattle.std.specs.Float.Ieee.{eq}
+use Rattle.refusals.specs.Rule.{number}
 use Rattle.map_cells.specs.declared.Cell.{Cell}
 use Rattle.map_cells.specs.declared.Cell.TheVariants.{Empty, Exact, Band}
-use Rattle.map_cells.specs.declared.CellAnswer.{CellAnswer}
-use Rattle.map_cells.specs.declared.CellAnswer.TheVariants as sum
-use Rattle.map_cells.specs.Sums.{cell_sum}
+use Rattle.map_cells.specs.Sums.{CellAnswer, cell_refusal, cell_sum}
 use Rattle.map_cells.specs.Promise.{SumPromise}
 use Rattle.map_shares.specs.declared.Travel.{Travel}
 use Rattle.map_shares.specs.declared.Words.{Words}
 use Rattle.map_rows.specs.declared.RowCells.{RowCells}
-use Rattle.map_rows.specs.declared.RowCellsAnswer.{RowCellsAnswer}
-use Rattle.map_rows.specs.declared.RowCellsAnswer.TheVariants as row
 use Rattle.map_rows.specs.Promise.{RowCellsPromise}
-use Rattle.map_rows.specs.Rows.{row_cells_answer}
+use Rattle.map_rows.specs.Rows.{RowCellsAnswer, travel_refusal, row_cells_answer}
 use Rattle.boundary.specs.declared.EvpCell.{EvpCell}
 use Rattle.boundary.specs.declared.EvpRowCells.{EvpRowCells}
 use Rattle.boundary.specs.declared.EvpCellSum.{EvpCellSum}
@@ -32,18 +29,24 @@ no_cell = record { kind = 3; low = fin false 0 (pos 0); high = fin false 0 (pos 
 
 -- number 0 where the cells are given; a refusal has none
 unfoldable pub row_numbers : RowCellsAnswer → EvpRowCells
-row_numbers (row.Cells v) = record {
+row_numbers (Ok v) = record {
   number = 0;
   place = 0;
   urban = cell_numbers v.urban;
   rural = cell_numbers v.rural;
   highway = cell_numbers v.highway;
 }
-row_numbers (row.Refused number place) = record { number = number; place = place; urban = no_cell; rural = no_cell; highway = no_cell }
+row_numbers (Err refusal) = record {
+  number = number refusal.rule;
+  place = refusal.place;
+  urban = no_cell;
+  rural = no_cell;
+  highway = no_cell;
+}
 
 unfoldable pub sum_numbers : CellAnswer → EvpCellSum
-sum_numbers (sum.Sum c) = record { number = 0; place = 0; cell = cell_numbers c }
-sum_numbers (sum.Refused number place) = record { number = number; place = place; cell = no_cell }
+sum_numbers (Ok c) = record { number = 0; place = 0; cell = cell_numbers c }
+sum_numbers (Err refusal) = record { number = number refusal.rule; place = refusal.place; cell = no_cell }
 
 -- one mass has it in both doubles
 unfoldable pub exact_handed : Float → Float → Option Cell
@@ -59,8 +62,8 @@ cell_handed c =
 -- "27 .. a cell handed in that is none of these"
 unfoldable pub handed_sum : Option Cell → Option Cell → CellAnswer
 handed_sum (Some a) (Some b) = cell_sum a b
-handed_sum (Some a) None = sum.Refused 27 0
-handed_sum None b = sum.Refused 27 0
+handed_sum (Some a) None = Err cell_refusal
+handed_sum None b = Err cell_refusal
 
 -- where a row's vehicles drive: town 1 is in town, 0 is not, and any other number tells nothing
 unfoldable pub travel_handed : EvpTravel → Option Travel
@@ -69,7 +72,7 @@ travel_handed t = cond (ltb 1 t.town) None (Some (record { town = eqb t.town 1; 
 -- it is then refused as a mileage or a speed out of its range is: 28, before all else
 unfoldable pub handed_row : Words → Option Travel → RowCellsAnswer
 handed_row w (Some t) = row_cells_answer w t
-handed_row w None = row.Refused 28 0
+handed_row w None = Err travel_refusal
 
 -- "Neither writes a cell": what comes with a refusal cannot be handed in
 pub record RowCellsNone (r : EvpRowCells) : Type 0 where
@@ -90,7 +93,7 @@ pub record RowCellsNumbers (w : Words) (t : EvpTravel) (r : EvpRowCells) : Type 
   pub promise : (x : Travel) → travel_handed t ≡ Some x → RowCellsPromise w x (handed_row w (travel_handed t))
   pub no-town : 1 < t.town → (r.number ≡ 28) × (r.place ≡ 0)
   pub refused : ¬ (r.number ≡ 0) → RowCellsNone r
-  pub given : (v : RowCells) → handed_row w (travel_handed t) ≡ row.Cells v → RowCellsGiven v r
+  pub given : (v : RowCells) → handed_row w (travel_handed t) ≡ Ok v → RowCellsGiven v r
 
 -- what holds after the call for a sum: the numbers are those of the answer; the sum of two cells handed in keeps the promise of `add_cells`,
 -- and anything else is number 27; a refusal has no cell, and a cell that is given may be handed in again
@@ -99,4 +102,4 @@ pub record CellSumNumbers (a b : EvpCell) (r : EvpCellSum) : Type 0 where
   pub promise : (x y : Cell) → cell_handed a ≡ Some x → cell_handed b ≡ Some y → SumPromise x y (handed_sum (cell_handed a) (cell_handed b))
   pub none : (cell_handed a ≡ None) ⊎ (cell_handed b ≡ None) → (r.number ≡ 27) × (r.place ≡ 0)
   pub refused : ¬ (r.number ≡ 0) → cell_handed r.cell ≡ None
-  pub given : (c : Cell) → handed_sum (cell_handed a) (cell_handed b) ≡ sum.Sum c → cell_handed r.cell ≡ Some c
+  pub given : (c : Cell) → handed_sum (cell_handed a) (cell_handed b) ≡ Ok c → cell_handed r.cell ≡ Some c

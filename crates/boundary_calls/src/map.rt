@@ -4,10 +4,11 @@ ghost use Rattle.boundary.specs.Cells.{cell_numbers, no_cell, row_numbers, sum_n
 ghost use Rattle.boundary.specs.Cells.{handed_row};
 
 use boundary::{EvpCell, EvpCellSum, EvpRowCells, EvpTravel};
+use map_cells::Cell;
 use map_cells::sums::add_cells;
-use map_cells::{Cell, CellAnswer};
-use map_rows::{RowCellsAnswer, cells_of_row};
+use map_rows::{RowCells, cells_of_row};
 use map_shares::{Travel, Words};
+use refusals::{Refusal, Rule};
 
 fn cell_numbers(c: Cell) -> EvpCell
     ensures { result ≡ cell_numbers c }
@@ -38,11 +39,11 @@ fn no_cell() -> EvpCell
     }
 }
 
-pub fn row_numbers(a: RowCellsAnswer) -> EvpRowCells
+pub fn row_numbers(a: Result<RowCells, Refusal>) -> EvpRowCells
     ensures { result ≡ row_numbers a }
 {
     match a {
-        RowCellsAnswer::Cells(v) => {
+        Ok(v) => {
             let u = v.urban;
             let r = v.rural;
             let h = v.highway;
@@ -54,9 +55,9 @@ pub fn row_numbers(a: RowCellsAnswer) -> EvpRowCells
                 highway: cell_numbers(h),
             }
         }
-        RowCellsAnswer::Refused(number, place) => EvpRowCells {
-            number,
-            place,
+        Err(refusal) => EvpRowCells {
+            number: refusal.rule.number(),
+            place: refusal.place,
             urban: no_cell(),
             rural: no_cell(),
             highway: no_cell(),
@@ -64,18 +65,18 @@ pub fn row_numbers(a: RowCellsAnswer) -> EvpRowCells
     }
 }
 
-pub fn sum_numbers(a: CellAnswer) -> EvpCellSum
+pub fn sum_numbers(a: Result<Cell, Refusal>) -> EvpCellSum
     ensures { result ≡ sum_numbers a }
 {
     match a {
-        CellAnswer::Sum(c) => EvpCellSum {
+        Ok(c) => EvpCellSum {
             number: 0,
             place: 0,
             cell: cell_numbers(c),
         },
-        CellAnswer::Refused(number, place) => EvpCellSum {
-            number,
-            place,
+        Err(refusal) => EvpCellSum {
+            number: refusal.rule.number(),
+            place: refusal.place,
             cell: no_cell(),
         },
     }
@@ -109,14 +110,20 @@ pub fn cell_handed(c: EvpCell) -> Option<Cell>
     }
 }
 
-pub fn handed_sum(a: Option<Cell>, b: Option<Cell>) -> CellAnswer
+pub fn handed_sum(a: Option<Cell>, b: Option<Cell>) -> Result<Cell, Refusal>
     ensures { result ≡ handed_sum a b }
 {
     let Some(x) = a else {
-        return CellAnswer::Refused(27, 0);
+        return Err(Refusal {
+            rule: Rule::Cell,
+            place: 0,
+        });
     };
     let Some(y) = b else {
-        return CellAnswer::Refused(27, 0);
+        return Err(Refusal {
+            rule: Rule::Cell,
+            place: 0,
+        });
     };
     add_cells(x, y)
 }
@@ -137,11 +144,14 @@ pub fn travel_handed(t: EvpTravel) -> Option<Travel>
     })
 }
 
-pub fn handed_row(w: Words, t: Option<Travel>) -> RowCellsAnswer
+pub fn handed_row(w: Words, t: Option<Travel>) -> Result<RowCells, Refusal>
     ensures { result ≡ handed_row w t }
 {
     let Some(travel) = t else {
-        return RowCellsAnswer::Refused(28, 0);
+        return Err(Refusal {
+            rule: Rule::Travel,
+            place: 0,
+        });
     };
     cells_of_row(w, travel)
 }

@@ -1,15 +1,13 @@
 -- Cells may be added in any order, refusals included.
-use Rattle.std.proofs.Common.{Option, Some, None}
+use Rattle.std.proofs.Common.{Option, Some, None, Ok, Err}
 use Rattle.std.proofs.Common.{◌≡◌, ℕ, ◌+◌, ◌<◌, ◌≤◌, Bool, true, false, cond, eqb, leb, sym, refl, ap, ◌∙◌, add_comm, arith, lt-ltb, eqb-true}
 use Rattle.std.proofs.Common.{leb-false, leb-true}
 use borrow.Author.Tests.{lt-leb, eqb-false}
 use Rattle.map_cells.specs.declared.Cell.{Cell}
 use Rattle.map_cells.specs.declared.Cell.TheVariants.{Empty, Exact, Band}
-use Rattle.map_cells.specs.declared.CellAnswer.{CellAnswer}
-use Rattle.map_cells.specs.declared.CellAnswer.TheVariants.{Sum, Refused}
 use Rattle.map_cells.specs.Doubles.{mass_limit, double}
 use Rattle.map_cells.specs.Cells.{cell_of, exact_masses, band_masses, masses_of}
-use Rattle.map_cells.specs.Sums.{masses_sum, cell_sum, add_to}
+use Rattle.map_cells.specs.Sums.{CellAnswer, cell_refusal, masses_sum, cell_sum, add_to}
 use Rattle.map_cells.proofs.WholeDoubles.{double-mass}
 use Rattle.map_cells.proofs.Between.{InOrder, masses-in-order}
 
@@ -56,11 +54,11 @@ sum-commutes a b = swap (masses_of a) (masses_of b)
 
 -- the sum of three, from their lows and highs
 unfoldable three_sum : Option (ℕ × ℕ) → Option (ℕ × ℕ) → Option (ℕ × ℕ) → CellAnswer
-three_sum None n k = Refused 27 0
-three_sum (Some (l, h)) None k = Refused 27 0
-three_sum (Some (l, h)) (Some (l', h')) None = Refused 27 0
+three_sum None n k = Err cell_refusal
+three_sum (Some (l, h)) None k = Err cell_refusal
+three_sum (Some (l, h)) (Some (l', h')) None = Err cell_refusal
 three_sum (Some (l, h)) (Some (l', h')) (Some (l'', h'')) =
-    cond (leb (h + h' + h'') mass_limit) (Sum (cell_of (l + l' + l'') (h + h' + h''))) (Refused 27 0)
+    cond (leb (h + h' + h'') mass_limit) (Ok (cell_of (l + l' + l'') (h + h' + h''))) (Err cell_refusal)
 
 three : (a b c : Cell) → add_to (cell_sum a b) c ≡ three_sum (masses_of a) (masses_of b) (masses_of c)
 unfolding cell_sum add_to masses_sum three_sum
@@ -76,12 +74,12 @@ three a b c = go (masses_of a) (masses_of b) (masses-in-order a) (masses-in-orde
         within None = refl
         within (Some (l'', h'')) = refl
 
-        over : mass_limit < h + h' → (k : Option (ℕ × ℕ)) → Refused 27 0 ≡ three_sum (Some (l, h)) (Some (l', h')) k
+        over : mass_limit < h + h' → (k : Option (ℕ × ℕ)) → ◌≡◌ {A = CellAnswer} (Err cell_refusal) (three_sum (Some (l, h)) (Some (l', h')) k)
         over p None = refl
         over p (Some (l'', h'')) = rw (lt-leb (h + h' + h'') mass_limit (omega arith))
 
         tests : (t : Bool) → (t ≡ true → h + h' ≤ mass_limit) → (t ≡ false → mass_limit < h + h')
-            → add_to (cond t (Sum (cell_of (l + l') (h + h'))) (Refused 27 0)) c ≡ three_sum (Some (l, h)) (Some (l', h')) (masses_of c)
+            → add_to (cond t (Ok (cell_of (l + l') (h + h'))) (Err cell_refusal)) c ≡ three_sum (Some (l, h)) (Some (l', h')) (masses_of c)
         tests true p q =
             let o : l + l' ≤ h + h' = omega (arith, (f l h refl).order, (g l' h' refl).order) in
             rw (masses-of-cell (l + l') (h + h') o (p refl)) (within (masses_of c))
@@ -109,5 +107,5 @@ sum-turns a b c = ap (λ (r : CellAnswer). add_to r c) (sum-commutes a b) ∙ su
 -- any two cells that are added one after the other may be exchanged, so any number of cells may be added in any order
 pub in-any-order : (r : CellAnswer) (a b : Cell) → add_to (add_to r a) b ≡ add_to (add_to r b) a
 unfolding add_to
-in-any-order (Sum c) a b = sum-exchange c a b
-in-any-order (Refused number place) a b = refl
+in-any-order (Ok c) a b = sum-exchange c a b
+in-any-order (Err refusal) a b = refl

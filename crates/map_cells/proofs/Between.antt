@@ -1,5 +1,5 @@
 -- A cell and its low and high: a cell made of two whole doubles, and what is known of a cell taken apart.
-use Rattle.std.proofs.Common.{Option, Some, None}
+use Rattle.std.proofs.Common.{Option, Some, None, Ok, Err}
 use Rattle.std.proofs.Common.{◌≡◌, ℕ, zero, suc, ◌+◌, ◌*◌, ◌<◌, ◌≤◌, Bool, true, false, cond, ◌&&◌, eqb, ltb, pos, sym, refl, ap, ◌∙◌, arith}
 use Rattle.std.proofs.Common.{ltb-true, ne_eqb, le-leb}
 use borrow.Author.Tests.{lt-leb}
@@ -9,8 +9,7 @@ use Rattle.map_cells.specs.declared.Cell.TheVariants.{Empty, Exact, Band}
 use Rattle.map_cells.specs.Doubles.{mass_limit, double, whole_of}
 use Rattle.map_cells.specs.Cells.{cell_of, exact_masses, band_masses, masses_of}
 use Rattle.map_cells.specs.Between.{cell_between}
-use Rattle.map_cells.specs.declared.CellAnswer.TheVariants.{Sum, Refused}
-use Rattle.map_cells.specs.Sums.{masses_sum, cell_sum}
+use Rattle.map_cells.specs.Sums.{CellAnswer, cell_refusal, masses_sum, cell_sum}
 use Rattle.map_cells.proofs.WholeDoubles.{double-value, same-value, double-eq, whole-limit}
 
 -- a whole double compared with 0
@@ -118,24 +117,25 @@ module _ {c : Cell} where
   masses-band {r} {v} {w} l h e f k g = rw e (g ∙ ap (λ (x : Option ℕ). band_masses x w) f ∙ ap (λ (x : Option ℕ). band_masses (whole_of l) x) k)
 
 module _ (low high low' high' : ℕ) where
-  pub sum_over : mass_limit < high + high' → Refused 27 0 ≡ masses_sum (Some (low, high)) (Some (low', high'))
+  pub sum_over : mass_limit < high + high' → ◌≡◌ {A = CellAnswer} (Err cell_refusal) (masses_sum (Some (low, high)) (Some (low', high')))
   unfolding masses_sum
   sum_over h = rw (lt-leb (high + high') mass_limit h)
 
   pub sum-within : (x y : Float) (r : Cell) → low ≤ high → low' ≤ high' → high + high' ≤ mass_limit
       → x ≡ double (low + low') → y ≡ double (high + high')
-      → r ≡ cell_between x y → Sum r ≡ masses_sum (Some (low, high)) (Some (low', high'))
+      → r ≡ cell_between x y → ◌≡◌ {A = CellAnswer} (Ok r) (masses_sum (Some (low, high)) (Some (low', high')))
   unfolding masses_sum
   sum-within x y r g g' h e f k =
       let o : low + low' ≤ high + high' = omega arith in
-      rw (le-leb (high + high') mass_limit h) (ap Sum (k ∙ rw (e, f) (between_is (low + low') (high + high') o h)))
+      rw (le-leb (high + high') mass_limit h) (ap Ok (k ∙ rw (e, f) (between_is (low + low') (high + high') o h)))
 
 module _ (a b : Cell) {first : Option (ℕ × ℕ)} (e : first ≡ masses_of a) where
-  pub sum_first : first ≡ None → Refused 27 0 ≡ cell_sum a b
+  pub sum_first : first ≡ None → ◌≡◌ {A = CellAnswer} (Err cell_refusal) (cell_sum a b)
   unfolding cell_sum masses_sum
   sum_first f = rw (← e, f)
 
-  pub sum-second : {second : Option (ℕ × ℕ)} (l h : ℕ) → first ≡ Some (l, h) → second ≡ masses_of b → second ≡ None → Refused 27 0 ≡ cell_sum a b
+  pub sum-second : {second : Option (ℕ × ℕ)} (l h : ℕ) → first ≡ Some (l, h) → second ≡ masses_of b → second ≡ None
+      → ◌≡◌ {A = CellAnswer} (Err cell_refusal) (cell_sum a b)
   unfolding cell_sum masses_sum
   sum-second l h f g k = rw (← e, f, ← g, k)
 

@@ -1,12 +1,11 @@
 -- What lies between a low and a high lies in their cell, and the sum of two cells holds the sums of what lies in them.
-use Rattle.std.proofs.Common.{Option, Some, None}
+use Rattle.std.proofs.Common.{Option, Some, None, Ok}
 use Rattle.std.proofs.Common.{◌≡◌, ℕ, ◌+◌, ◌*◌, ◌≤◌, Bool, true, false, cond, eqb, ltb, sym, refl, subst, arith, eqb→eq, eqb-true}
 use lib.Ieee.{Float, nan, inf, fin, up}
 use Rattle.numbers.specs.Fraction.{Fraction, ◌≤ᶠ◌, ◌≈ᶠ◌, ◌+ᶠ◌, whole}
 use Rattle.numbers.proofs.Order.{≤_trans, ≤-antisym, ≈-sym, ≈-trans, ≈→≤, ≈→≥, +-mono}
 use Rattle.map_cells.specs.declared.Cell.{Cell}
 use Rattle.map_cells.specs.declared.Cell.TheVariants.{Empty, Exact, Band}
-use Rattle.map_cells.specs.declared.CellAnswer.TheVariants.{Sum}
 use Rattle.map_cells.specs.Doubles.{mass_limit, double, whole_of}
 use Rattle.map_cells.specs.Cells.{cell_of, exact_masses, band_masses, masses_of}
 use Rattle.map_cells.specs.Sums.{cell_sum}
@@ -96,7 +95,7 @@ unfolding whole ◌+ᶠ◌
 whole-add a b = record { cross = omega arith }
 
 -- "Sums of cells are exact": where x lies in one cell and y in the other, x + y lies in their sum, and is 0 where that is empty
-pub sum-encloses : (a b c : Cell) (x y : Fraction) → cell_sum a b ≡ Sum c → InCell a x → InCell b y → InCell c (x +ᶠ y)
+pub sum-encloses : (a b c : Cell) (x y : Fraction) → cell_sum a b ≡ Ok c → InCell a x → InCell b y → InCell c (x +ᶠ y)
 sum-encloses a b c x y e hx hy =
     let g = given-sum a b c e in
     let p = between-whole a _ _ x g.first hx in

@@ -1,25 +1,25 @@
 -- The promise of every answer: what the number means, and what the cell holds.
 -- Assumes nothing.
-use Rattle.std.proofs.Common.{Option, Some, None}
+use Rattle.std.proofs.Common.{Option, Some, None, Ok, Err}
 use Rattle.std.proofs.Common.{◌≡◌, ℕ, ◌+◌, ◌<◌, ◌≤◌, Bool, true, false, cond, leb, sym, refl, ◌∙◌, inl, inr, arith, leb-false, leb-true}
 use Rattle.map_cells.specs.declared.Cell.{Cell}
-use Rattle.map_cells.specs.declared.CellAnswer.{CellAnswer}
-use Rattle.map_cells.specs.declared.CellAnswer.TheVariants.{Sum, Refused}
+use Rattle.refusals.specs.Rule.{number}
+use Rattle.refusals.specs.Check.{number_of, place_of}
 use Rattle.map_cells.specs.Doubles.{mass_limit}
 use Rattle.map_cells.specs.Cells.{cell_of, masses_of}
-use Rattle.map_cells.specs.Sums.{masses_sum, cell_sum}
-use Rattle.map_cells.specs.Promise.{sum_number_of, sum_place_of, SumIn, SumSays, SumCell, SumPromise}
+use Rattle.map_cells.specs.Sums.{CellAnswer, cell_refusal, masses_sum, cell_sum}
+use Rattle.map_cells.specs.Promise.{SumIn, SumSays, SumCell, SumPromise}
 use Rattle.map_cells.proofs.Between.{wrong-between, equal-lows, equal-highs}
 use Rattle.map_cells.proofs.Enclosed.{sum-encloses}
 use Rattle.map_cells.proofs.GivenSum.{given-sum}
 use Rattle.map_cells.proofs.Signs.{sum-no-minus}
 
 -- what the number means
-says : (a b : Cell) → SumSays a b (sum_number_of (cell_sum a b)) (sum_place_of (cell_sum a b))
-unfolding cell_sum masses_sum sum_number_of sum_place_of
+says : (a b : Cell) → SumSays a b (number_of (cell_sum a b)) (place_of (cell_sum a b))
+unfolding cell_sum masses_sum number_of place_of number
 says a b = go (masses_of a) (masses_of b) refl refl
   where
-    go : (m n : Option (ℕ × ℕ)) → masses_of a ≡ m → masses_of b ≡ n → SumSays a b (sum_number_of (masses_sum m n)) (sum_place_of (masses_sum m n))
+    go : (m n : Option (ℕ × ℕ)) → masses_of a ≡ m → masses_of b ≡ n → SumSays a b (number_of (masses_sum m n)) (place_of (masses_sum m n))
     go None n f g = record { place_is = refl; meaning = inr (refl, λ s. wrong-between s.low s.high (sym f ∙ s.first)) }
     go (Some (l, h)) None f g = record { place_is = refl; meaning = inr (refl, λ s. wrong-between s.low' s.high' (sym g ∙ s.second)) }
     go (Some (l, h)) (Some (l', h')) f g = tests (leb (h + h') mass_limit) (leb-true (h + h') mass_limit) (leb-false (h + h') mass_limit)
@@ -31,8 +31,8 @@ says a b = go (masses_of a) (masses_of b) refl refl
             omega arith
 
         tests : (t : Bool) → (t ≡ true → h + h' ≤ mass_limit) → (t ≡ false → mass_limit < h + h')
-            → SumSays a b (sum_number_of (cond t (Sum (cell_of (l + l') (h + h'))) (Refused 27 0)))
-            (sum_place_of (cond t (Sum (cell_of (l + l') (h + h'))) (Refused 27 0)))
+            → SumSays a b (number_of {A = Cell} (cond t (Ok (cell_of (l + l') (h + h'))) (Err cell_refusal)))
+            (place_of {A = Cell} (cond t (Ok (cell_of (l + l') (h + h'))) (Err cell_refusal)))
         tests true p q = record {
           place_is = refl;
           meaning = inl (refl, record { low = l; high = h; low' = l'; high' = h'; first = f; second = g; room = p refl });
@@ -43,7 +43,7 @@ says a b = go (masses_of a) (masses_of b) refl refl
             not-both r e l = omega arith
 
 -- the cell that is given
-sum-cell : (a b c : Cell) → cell_sum a b ≡ Sum c → SumCell a b c
+sum-cell : (a b c : Cell) → cell_sum a b ≡ Ok c → SumCell a b c
 sum-cell a b c e =
     let g = given-sum a b c e in
     record {

@@ -1,10 +1,9 @@
 -- No minus zero is given back.
-use Rattle.std.proofs.Common.{◌≡◌, ℕ, ◌+◌, ◌≤◌, Bool, true, false, cond, eqb, arith}
+use Rattle.std.proofs.Common.{Ok, ◌≡◌, ℕ, ◌+◌, ◌≤◌, Bool, true, false, cond, eqb, arith}
 use lib.Ieee.{Float, nan, inf, fin}
 use lib.Ieee.Exact.{HasValue}
 use Rattle.map_cells.specs.declared.Cell.{Cell}
 use Rattle.map_cells.specs.declared.Cell.TheVariants.{Empty, Exact, Band}
-use Rattle.map_cells.specs.declared.CellAnswer.TheVariants.{Sum}
 use Rattle.map_cells.specs.Doubles.{mass_limit, double}
 use Rattle.map_cells.specs.Cells.{cell_of}
 use Rattle.map_cells.specs.Sums.{cell_sum}
@@ -33,7 +32,7 @@ cell-no-minus low high o h = go (eqb high 0) (eqb low high)
     go false true = double-plus low l
     go false false = (double-plus low l, double-plus high h)
 
-pub sum-no-minus : (a b c : Cell) → cell_sum a b ≡ Sum c → NoMinus c
+pub sum-no-minus : (a b c : Cell) → cell_sum a b ≡ Ok c → NoMinus c
 sum-no-minus a b c e =
     let g = given-sum a b c e in
     rw g.cell-is at (cell-no-minus (g.low + g.low') (g.high + g.high') g.order g.room)

@@ -1,21 +1,12 @@
 -- What is promised of the sum of two cells, or of its refusal. Definitions only.
-use Rattle.std.specs.Prelude.{Some, ◌≡◌, ℕ, ◌+◌, ◌≤◌, ◌⊎◌}
+use Rattle.std.specs.Prelude.{Some, Ok, ◌≡◌, ℕ, ◌+◌, ◌≤◌, ◌⊎◌}
 use Rattle.numbers.specs.Fraction.{Fraction, ◌+ᶠ◌}
 use Rattle.map_cells.specs.declared.Cell.{Cell}
-use Rattle.map_cells.specs.declared.CellAnswer.{CellAnswer}
-use Rattle.map_cells.specs.declared.CellAnswer.TheVariants.{Sum, Refused}
+use Rattle.refusals.specs.Check.{number_of, place_of}
 use Rattle.map_cells.specs.Doubles.{mass_limit}
 use Rattle.map_cells.specs.Cells.{cell_of, masses_of}
+use Rattle.map_cells.specs.Sums.{CellAnswer}
 use Rattle.map_cells.specs.Values.{InCell, NoMinus}
-
--- "a definition gives this paper's number and values for each of the enum's cases": number 0 stands for a cell
-unfoldable pub sum_number_of : CellAnswer → ℕ
-sum_number_of (Sum c) = 0
-sum_number_of (Refused number place) = number
-
-unfoldable pub sum_place_of : CellAnswer → ℕ
-sum_place_of (Sum c) = 0
-sum_place_of (Refused number place) = place
 
 -- both cells handed in are cells, and their highs together are at most 2⁵³
 pub record SumIn (a b : Cell) : Type 0 where
@@ -42,5 +33,5 @@ pub record SumCell (a b c : Cell) : Type 0 where
   pub no_minus : NoMinus c
 
 pub record SumPromise (a b : Cell) (r : CellAnswer) : Type 0 where
-  pub says : SumSays a b (sum_number_of r) (sum_place_of r)
-  pub cell : (c : Cell) → r ≡ Sum c → SumCell a b c
+  pub says : SumSays a b (number_of r) (place_of r)
+  pub cell : (c : Cell) → r ≡ Ok c → SumCell a b c

@@ -12,10 +12,3 @@ pub enum Cell {
     Exact(f64),
     Band(f64, f64),
 }
-
-// What the sum of two cells answers: a cell, or the number and the place of a refusal.
-#[derive(Clone, Copy)]
-pub enum CellAnswer {
-    Sum(Cell),
-    Refused(u64, u64),
-}

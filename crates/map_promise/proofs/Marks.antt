@@ -1,10 +1,10 @@
 -- The cells of a row of an accepted sheet hold its exact shares.
+use Rattle.std.proofs.Common.{Ok}
 use mathlib.Core.List.{List}
 use mathlib.Core.Path.{refl, sym}
 use Prim.Native.Nat.{ℕ, ◌≤◌}
 use Rattle.report_words.specs.Promise.{RowPromise}
 use Rattle.map_shares.specs.ExactShares.{InWords}
-use Rattle.map_rows.specs.declared.RowCellsAnswer.TheVariants.{Cells}
 use Rattle.map_rows.proofs.Promised.{promised}
 use Rattle.map_promise.specs.Marker.{row_words, exact_masses, MarkedTheorem}
 
@@ -19,7 +19,7 @@ in_words p n h = record {
 pub marked : MarkedTheorem
 marked s old words r a z i row t v e =
     let p = in_words ((a.promise z).each_row i row) in
-    let c = (promised (row_words words i) t (Cells v) (sym e)).cells v refl in
+    let c = (promised (row_words words i) t (Ok v) (sym e)).cells v refl in
     record {
       urban = λ n h. c.urban.holds (exact_masses n s i) (p n h);
       rural = λ n h. c.rural.holds (exact_masses n s i) (p n h);

@@ -1,5 +1,5 @@
 -- "What the marker trusts about a row holds for its cells". Definitions only.
-use Rattle.std.specs.Prelude.{List, ◌≡◌, ℕ, ◌+◌, ◌*◌, ◌≤◌, ◌<◌}
+use Rattle.std.specs.Prelude.{List, Ok, ◌≡◌, ℕ, ◌+◌, ◌*◌, ◌≤◌, ◌<◌}
 use Rattle.numbers.specs.Fraction.{Fraction, ◌*ᶠ◌, whole}
 use Rattle.numbers.specs.Lists.{at}
 use Rattle.exact.specs.Masses.{Mechanism, diurnal, soak, running, mass}
@@ -14,7 +14,6 @@ use Rattle.map_shares.specs.declared.Travel.{Travel}
 use Rattle.map_shares.specs.Roads.{urban_road, rural_road, highway_road}
 use Rattle.map_shares.specs.ExactShares.{ExactMasses, exact_sum}
 use Rattle.map_rows.specs.declared.RowCells.{RowCells}
-use Rattle.map_rows.specs.declared.RowCellsAnswer.TheVariants.{Cells}
 use Rattle.map_rows.specs.Rows.{row_cells_answer}
 
 -- "From a row's report words": the six of row i, as they stand in the buffer
@@ -45,4 +44,4 @@ pub record Marked (s : List ℕ) (i : ℕ) (t : Travel) (v : RowCells) : Type 0 
 abbrev pub MarkedTheorem : Type 0
 MarkedTheorem =
     (s old words : List ℕ) (r : Check) → ReportCall s old words r → number_of r ≡ 0
-    → (i : ℕ) → i < rows_of s → (t : Travel) (v : RowCells) → row_cells_answer (row_words words i) t ≡ Cells v → Marked s i t v
+    → (i : ℕ) → i < rows_of s → (t : Travel) (v : RowCells) → row_cells_answer (row_words words i) t ≡ Ok v → Marked s i t v

@@ -1,4 +1,5 @@
 -- A row's cells hold its exact shares, and a refusal has its reason.
+use Rattle.std.proofs.Common.{Ok, Err}
 use mathlib.Core.Logic.{inl, inr}
 use mathlib.Core.Path.{◌≡◌, refl, sym, subst}
 use mathlib.Core.Bool.{Bool, true, false, ◌||◌}
@@ -17,9 +18,11 @@ use Rattle.map_shares.specs.Range.{RoadIn}
 use Rattle.map_shares.proofs.Ranges.{shares-in, urban-in, rural-in, highway-in}
 use Rattle.map_shares.proofs.Enclosure.{sum-above, sum_below}
 use Rattle.map_rows.specs.declared.RowCells.{RowCells}
-use Rattle.map_rows.specs.declared.RowCellsAnswer.{RowCellsAnswer}
-use Rattle.map_rows.specs.declared.RowCellsAnswer.TheVariants.{Cells, Refused}
-use Rattle.map_rows.specs.Rows.{travel_wrong, words_wrong, over, road_cell, shared_out, row_cells_answer, row_number_of, row_place_of}
+use Rattle.refusals.specs.declared.Rule.{Rule}
+use Rattle.refusals.specs.declared.Refusal.{Refusal}
+use Rattle.refusals.specs.Rule.{number}
+use Rattle.refusals.specs.Check.{number_of, place_of}
+use Rattle.map_rows.specs.Rows.{RowCellsAnswer, travel_wrong, words_wrong, over, road_cell, shared_out, row_cells_answer}
 use Rattle.map_rows.specs.Promise.{RoomIn, CellPromise, CellsPromise, RowSays, RowCellsPromise}
 use Rattle.map_rows.proofs.Demanded.{travel-met, travel-unmet, words-met, words-unmet, room-met, room-unmet}
 
@@ -34,7 +37,7 @@ encloses w k i j room = record {
     order : total (low_shares w k) ≤ total (high_shares w k)
     order = (shares-in w k i j).order
 
-no_cells : {number place : ℕ} (v : RowCells) → Refused number place ≡ Cells v → ⊥
+no_cells : {r : Refusal} (v : RowCells) → ◌≡◌ {A = RowCellsAnswer} (Err r) (Ok v) → ⊥
 no_cells v e = let z : ◌≡◌ {A = ℕ} 0 1 = cc in omega arith
 
 module _ (w : Words) (t : Travel) where
@@ -54,23 +57,23 @@ module _ (w : Words) (t : Travel) where
     highway = encloses w (highway_road t) j (highway-in t i) r.highway-room;
   }
 
-  refusal : {number : ℕ} → RowSays w t number 0 → RowCellsPromise w t (Refused number 0)
-  unfolding row_number_of row_place_of
+  refusal : {r : Rule} → RowSays w t (number r) 0 → RowCellsPromise w t (Err (record { rule = r; place = 0 }))
+  unfolding number_of place_of
   refusal says = record { says = says; cells = λ v e. absurd (no_cells v e) }
 
-  answer : TravelIn t → WordsIn w → RoomIn (row_shares w t) → RowCellsPromise w t (Cells given)
-  unfolding row_number_of row_place_of
+  answer : TravelIn t → WordsIn w → RoomIn (row_shares w t) → RowCellsPromise w t (Ok given)
+  unfolding number_of place_of
   answer i j r = record {
     says = record { place_is = refl; meaning = inl (refl, i, j, r) };
     cells = λ v e. subst (λ (x : RowCells). CellsPromise w t x) (same v e) (cells-kept i j r);
   }
     where
-      same : (v : RowCells) → Cells given ≡ Cells v → given ≡ v
+      same : (v : RowCells) → ◌≡◌ {A = RowCellsAnswer} (Ok given) (Ok v) → given ≡ v
       same v e = cc
 
   -- what the definition answers keeps the promise
   answer-kept : RowCellsPromise w t (row_cells_answer w t)
-  unfolding row_cells_answer shared_out row_shares
+  unfolding row_cells_answer shared_out row_shares number
   answer-kept = travel (travel_wrong t) refl
     where
       room : travel_wrong t ≡ false → words_wrong w ≡ false → (c : Bool)

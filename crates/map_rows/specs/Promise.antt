@@ -1,5 +1,6 @@
 -- What is promised of a row's cells, or of their refusal. Definitions only.
-use Rattle.std.specs.Prelude.{◌⊎◌, ◌≡◌, ℕ, ◌≤◌}
+use Rattle.std.specs.Prelude.{Ok, ◌⊎◌, ◌≡◌, ℕ, ◌≤◌}
+use Rattle.refusals.specs.Check.{number_of, place_of}
 use Rattle.map_cells.specs.Doubles.{mass_limit}
 use Rattle.map_cells.specs.declared.Cell.{Cell}
 use Rattle.map_cells.specs.Values.{InCell, NoMinus}
@@ -12,9 +13,7 @@ use Rattle.map_shares.specs.Roads.{urban_road, rural_road, highway_road}
 use Rattle.map_shares.specs.Shares.{total, row_shares}
 use Rattle.map_shares.specs.ExactShares.{ExactMasses, InWords, exact_sum}
 use Rattle.map_rows.specs.declared.RowCells.{RowCells}
-use Rattle.map_rows.specs.declared.RowCellsAnswer.{RowCellsAnswer}
-use Rattle.map_rows.specs.declared.RowCellsAnswer.TheVariants.{Cells}
-use Rattle.map_rows.specs.Rows.{row_number_of, row_place_of}
+use Rattle.map_rows.specs.Rows.{RowCellsAnswer}
 
 -- no cell's high is above 2⁵³
 pub record RoomIn (s : RowShares) : Type 0 where
@@ -41,5 +40,5 @@ pub record RowSays (w : Words) (t : Travel) (number place : ℕ) : Type 0 where
       ((number ≡ 27) × TravelIn t × ¬ (WordsIn w × RoomIn (row_shares w t)))
 
 pub record RowCellsPromise (w : Words) (t : Travel) (r : RowCellsAnswer) : Type 0 where
-  pub says : RowSays w t (row_number_of r) (row_place_of r)
-  pub cells : (v : RowCells) → r ≡ Cells v → CellsPromise w t v
+  pub says : RowSays w t (number_of r) (place_of r)
+  pub cells : (v : RowCells) → r ≡ Ok v → CellsPromise w t v

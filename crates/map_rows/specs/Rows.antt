@@ -1,8 +1,12 @@
 -- The cells of a row. Definitions only.
-use Rattle.std.specs.Prelude.{Bool, cond, ◌||◌, ℕ, ltb}
+use Rattle.std.specs.Prelude.{Bool, Ok, Err, cond, ◌||◌, ℕ, ltb}
+use Rattle.refusals.specs.declared.Refusal.{Refusal}
+use Rattle.refusals.specs.declared.Rule.TheVariants as rule
+use Rattle.refusals.specs.Check.{Answer}
 use Rattle.map_cells.specs.declared.Cell.{Cell}
 use Rattle.map_cells.specs.Doubles.{mass_limit}
 use Rattle.map_cells.specs.Cells.{cell_of}
+use Rattle.map_cells.specs.Sums.{cell_refusal}
 use Rattle.map_shares.specs.declared.Travel.{Travel}
 use Rattle.map_shares.specs.declared.Span.{Span}
 use Rattle.map_shares.specs.declared.Words.{Words}
@@ -10,8 +14,15 @@ use Rattle.map_shares.specs.declared.RoadShares.{RoadShares}
 use Rattle.map_shares.specs.declared.RowShares.{RowShares}
 use Rattle.map_shares.specs.Demands.{travel_limit}
 use Rattle.map_shares.specs.Shares.{total, row_shares}
-use Rattle.map_rows.specs.declared.RowCellsAnswer.{RowCellsAnswer}
-use Rattle.map_rows.specs.declared.RowCellsAnswer.TheVariants.{Cells, Refused}
+use Rattle.map_rows.specs.declared.RowCells.{RowCells}
+
+-- what the call answers: three cells, or a refusal, which has no cell
+abbrev pub RowCellsAnswer : Type 0
+RowCellsAnswer = Answer RowCells
+
+-- "28 .. place 0"
+abbrev pub travel_refusal : Refusal
+travel_refusal = record { rule = rule.Travel; place = 0 }
 
 -- "not from 1 to 1,000,000"
 unfoldable pub amiss : ℕ → Bool
@@ -40,21 +51,12 @@ road_cell s = cell_of (total s.low) (total s.high)
 -- the three cells of a row's shares, or a refusal
 unfoldable pub shared_out : RowShares → RowCellsAnswer
 shared_out s =
-    cond (over s.urban || over s.rural || over s.highway) (Refused 27 0)
-    (Cells (record { urban = road_cell s.urban; rural = road_cell s.rural; highway = road_cell s.highway }))
+    cond (over s.urban || over s.rural || over s.highway) (Err cell_refusal)
+    (Ok (record { urban = road_cell s.urban; rural = road_cell s.rural; highway = road_cell s.highway }))
 
 -- "28 .. checked first"; "place 0"
 unfoldable pub row_cells_answer : Words → Travel → RowCellsAnswer
 row_cells_answer w t =
-    cond (travel_wrong t) (Refused 28 0)
-    (cond (words_wrong w) (Refused 27 0)
+    cond (travel_wrong t) (Err travel_refusal)
+    (cond (words_wrong w) (Err cell_refusal)
     (shared_out (row_shares w t)))
-
--- "a definition gives this paper's number and values for each of the enum's cases": number 0 stands for cells
-unfoldable pub row_number_of : RowCellsAnswer → ℕ
-row_number_of (Cells v) = 0
-row_number_of (Refused number place) = number
-
-unfoldable pub row_place_of : RowCellsAnswer → ℕ
-row_place_of (Cells v) = 0
-row_place_of (Refused number place) = place

@@ -9,6 +9,7 @@ use crate::shares::row_shares;
 use checks::{travel_wrong, words_wrong};
 use map_cells::Cell;
 use map_shares::{Travel, Words};
+use refusals::{Refusal, Rule};
 use sums::share_out;
 
 mod checks;
@@ -40,22 +41,21 @@ pub struct RowCells {
     pub highway: Cell,
 }
 
-// What the call answers: three cells, or the number and the place of a refusal, which holds no cell.
-#[derive(Clone, Copy)]
-pub enum RowCellsAnswer {
-    Cells(RowCells),
-    Refused(u64, u64),
-}
-
 // The cells of a row, or a refusal: 28 before 27.
-pub fn cells_of_row(w: Words, t: Travel) -> RowCellsAnswer
+pub fn cells_of_row(w: Words, t: Travel) -> Result<RowCells, Refusal>
     ensures { (result ≡ row_cells_answer w t) × RowCellsPromise w t result }
 {
     if travel_wrong(t) {
-        return RowCellsAnswer::Refused(28, 0);
+        return Err(Refusal {
+            rule: Rule::Travel,
+            place: 0,
+        });
     }
     if words_wrong(w) {
-        return RowCellsAnswer::Refused(27, 0);
+        return Err(Refusal {
+            rule: Rule::Cell,
+            place: 0,
+        });
     }
     share_out(row_shares(w, t))
 }

@@ -4,10 +4,11 @@ ghost use Rattle.map_shares.specs.Range.{SharesIn, RowIn};
 ghost use Rattle.map_rows.specs.Rows.{over, shared_out};
 ghost use Rattle.map_rows.specs.Limits.{Fits, limits_of, LimitsIn, cells_within};
 
-use crate::{Limits, RoadLimits, RowCells, RowCellsAnswer};
+use crate::{Limits, RoadLimits, RowCells};
 use map_cells::doubles::{MASS_LIMIT, add_three};
 use map_cells::kinds::cell_between;
 use map_shares::{RoadShares, RowShares};
+use refusals::{Refusal, Rule};
 
 // The highs of a road kind pass 2^53. Asked of whole numbers: the double of 2^53 + 1 would not show it.
 fn over(s: RoadShares) -> bool
@@ -41,7 +42,7 @@ fn cells_of(k: RoadLimits) -> RowCells
 }
 
 // The cells of a row's shares, or a refusal where one of them would pass 2^53.
-pub fn share_out(s: RowShares) -> RowCellsAnswer
+pub fn share_out(s: RowShares) -> Result<RowCells, Refusal>
     requires { RowIn s }
     ensures { result ≡ shared_out s }
 {
@@ -49,12 +50,15 @@ pub fn share_out(s: RowShares) -> RowCellsAnswer
     let r = s.rural;
     let h = s.highway;
     if over(u) | over(r) | over(h) {
-        return RowCellsAnswer::Refused(27, 0);
+        return Err(Refusal {
+            rule: Rule::Cell,
+            place: 0,
+        });
     }
     let k = RoadLimits {
         urban: limits(u),
         rural: limits(r),
         highway: limits(h),
     };
-    RowCellsAnswer::Cells(cells_of(k))
+    Ok(cells_of(k))
 }

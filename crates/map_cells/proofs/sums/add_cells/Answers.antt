@@ -1,8 +1,7 @@
 -- `map_cells::sums::add_cells` meets its contract.
 use Rattle.std.proofs.Common.{◌≡◌, sym, ◌∙◌}
 use Rattle.map_cells.specs.declared.Cell.{Cell}
-use Rattle.map_cells.specs.declared.CellAnswer.{CellAnswer}
-use Rattle.map_cells.specs.Sums.{cell_sum}
+use Rattle.map_cells.specs.Sums.{CellAnswer, cell_sum}
 use Rattle.map_cells.specs.Promise.{SumPromise}
 use Rattle.map_cells.proofs.Promised.{promised}
 use Rattle.map_cells.proofs.Between.{sum_first, sum-second, sum_both, masses-in-order}
