@@ -11,12 +11,9 @@ sheet that the library refuses all the same is drawn again. Both are counted. In
 
 import math
 import os
-import signal
 from collections.abc import Callable, Iterator, Sequence
-from concurrent.futures import ProcessPoolExecutor
-from concurrent.futures.process import BrokenProcessPool
 from dataclasses import dataclass
-from multiprocessing import get_context
+from functools import partial
 from random import Random
 
 from evp.analysis.targets import Plan, moved
@@ -24,11 +21,14 @@ from evp.analysis.uncertainty import Move, Uncertainty
 from evp.explain import explain
 from evp.files import InputError
 from evp.library import Band, Library, Refusal
+from evp.workers import Workers
 
 MOST_TRIES = 200  # of one draw
 LEAST_SHARE = 2.0 ** -60  # in place of 0, which no quantile has
 CHUNKS = 8  # of the work of a process at least, so that all end at about the same time
-MOST_REPORTS = 100  # of a chunk, so that an interrupted run ends soon
+MOST_REPORTS = 100  # of a chunk, so that the bar moves often
+ENDED = ("a process that made draws was ended from outside, perhaps for want of memory; call again, or with "
+         "--workers 1")
 Progress = Callable[[int, int], object]
 
 
@@ -139,29 +139,15 @@ def draw(library: Library, plans: Sequence[Plan], lines: Sequence[Uncertainty], 
 
 @dataclass(frozen=True)
 class _Work:
-    """What a process needs to make draws."""
+    """What is needed to make draws."""
     library: Library
     plans: tuple[Plan, ...]
     lines: tuple[Uncertainty, ...]
     seed: int
 
-    def run(self, first: int, end: int) -> list[Draw]:
-        return [draw(self.library, self.plans, self.lines, self.seed, number) for number in range(first, end)]
 
-
-_work: _Work | None = None  # of this process
-
-
-def _begin(path: str, plans: tuple[Plan, ...], lines: tuple[Uncertainty, ...], seed: int) -> None:
-    """Once in each process. The one that started it answers to Ctrl-C and ends it."""
-    global _work
-    signal.signal(signal.SIGINT, signal.SIG_IGN)
-    _work = _Work(Library(path), plans, lines, seed)
-
-
-def _part(first: int, end: int) -> list[Draw]:
-    assert _work is not None
-    return _work.run(first, end)
+def _part(work: _Work, part: tuple[int, int]) -> list[Draw]:
+    return [draw(work.library, work.plans, work.lines, work.seed, number) for number in range(*part)]
 
 
 def default_workers() -> int:
@@ -181,20 +167,14 @@ def run_draws(library: Library, plans: Sequence[Plan], lines: Sequence[Uncertain
     parts, found = list(_parts(draws, len(plans), workers)), []
     if workers == 1:
         for part in parts:
-            found += work.run(*part)
+            found += _part(work, part)
             progress(len(found), draws)
         return found
-    given = str(library.path), work.plans, work.lines, seed
-    pool = ProcessPoolExecutor(workers, get_context("fork"), _begin, given)
-    try:
-        for made in pool.map(_part, *zip(*parts)):
+    shared: Workers[tuple[int, int], list[Draw]]
+    with Workers(lambda: partial(_part, work), workers, ENDED) as shared:
+        for made in shared.in_order(parts):
             found += made
             progress(len(found), draws)
-    except BrokenProcessPool:
-        raise InputError("a process that made draws was ended from outside, perhaps for want of memory; "
-                         "call again, or with --workers 1") from None
-    finally:
-        pool.shutdown(cancel_futures=True)
     return found
 
 

@@ -1,13 +1,10 @@
 """A project: a folder of sheets, a folder of tables, or a workbook; the sheets of its years and regions."""
 
 import os
-from collections.abc import Iterable, Iterator
-from concurrent.futures import ProcessPoolExecutor
-from concurrent.futures.process import BrokenProcessPool
+from collections.abc import Callable, Iterable, Iterator
 from dataclasses import dataclass, field
 from functools import partial
 from math import gcd
-from multiprocessing import get_context
 from pathlib import Path, PurePath
 from typing import Any
 
@@ -16,9 +13,10 @@ from evp.layout import MOST_ROWS
 from evp.sheet import Builder, TextError, doubts
 from evp.sheet.folders import DURATIONS, HOURS
 from evp.wording import name_shown, quoted
+from evp.workers import Workers
 from evp.years.naming import ALL_YEARS, Name, Span, name_of, region_key
-from evp.years.run import AHEAD, ENDED, begin_process
-from evp.years.tables import KINDS, Found, Rows, Source, open_workbook, source_of, worksheet_lines
+from evp.years.run import AHEAD, ENDED
+from evp.years.tables import KINDS, Rows, Source, open_workbook, source_of, worksheet_lines
 
 STATE = ".state"  # which a folder of results has
 FEW, PART = 24, 8  # sheets that one process makes; sheets that a process makes at once
@@ -219,34 +217,23 @@ class Made:
     reason: str = ""
 
 
-_opened: list[Rows] = []  # in a process that makes sheets
-
-
-def _open_rows(path: Path, found: Found) -> None:
-    begin_process()
-    _opened.append(Rows(path, found))
-
-
-def _make_some(which: list[tuple[int, str]]) -> list[Made]:
-    return [make_sheet(_opened[-1], year, region) for year, region in which]
-
-
 def make_sheets(rows: Rows, entries: list[Entry], jobs: int) -> Iterator[Made]:
     """The sheets of entries in their order, by several processes where there are many."""
     which = [(entry.year or 0, entry.region) for entry in entries]
     if jobs == 1 or len(which) < FEW:
         yield from (make_sheet(rows, *one) for one in which)
         return
-    pool = ProcessPoolExecutor(jobs, get_context("fork"), _open_rows, (rows.path, rows.found))
+
+    def start() -> Callable[[list[tuple[int, str]]], list[Made]]:
+        own = Rows(rows.path, rows.found)  # each process opens the tables for itself
+        return lambda part: [make_sheet(own, year, region) for year, region in part]
+
     parts = [which[i:i + PART] for i in range(0, len(which), PART)]
-    try:
+    workers: Workers[list[tuple[int, str]], list[Made]]
+    with Workers(start, jobs, ENDED) as workers:
         for i in range(0, len(parts), AHEAD * jobs):
-            for made in pool.map(_make_some, parts[i:i + AHEAD * jobs]):
+            for made in workers.in_order(parts[i:i + AHEAD * jobs]):
                 yield from made
-    except BrokenProcessPool:
-        raise InputError(ENDED) from None
-    finally:
-        pool.shutdown(wait=True, cancel_futures=True)
 
 
 def make_sheet(rows: Rows, year: int, region: str) -> Made:

@@ -1,33 +1,26 @@
 """The reports of many sheets, by processes of this machine."""
 
-import contextlib
-import ctypes
 import json
 import os
-import signal
 import struct
 import sys
 import time
 from collections.abc import Iterable, Iterator, Sequence
-from concurrent.futures import FIRST_COMPLETED, Future, ProcessPoolExecutor, wait
-from concurrent.futures.process import BrokenProcessPool
 from dataclasses import dataclass
-from multiprocessing import get_context
 from typing import Any
 
 from evp import library as calls
 from evp.explain import explain
-from evp.files import InputError
 from evp.layout import ROW_BYTES, row_place
 from evp.library import LAST_WORDS, Library, Refusal
 from evp.wording import apart
+from evp.workers import Workers
 
 CHUNK = 16  # sheets that a process gets at once, at most
-AHEAD = 3  # chunks for each process that are read and not answered yet
+AHEAD = 3  # chunks for each process that are read and not answered yet, at most
 ENDED = ("a process was ended from outside, perhaps for want of memory; what is done is kept, and the same command "
          "goes on")
 RECORD = struct.Struct("<BB6xI12x")  # class, technology and vehicles of a row
-PARENT_ENDS = 1  # PR_SET_PDEATHSIG of <sys/prctl.h>
 
 
 @dataclass(frozen=True)
@@ -88,19 +81,6 @@ def answers(sheets: Sequence[bytes], options: Options) -> list[str]:
 # ------------------------------------------------------------------ processes
 
 
-def begin_process() -> None:
-    """In each process: Ctrl-C is the first process's to take, and a process does not outlive that one."""
-    signal.signal(signal.SIGINT, signal.SIG_IGN)
-    signal.signal(signal.SIGTERM, signal.SIG_DFL)
-    with contextlib.suppress(AttributeError, OSError):
-        ctypes.CDLL(None).prctl(PARENT_ENDS, signal.SIGKILL)
-
-
-def _begin() -> None:
-    begin_process()
-    calls.load()
-
-
 def cores() -> int:
     """The cores that this process may use."""
     return len(os.sched_getaffinity(0)) if hasattr(os, "sched_getaffinity") else os.cpu_count() or 1
@@ -117,25 +97,14 @@ def run_local(chunks: Iterable[Chunk], options: Options, jobs: int) -> Iterator[
         for chunk in chunks:
             yield chunk.keys, answers(chunk.sheets, options)
         return
-    pool = ProcessPoolExecutor(jobs, get_context("fork"), _begin)
-    pending: dict[Future[list[str]], list[str]] = {}
-    try:
-        for chunk in chunks:
-            pending[pool.submit(answers, chunk.sheets, options)] = chunk.keys
-            if len(pending) >= AHEAD * jobs:
-                yield from _finished(pending)
-        while pending:
-            yield from _finished(pending)
-    except BrokenProcessPool:
-        raise InputError(ENDED) from None
-    finally:
-        pool.shutdown(wait=True, cancel_futures=True)
 
+    def work(chunk: Chunk) -> list[str]:
+        return answers(chunk.sheets, options)
 
-def _finished(pending: dict[Future[list[str]], list[str]]) -> Iterator[tuple[list[str], list[str]]]:
-    done, _ = wait(pending, return_when=FIRST_COMPLETED)
-    for future in done:
-        yield pending.pop(future), future.result()
+    workers: Workers[Chunk, list[str]]
+    with Workers(lambda: work, jobs, ENDED) as workers:
+        for chunk, found in workers.as_finished(chunks):
+            yield chunk.keys, found
 
 
 # ------------------------------------------------------------------ how far it is

@@ -146,10 +146,11 @@ class Series:
         try:
             running = cluster.run(chunks, self._options) if cluster else run_local(
                 chunks, self._options, min(jobs, max(1, many)))
-            for keys, answers in running:
-                store.put(keys, answers)
-                self._done += len(keys)
-                bar(self._done)
+            with closing(running):  # so that the processes have ended when an exception leaves here
+                for keys, answers in running:
+                    store.put(keys, answers)
+                    self._done += len(keys)
+                    bar(self._done)
         finally:
             if cluster:
                 cluster.close()
