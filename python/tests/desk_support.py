@@ -41,17 +41,34 @@ class Answer(NamedTuple):
         return self.status, [header for header in self.headers if header[0] != "Date"], self.body
 
 
-def free_port() -> int:
-    with socket.socket() as found:
-        found.bind((HOST, 0))
-        return found.getsockname()[1]
+class ReservedPort:
+    """A port of this machine that nobody else gets until this is closed: it is bound here, and not listened to. A
+    connection or a server that takes any port gets another one; a server that asks for this one by its number gets it,
+    as often as it is started, where it sets SO_REUSEADDR as evp does."""
+
+    def __init__(self):
+        self._bound = socket.socket()
+        self._bound.setsockopt(socket.SOL_SOCKET, socket.SO_REUSEADDR, 1)
+        self._bound.bind(("", 0))
+        self.number: int = self._bound.getsockname()[1]
+
+    def __enter__(self) -> int:
+        return self.number
+
+    def __exit__(self, *_: object):
+        self.close()
+
+    def close(self):
+        self._bound.close()
 
 
 class Desk:
-    """A process of `evp desk`, started and stopped; `links` are the nine paths, the marker's first."""
+    """A process of `evp desk`, started and stopped; `links` are the nine paths, the marker's first. Until it is closed
+    another can be started at its port."""
 
     def __init__(self, ledger: Path, *words: object, port: int | None = None, before: Iterable[object] = ()):
-        self.ledger, self.port = ledger, port or free_port()
+        self._reserved = None if port else ReservedPort()
+        self.ledger, self.port = ledger, port or self._reserved.number
         self.clients: list[Client] = []
         self.out = ledger.with_suffix(".out")
         with open(self.out, "wb") as out:
@@ -70,7 +87,7 @@ class Desk:
         end = time.monotonic() + START
         while "Serving at" not in self.said:
             if self.process.poll() is not None or time.monotonic() > end:
-                self.kill()
+                self.close()
                 raise AssertionError("the desk did not start: %s" % self.said)
             time.sleep(0.01)
 
@@ -84,6 +101,8 @@ class Desk:
         self.kill()
         for client in self.clients:
             client.close()
+        if self._reserved:
+            self._reserved.close()
 
     def stop(self) -> int:
         self.process.send_signal(signal.SIGTERM)

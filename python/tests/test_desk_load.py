@@ -17,7 +17,7 @@ import unittest
 from collections import Counter
 from http.client import HTTPException
 
-from desk_support import HAS_MODULES, MARKER, NO_MODULES, Client, Desk, free_port, report_words
+from desk_support import HAS_MODULES, MARKER, NO_MODULES, Client, Desk, report_words
 from support import LIBRARY, SAMPLES, DeskTestCase, sample
 
 from evp import layout
@@ -143,8 +143,8 @@ class LoadTest(DeskTestCase):
         self.check_ledger(marker, people, machines)
 
     def test_killed(self):
-        port = free_port()
-        desk = self.start("--new", SHEET, port=port)
+        desk = self.start("--new", SHEET)
+        port = desk.port
         links, machines, done = desk.links, {who: Machine(who) for who in range(1, 9)}, dict.fromkeys(range(1, 9), 0)
         answered = {who: [] for who in machines}
         chance, began, unanswered = random.Random(5), time.monotonic(), 0

@@ -6,7 +6,7 @@ import sys
 import unittest
 from unittest import mock
 
-from desk_support import free_port
+from desk_support import ReservedPort
 from support import TOP, DeskTestCase, run
 
 from evp import library
@@ -32,12 +32,12 @@ class LauncherTest(DeskTestCase):
     @unittest.skipUnless(IS_DEBIAN, "Debian's Python has not what the server needs")
     def test_debian_goes_on(self):
         """With the same arguments, also one with a space, and in the same process."""
-        port = free_port()
         for name in ("serve", "desk"):
-            found = self.start(name, "--ledger", "a course.db", "--new", TOP / "samples/region.evp", "--port", port)
-            said = iter(found.stdout.readline, "")
-            self.assertIn("a course.db: 24 rows of", next(said))
-            self.assertTrue(any("Serving at http://127.0.0.1:%d until Ctrl-C." % port in line for line in said))
+            with ReservedPort() as port:
+                found = self.start(name, "--ledger", "a course.db", "--new", TOP / "samples/region.evp", "--port", port)
+                said = iter(found.stdout.readline, "")
+                self.assertIn("a course.db: 24 rows of", next(said))
+                self.assertTrue(any("Serving at http://127.0.0.1:%d until Ctrl-C." % port in line for line in said))
             self.assertEqual(os.readlink("/proc/%d/exe" % found.pid), os.path.realpath(needs.DEBIAN))
             found.kill()
             found.wait()

@@ -13,7 +13,7 @@ import time
 import unittest
 from unittest import mock
 
-from desk_support import COMMAND, HAS_MODULES, HOST, NO_MODULES, Desk, free_port
+from desk_support import COMMAND, HAS_MODULES, HOST, NO_MODULES, Desk, ReservedPort
 from service_support import CHANGED, ServiceTestCase, Worker, asked, connected, head_of, is_closed, leave, status_of
 from support import LIBRARY, SAMPLES, TOP, DeskTestCase
 
@@ -86,12 +86,12 @@ class EndingTest(ServiceTestCase):
 
     def test_log_that_nobody_reads(self):
         """Standard output and error may be closed while it serves."""
-        port = free_port()
-        process = subprocess.Popen([sys.executable, TOP / "evp", COMMAND, "--port", str(port)], stdout=subprocess.PIPE,
-                                   stderr=subprocess.PIPE, cwd=self.folder)
-        self.addCleanup(process.wait)
-        self.addCleanup(process.kill)
-        self.assertIn(b"Serving at", process.stdout.readline())
+        with ReservedPort() as port:
+            process = subprocess.Popen([sys.executable, TOP / "evp", COMMAND, "--port", str(port)],
+                                       stdout=subprocess.PIPE, stderr=subprocess.PIPE, cwd=self.folder)
+            self.addCleanup(process.wait)
+            self.addCleanup(process.kill)
+            self.assertIn(b"Serving at", process.stdout.readline())
         process.stdout.close()
         process.stderr.close()
         for _ in range(3):

@@ -11,7 +11,6 @@ import base64
 import json
 import os
 import shutil
-import socket
 import sys
 import tempfile
 import threading
@@ -26,7 +25,6 @@ for _folder in (TOP, TOP / "python"):
         sys.path.insert(0, str(_folder))
 sys.path.append(str(TOP / "python" / "tests"))  # behind this folder, whose tests may have the same names
 
-import flask  # noqa: E402
 import waitress  # noqa: E402
 from selenium import webdriver  # noqa: E402
 from selenium.webdriver.common.action_chains import ActionChains  # noqa: E402
@@ -35,6 +33,7 @@ from selenium.webdriver.common.keys import Keys  # noqa: E402
 
 from evp.desk.app import create_app  # noqa: E402
 from evp.desk.security import hosts_of  # noqa: E402
+from evp.desk.server import listening  # noqa: E402
 
 SAMPLES = TOP / "samples"
 PICTURES = TOP / "target" / "browser"
@@ -50,24 +49,15 @@ CONTRAST, LAYOUT = ((Path(__file__).parent / name).read_text(encoding="utf-8") f
 PROGRAMS = ("chromium", "chromium-browser", "google-chrome")
 
 
-def free_port() -> int:
-    with socket.socket() as bound:
-        bound.bind(("127.0.0.1", 0))
-        return bound.getsockname()[1]
-
-
-def serve(app: flask.Flask, port: int) -> str:
-    """Serves an application on this machine until the tests end; its address."""
-    server = waitress.create_server(app, host="127.0.0.1", port=port, threads=4, clear_untrusted_proxy_headers=True)
-    threading.Thread(target=server.run, daemon=True).start()
-    return "http://127.0.0.1:%d" % port
-
-
 @cache
 def desk() -> str:
-    """The address of the desk without a ledger."""
-    port = free_port()
-    return serve(create_app(hosts_of("127.0.0.1", port)), port)
+    """The address of the desk without a ledger, which is served until the tests end."""
+    listener = listening("127.0.0.1", 0)
+    port = listener.getsockname()[1]
+    app = create_app(hosts_of("127.0.0.1", port))
+    server = waitress.create_server(app, sockets=[listener], threads=4, clear_untrusted_proxy_headers=True)
+    threading.Thread(target=server.run, daemon=True).start()
+    return "http://127.0.0.1:%d" % port
 
 
 @cache

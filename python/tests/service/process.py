@@ -12,7 +12,7 @@ from collections.abc import Iterable
 from pathlib import Path
 from typing import NamedTuple
 
-from desk_support import LINK, START, free_port
+from desk_support import LINK, START, ReservedPort
 from support import TOP
 
 COMMAND = "serve"  # the command of evp that serves
@@ -30,14 +30,13 @@ class Server:
 
     def __init__(self, ledger: Path, *words: object, before: Iterable[object] = ()):
         """Starts it; `before` are words in front of the command, as those of another program that starts it."""
-        self.ledger, self.port = ledger, free_port()
-        self._out = ledger.with_suffix(".out")
-        command = [*before, sys.executable, TOP / "evp", COMMAND, "--ledger", ledger.name, "--port", self.port, *words]
-        with open(self._out, "wb") as out:
+        self.ledger, self._out = ledger, ledger.with_suffix(".out")
+        with ReservedPort() as self.port, open(self._out, "wb") as out:
+            command = [*before, sys.executable, TOP / "evp", COMMAND, "--ledger", ledger.name, "--port", self.port]
             self.process = subprocess.Popen(
-                [str(word) for word in command], stdin=subprocess.DEVNULL, stdout=out, stderr=subprocess.STDOUT,
-                cwd=ledger.parent)
-        self._await()
+                [str(word) for word in (*command, *words)], stdin=subprocess.DEVNULL, stdout=out,
+                stderr=subprocess.STDOUT, cwd=ledger.parent)
+            self._await()
         self.links = [link for _, link in LINK.findall(self.printed)]
 
     @property
