@@ -15,7 +15,7 @@ from pathlib import Path
 from typing import NamedTuple
 from urllib.parse import urlencode
 
-from support import TOP
+from support import DEFAULT_SIGNALS, TOP
 
 HOST = "127.0.0.1"
 COMMAND = "serve"  # of evp, which serves
@@ -74,8 +74,8 @@ class Desk:
         with open(self.out, "wb") as out:
             command = [sys.executable, TOP / "evp", COMMAND, "--ledger", ledger.name, "--port", self.port]
             self.process = subprocess.Popen(
-                [str(word) for word in (*before, *command, *words)], stdin=subprocess.DEVNULL, stdout=out,
-                stderr=subprocess.STDOUT, cwd=ledger.parent)
+                [str(word) for word in (*DEFAULT_SIGNALS, *before, *command, *words)], stdin=subprocess.DEVNULL,
+                stdout=out, stderr=subprocess.STDOUT, cwd=ledger.parent)
         self._await()
         self.links = [link for _, link in LINK.findall(self.said)]
 

@@ -21,6 +21,9 @@ LIBRARY = library.load()
 library.load = lambda: LIBRARY
 
 SCREEN = 24  # lines
+# In front of a command to which a test sends signals: they do what they do by default, whatever the tests were started
+# with. nohup ignores SIGHUP, and a shell ignores SIGINT for what it starts in the background.
+DEFAULT_SIGNALS = ("env", "--default-signal=HUP,INT,TERM")
 
 LISTS = "durations 420 140 20" + " 0" * 20 + " 130\nhours" + " 10" * 24 + "\n"
 SEASONS = "season days=182 lowest=-2.0 highest=9.5 vp=90.0\nseason days=183 lowest=14.5 highest=29.0 vp=60.0\n"

@@ -15,7 +15,7 @@ from unittest import mock
 
 from desk_support import COMMAND, HAS_MODULES, HOST, NO_MODULES, Desk, ReservedPort
 from service_support import CHANGED, ServiceTestCase, Worker, asked, connected, head_of, is_closed, leave, status_of
-from support import LIBRARY, SAMPLES, TOP, DeskTestCase
+from support import DEFAULT_SIGNALS, LIBRARY, SAMPLES, TOP, DeskTestCase
 
 from evp.desk import command, ledger, store
 from evp.desk.ending import Ending
@@ -42,8 +42,13 @@ class EndingTest(ServiceTestCase):
         return desk.process.wait(20), desk.said.splitlines(keepends=True)[-1]
 
     def test_signals(self):
+        """Also where the tests were started with the signal ignored, as under nohup."""
         for number, status in ((signal.SIGTERM, 0), (signal.SIGINT, 130), (signal.SIGHUP, 0)):
-            desk = self.serve(new=not (self.folder / "course.db").exists())
+            before = signal.signal(number, signal.SIG_IGN)
+            try:
+                desk = self.serve(new=not (self.folder / "course.db").exists())
+            finally:
+                signal.signal(number, before)
             line = "evp: stopped by %s%s" % (signal.Signals(number).name, KEPT)
             self.assertEqual(self.ended(desk, number), (status, line))
 
@@ -87,7 +92,7 @@ class EndingTest(ServiceTestCase):
     def test_log_that_nobody_reads(self):
         """Standard output and error may be closed while it serves."""
         with ReservedPort() as port:
-            process = subprocess.Popen([sys.executable, TOP / "evp", COMMAND, "--port", str(port)],
+            process = subprocess.Popen([*DEFAULT_SIGNALS, sys.executable, TOP / "evp", COMMAND, "--port", str(port)],
                                        stdout=subprocess.PIPE, stderr=subprocess.PIPE, cwd=self.folder)
             self.addCleanup(process.wait)
             self.addCleanup(process.kill)

@@ -13,7 +13,7 @@ from pathlib import Path
 from typing import NamedTuple
 
 from desk_support import LINK, START, ReservedPort
-from support import TOP
+from support import DEFAULT_SIGNALS, TOP
 
 COMMAND = "serve"  # the command of evp that serves
 
@@ -34,7 +34,7 @@ class Server:
         with ReservedPort() as self.port, open(self._out, "wb") as out:
             command = [*before, sys.executable, TOP / "evp", COMMAND, "--ledger", ledger.name, "--port", self.port]
             self.process = subprocess.Popen(
-                [str(word) for word in (*command, *words)], stdin=subprocess.DEVNULL, stdout=out,
+                [str(word) for word in (*DEFAULT_SIGNALS, *command, *words)], stdin=subprocess.DEVNULL, stdout=out,
                 stderr=subprocess.STDOUT, cwd=ledger.parent)
             self._await()
         self.links = [link for _, link in LINK.findall(self.printed)]

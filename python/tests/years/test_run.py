@@ -12,7 +12,7 @@ import unittest
 from pathlib import Path
 from unittest import mock
 
-from support import TOP, DeskTestCase, library
+from support import DEFAULT_SIGNALS, TOP, DeskTestCase, library
 from years.making import many_sheets, read, sheet_of, without_workbook, years
 
 from evp.years import run, work
@@ -46,7 +46,8 @@ class RunTest(DeskTestCase):
     def start(self, *words: object) -> subprocess.Popen:
         """The command as a process of its own."""
         started = subprocess.Popen(
-            [sys.executable, TOP / "evp", "years", self.folder / "p", "-o", self.folder / "out", *map(str, words)],
+            [*DEFAULT_SIGNALS, sys.executable, TOP / "evp", "years", self.folder / "p", "-o", self.folder / "out",
+             *map(str, words)],
             stdout=subprocess.PIPE, stderr=subprocess.PIPE, text=True, start_new_session=True,
             env={**os.environ, "EVP_LIBRARY": str(library.find())})
         self.addCleanup(started.communicate)
