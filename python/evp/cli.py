@@ -10,7 +10,7 @@ import sys
 import textwrap
 from collections.abc import Callable
 
-from evp import commands
+from evp import commands, interrupts
 from evp.desk.ending import INTERRUPTED, drop
 from evp.files import InputError, failed
 from evp.library import MissingCall
@@ -204,6 +204,8 @@ def main(words: list[str] | None = None) -> int:
     """Runs a command; whatever goes wrong is said in words."""
     if words is None and hasattr(signal, "SIGPIPE"):  # a reader such as head may leave early; the server ignores it
         signal.signal(signal.SIGPIPE, signal.SIG_DFL)
+    if words is None:
+        interrupts.take_all()
     if sys.stderr is None:  # it is closed, and print would take standard output for it
         sys.stderr = open(os.devnull, "w", encoding="utf-8")
     if sys.stdout is None:

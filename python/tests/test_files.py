@@ -14,11 +14,43 @@ import unittest
 from pathlib import Path
 from unittest import mock
 
-from support import TEXT, TOP, DeskTestCase, run, run_without_rights, sample
+from support import DEFAULT_SIGNALS, TEXT, TOP, DeskTestCase, run, run_without_rights, sample
 
 from evp import library, sheet
 from evp.masses import shown
 
+# A program that is evp with another command in place of `evp species`.
+COMMAND = """
+import signal, sys, time
+sys.path.insert(0, sys.argv[1])
+from evp import cli, commands
+%s
+commands.species = command
+sys.argv[1:] = ["species", "a.evp"]
+sys.exit(cli.main())
+"""
+DESTROYED = COMMAND % """
+class Held:
+    def __del__(self):
+        signal.raise_signal(signal.SIGINT)
+
+def command(given):
+    Held()
+    while True:
+        time.sleep(1)
+"""
+UNFINISHED = COMMAND % """
+def held():
+    try:
+        yield
+    finally:
+        raise ValueError("this is not finished")
+
+def command(given):
+    unfinished = held()
+    next(unfinished)
+    signal.raise_signal(signal.SIGINT)
+"""
 READERS = (("check",), ("explain",), ("show",), ("write",), ("read",), ("convert", "--to", "4"), ("species",))
 
 
@@ -307,8 +339,7 @@ class StartTest(unittest.TestCase):
 
     def interrupted(self, command: list, pipe: Path) -> tuple[int, str]:
         """What a command says and ends with that gets Ctrl-C as soon as it reads a pipe."""
-        with subprocess.Popen(command, stderr=subprocess.PIPE, text=True,
-                              preexec_fn=lambda: signal.signal(signal.SIGINT, signal.SIG_DFL)) as process:
+        with subprocess.Popen([*DEFAULT_SIGNALS, *command], stderr=subprocess.PIPE, text=True) as process:
             with open(pipe, "wb"):  # waits until it reads
                 process.send_signal(signal.SIGINT)
                 return process.wait(20), process.stderr.read()
@@ -334,6 +365,14 @@ class StartTest(unittest.TestCase):
             (Path(folder) / "python" / "evp").mkdir(parents=True)
             (Path(folder) / "python" / "evp" / "cli.py").write_text("open(%r).read()\n" % str(pipe))
             self.assertEqual(self.interrupted([copy], pipe), (130, "evp: stopped\n"))
+
+    def test_interrupt_in_a_destructor(self):
+        """There Python goes on after KeyboardInterrupt. The command ends as everywhere else, and so do exceptions that
+        come of Ctrl-C where nobody can catch them: nothing of them is printed."""
+        for source in (DESTROYED, UNFINISHED):
+            found = subprocess.run([*DEFAULT_SIGNALS, sys.executable, "-c", source, TOP / "python"],
+                                   capture_output=True, text=True, timeout=60)
+            self.assertEqual((found.returncode, found.stdout, found.stderr), (130, "", "evp: stopped\n"))
 
     def test_a_terminal_without_signs(self):
         changed = {**os.environ, "PYTHONIOENCODING": "ascii"}
