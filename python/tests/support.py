@@ -6,6 +6,7 @@ import subprocess
 import sys
 import tempfile
 import unittest
+from collections.abc import Callable
 from pathlib import Path
 from typing import NamedTuple
 
@@ -21,6 +22,7 @@ LIBRARY = library.load()
 library.load = lambda: LIBRARY
 
 SCREEN = 24  # lines
+TRIES = 10  # of a measurement
 # In front of a command to which a test sends signals: they do what they do by default, whatever the tests were started
 # with. nohup ignores SIGHUP, and a shell ignores SIGINT for what it starts in the background.
 DEFAULT_SIGNALS = ("env", "--default-signal=HUP,INT,TERM")
@@ -103,6 +105,17 @@ def sample(name: str) -> bytes:
 
 def samples() -> list[Path]:
     return sorted(SAMPLES.glob("*.evp"))
+
+
+def least(measured: Callable[[], float], limit: float) -> float:
+    """The least of several measurements of time, as many as it takes to have one below a limit: other programs make a
+    machine slower, by a factor of two and more, and none makes it faster."""
+    found = measured()
+    for _ in range(TRIES - 1):
+        if found < limit:
+            break
+        found = min(found, measured())
+    return found
 
 
 class DeskTestCase(unittest.TestCase):

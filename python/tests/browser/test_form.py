@@ -3,6 +3,7 @@ from every result."""
 
 import os
 import time
+from operator import truediv
 
 from driving import SAMPLES, ActionChains, BrowserTestCase, Keys
 
@@ -169,13 +170,24 @@ class TestWorkbench(FormTestCase):
         self.assertLessEqual(*self.run_script(
             "var cell = document.getElementById('grid-3-4'); return [cell.scrollWidth, cell.clientWidth];"))
 
+    def loop(self) -> float:
+        """How many seconds a loop takes in the browser: how fast the machine is at this moment."""
+        return self.run_script("""
+            var start = performance.now(), sum = 0;
+            for (var i = 0; i < 5000000; i++) sum = (sum + i * i) % 1000003;
+            return performance.now() - start + 0 * sum;""") / 1_000
+
     def test_a_thousand_rows_answer_a_change(self):
+        """In time on a quiet machine. Where others keep it busy, or where a loop just before an answer took longer than
+        its quickest time, the answer may take so many times longer."""
         self.paste_country()
         self.paste("row-0-class", fleet(1_000))
         self.wait(lambda: self.rows() == 1_000 and self.state() == "accepted" and "25,176 bytes" in self.text("#told"),
                   "1,000 rows")
-        times = []
+        self.loop()  # is compiled
+        times, loops = [], []
         for i in range(TRIES):
+            loops.append(self.loop())
             self.browser.set_script_timeout(60)
             times.append(self.browser.execute_async_script("""
                 var done = arguments[1], field = document.getElementById("row-500-vehicles"), start = performance.now();
@@ -187,9 +199,11 @@ class TestWorkbench(FormTestCase):
             if times[-1] < ANSWER and i > 1 or sum(times) > 15:
                 break
             time.sleep(0.6)  # the doubts are asked for meanwhile
-        print("a form of 1,000 rows answers in %s s" % ", ".join("%.2f" % seconds for seconds in times))
-        busy = max(1, os.getloadavg()[0] / (os.cpu_count() or 1))  # programs for each processor
-        self.assertLess(min(times), ANSWER * busy)
+        busy = os.getloadavg()[0] / (os.cpu_count() or 1)  # programs for each processor
+        slower = [max(busy, seconds / min(loops)) for seconds in loops]
+        print("a form of 1,000 rows answers in %s s, where the machine is %s times slower than a quiet one" % tuple(
+            ", ".join("%.2f" % each for each in found) for found in (times, slower)))
+        self.assertLess(min(map(truediv, times, slower)), ANSWER)
 
 
 class TestBack(BrowserTestCase):

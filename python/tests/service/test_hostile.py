@@ -5,9 +5,11 @@ import io
 import socket
 import time
 import unittest
+from functools import partial
 
 from desk_support import HAS_MODULES, HOST, NO_MODULES, Desk
 from service_support import ServiceTestCase, connected, exchange, head_of, is_closed, leave, posted, status_of
+from support import least
 
 HEAD = b"POST /class HTTP/1.1\r\nHost: 127.0.0.1:8765\r\n"
 SECONDS = 0.25  # of a processor that a head or a form may take; those below took 0.01 to 117 s before
@@ -40,31 +42,39 @@ PARTS = {  # headers of a part, of 4,000 bytes
 class TimeTest(unittest.TestCase):
     """The time that a head or a form takes by itself; nobody is served while a head is read."""
 
-    def test_heads(self):
+    def of_head(self, head: bytes, status: int) -> float:
         from waitress.adjustments import Adjustments
 
         from evp.desk.channel import Parser
-        adjustments = Adjustments(max_request_header_size=32_768, clear_untrusted_proxy_headers=True)
-        for name, (head, status) in HEADS.items():
-            parser, began = Parser(adjustments), time.process_time()
-            parser.received(head)
-            taken = time.process_time() - began
-            self.assertTrue(parser.completed, name)
-            self.assertEqual(parser.error.code, status, name)
-            self.assertLess(taken, SECONDS, name)
+        parser = Parser(Adjustments(max_request_header_size=32_768, clear_untrusted_proxy_headers=True))
+        began = time.process_time()
+        parser.received(head)
+        taken = time.process_time() - began
+        self.assertTrue(parser.completed)
+        self.assertEqual(parser.error.code, status)
+        return taken
 
-    def test_parts(self):
+    def test_heads(self):
+        for name, (head, status) in HEADS.items():
+            with self.subTest(name):
+                self.assertLess(least(partial(self.of_head, head, status), SECONDS), SECONDS)
+
+    def of_form(self, body: bytes) -> float:
         from flask import Flask
         from werkzeug.exceptions import BadRequest
 
         from evp.desk.form_data import FormParser
+        with Flask("a").test_request_context(environ_base={"REMOTE_ADDR": HOST}):
+            began = time.process_time()
+            with self.assertRaises(BadRequest):
+                FormParser().parse(io.BytesIO(body), "multipart/form-data", len(body), {"boundary": "B"})
+            return time.process_time() - began
+
+    def test_parts(self):
         for name, disposition in PARTS.items():
             body = b"--B\r\nContent-Disposition: %s\r\n\r\nx\r\n" % disposition * 900 + b"--B--\r\n"
-            with Flask("a").test_request_context(environ_base={"REMOTE_ADDR": HOST}):
-                began = time.process_time()
-                with self.assertRaises(BadRequest, msg=name):
-                    FormParser().parse(io.BytesIO(body), "multipart/form-data", len(body), {"boundary": "B"})
-            self.assertLess(time.process_time() - began, SECONDS, name)
+            with self.subTest(name):
+                self.assertLess(least(partial(self.of_form, body), SECONDS), SECONDS)
 
     def test_parts_of_browsers(self):
         """What Firefox, Chromium and curl send is read."""
