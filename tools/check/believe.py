@@ -67,10 +67,10 @@ UNMARKED: set[str] = set()
 MISMARKED: set[str] = set()
 
 # Definitions that neither a contract nor a statement needs. Laws in proofs/ that a page cites are stated with the first
-# four; the next two make `Taken` and open it, and only the proofs of two functions may.
+# three; the next two make `Taken` and `Unread`, and only the proofs of two functions may.
 PROOFS_ALONE = {
-    "map_cells: Sums add_to", "species_report: Names all_names", "text: Decimal value_behind", "text: Decimal Numeral",
-    "program: Reads taken", "program: Reads missed", "program: Reads counted",
+    "map_cells: Sums add_to", "text: Decimal value_behind", "text: Decimal Numeral",
+    "program: Reads taken", "program: Reads missed",
     "program: Writes wrote", "program: Writes stopped",
 }
 

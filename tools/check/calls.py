@@ -20,7 +20,7 @@ from tools.command import TOP, crate_files
 # Crates whose src/lib.rt has the public calls, in Rattle.
 CALLS = (
     "inventory", "checks", "ledger_calls", "shared_ledger_calls", "pooling_calls", "marking", "explanation",
-    "map_cells", "map_rows", "speciation", "species_report", "report_text", "boundary_calls", "evaporation",
+    "map_cells", "map_rows", "speciation", "species_report", "report_text", "evaporation",
 )
 BESIDE = ("map_cells/src/sums.rt",)  # public calls in another file of such a crate
 EXPORTS = ("evaporation", "evaporation_c")  # the crates whose functions C calls, in any of their files
@@ -38,8 +38,9 @@ LAW = re.compile(r"(?:(?<![\w'.-])|\b[A-Z]\w*\.)(%s)(?![\w'-])" % "|".join(LAWS)
 LABEL = re.compile(r"\b((?:requires|ensures)\*?) \w+ \{")  # a clause with its name
 USE = re.compile(r"\buse Rattle\.program((?:\.\w+)*)(\.\{)?")
 WHOLE = (".specs.Reads", ".specs.Writes")
-OUT = re.compile(r"\bprogram::(?:one_sheet::print_sheet|write_out)\(")
-ERROR = re.compile(r"\bprogram::write_error\(")
+OUT = re.compile(r"\bprogram::(?:one_sheet::print_sheet|write_answer)\(")
+ERROR = re.compile(r"\bprogram::write_text::<STANDARD_ERROR, E>\(")
+WRITES = re.compile(r"\b(?:print_sheet|write_answer|write_text)\b")  # whatever of crates/program writes an answer
 # What reads or writes by itself; a program's code has the trait Write for its bounds, and reads by Sources.
 TRAITS = re.compile(r"^use std::io::Write;$", re.M)
 OWN = re.compile(r"\b(?:io|fs|env|libc|os)::|\b(?:e?print(?:ln)?|write(?:ln)?)!|"
@@ -48,14 +49,19 @@ MACRO = re.compile(r"\b(?:write(?:ln)?)!\(\s*(\w+)")
 PRINTING = re.compile(r"\be?print(?:ln)?!|\bstdout\(|\bstderr\(")
 MAIN = """
 #![tactic(auto)]
+use program::Streams;
 use program::sources::%(sheets)s;
 use std::process::ExitCode;
 fn main(rt: HostRuntime) -> ExitCode {
     let sheets = %(sheets)s::new(&rt, "%(name)s");
-    ExitCode::from(%(name)s_run::%(start)s(&sheets, &mut rt.stdout(), &mut rt.stderr()))
+    let mut streams = Streams {
+        out: rt.stdout(),
+        err: rt.stderr(),
+    };
+    ExitCode::from(%(name)s_run::%(start)s(&sheets, &mut streams))
 }
 """
-FUNCTION = re.compile(r"^(?P<head>(?:pub )?(?:extern \"C\" )?)fn (?P<name>\w+)(?P<rest>.*?)(?:^\{| \{$)", re.M | re.S)
+FUNCTION = re.compile(r"^ *(?P<head>(?:pub )?(?:extern \"C\" )?)fn (?P<name>\w+)(?P<rest>.*?)(?:^ *| )\{$", re.M | re.S)
 IMPL = re.compile(r"^impl\b[^{]*", re.M)
 LOOP = re.compile(r"\b(?:while|for|loop)\b")
 
@@ -138,6 +144,8 @@ def program_faults(name: str, text: str) -> Iterator[str]:
         count = len(write.findall(code))
         if count > most or (write is OUT and not count):
             yield "%s: an answer is written to %s in %d places; one is wanted" % (name, stream, count)
+    if len(WRITES.findall(code)) != len(OUT.findall(code)) + len(ERROR.findall(code)):
+        yield "%s: a function of crates/program that writes is named otherwise than in a call of it" % name
     if OWN.search(TRAITS.sub("", code)):
         yield "%s: it reads or writes by itself; crates/program does that" % name
     if LOOP.search(IMPL.sub("", code)):
@@ -156,23 +164,19 @@ def main_faults(name: str, text: str) -> Iterator[str]:
 
 
 def shared_faults(text: str) -> Iterator[str]:
-    """Whether crates/program writes an answer elsewhere than in the two functions for that; what it says besides goes
+    """Whether crates/program writes an answer elsewhere than in the one function for that; what it says besides goes
     to standard error."""
     code = plain(text, "//")
     found = bodies(code)
-    for function, call in (("write_out", "write_all(out, text)"), ("write_error", "write_all(err, text)")):
-        if found[function].split("}")[0].strip() != call:
-            yield "program: `%s` writes something else than its text" % function
-    if calls_of("write_all", code) != 2:
-        yield "program: `write_all` is called elsewhere than in `write_out` and `write_error`"
     for method in ("write", "flush"):
         count = len(re.findall(r"\.%s\(" % method, code))
-        if count != 1 or ".%s(" % method not in found["write_all"]:
-            yield "program: `%s` is called elsewhere than once in `write_all`" % method
+        if count != 1 or ".%s(" % method not in found["write_text"]:
+            yield "program: `%s` is called elsewhere than once in `write_text`" % method
     if set(MACRO.findall(code)) - {"err"} or PRINTING.search(code):
         yield "program: something is printed elsewhere than on standard error"
-    if calls_of("write_out", code) != 1 or calls_of("write_out", found["write_answer"]) != 1:
-        yield "program: `write_out` is called elsewhere than once in `write_answer`"
+    output = "write_text::<STANDARD_OUTPUT, W>(&mut streams.out, text)"
+    if len(re.findall(r"\bwrite_text\b", code)) != 2 or found["write_answer"].count(output) != 1:
+        yield "program: `write_text` is called elsewhere than once in `write_answer`, for standard output"
     for function, caller in (("write_answer", "answer"), ("answer", "print_sheet")):
         if calls_of(function, code) != 1 or calls_of(function, found[caller]) != 1 or LOOP.search(found[caller]):
             yield "program: `%s` is called elsewhere than once in `%s`, which has no loop" % (function, caller)

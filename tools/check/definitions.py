@@ -47,7 +47,7 @@ ARM = re.compile(r"[\[|]([^\[\]|↦]*)↦")
 GIVEN = re.compile(r"(?<=[{;])(\s*)(\S+)(?= = )")  # the name of a field in `record { name = value; .. }`
 LET = re.compile(r"\b(let )(\S+)(?= =)")
 DECLARATION = re.compile(r"^(?:pub )?(?:struct|enum) (\w+)\s*(?:\{(.*?)^\}|\(([^;]*)\);)", re.M | re.S)
-FUNCTION = re.compile(r"^(?:pub )?(?:extern \"C\" )?fn (\w+)(.*?)(?:^| )\{$", re.M | re.S)
+FUNCTION = re.compile(r"^ *(?:pub(?:\(crate\))? )?(?:extern \"C\" )?fn (\w+)(.*?)(?:^ *| )\{$", re.M | re.S)
 CLAUSE = re.compile(r"\b(requires|ensures)\*?(?: \w+)? \{")
 
 

@@ -5,6 +5,8 @@ for the exact c = k/step. It is cut from a number that is below E(c) for every
 truncation of the series from its N on, so that it is a lower bound for all of
 them; and it is at most one unit too low.
 
+The two tables of the short exponential are made of these.
+
 The two tables of E at whole c, up to 14: 2^30 E(c) from below and from above,
 for every truncation from 40 on. The table of Θ is in theta.py.
 """
@@ -16,7 +18,7 @@ from fractions import Fraction
 
 from tools.command import TOP, MadeFile
 from tools.make.error import MakeError
-from tools.make.theta import LEVELS, THETAS
+from tools.make.theta import LEVELS, ROWS
 
 UNIT = 2 ** 40
 FAR_UNIT = 2 ** 30
@@ -52,6 +54,18 @@ def entry(c: Fraction, n: int) -> int:
 # below 0 the series stands in a denominator, and 40 terms are needed for one unit
 COARSE = [entry(Fraction(h - 256, 16), 40 if h < 256 else 30) for h in range(322)]
 MIDDLE = [entry(Fraction(m, 4096), 8) for m in range(256)]
+
+
+def fine(d: int) -> int:
+    """2^40 E(d/10^14), cut as the program cuts it, for d below 10^14/16: an entry of MIDDLE times a quadratic."""
+    m, r = divmod(d, 10 ** 14 // 4096)
+    rest = r * 2 ** 26 // 5 ** 14
+    return MIDDLE[m] * (UNIT + rest + rest * rest // (2 * UNIT)) // UNIT
+
+
+# the tables of the short exponential, in fewer bits
+HIGH = [h // 2 ** 13 for h in COARSE[:305]]
+FINEST = [fine(j * 5 ** 14) // 2 ** 10 for j in range(1024)]
 FAR = [int(FAR_UNIT * bounds(Fraction(c), 40)[0] // 1) for c in range(15)]
 FAR_ABOVE = [int(-(-FAR_UNIT * bounds(Fraction(c), 40)[1] // 1)) for c in range(15)]
 
@@ -61,7 +75,7 @@ def source(entries: list[int]) -> str:
     words = ["%d," % entry for entry in entries]
     if any(len(word) > 11 for word in words):
         return "".join("    %s\n" % word for word in words)
-    return textwrap.fill(" ".join(words), 100, initial_indent="    ", subsequent_indent="    ") + "\n"
+    return textwrap.fill(" ".join(words), 99, initial_indent="    ", subsequent_indent="    ") + "\n"
 
 
 def listed(entries: list[int], width: int = 8) -> str:
@@ -70,16 +84,30 @@ def listed(entries: list[int], width: int = 8) -> str:
     return "\n".join("    " + " ∷ ".join(map(str, row)) + " ∷" for row in rows) + " "
 
 
+def rows_source(rows: list[list[int]]) -> str:
+    """An array of arrays, a row to a line."""
+    return "".join("    [%s],\n" % ", ".join(map(str, row)) for row in rows)
+
+
+def rows_listed(rows: list[list[int]]) -> str:
+    """As a list of lists of antt up to its end, three to a line."""
+    words = ["(%s ∷ []) ∷" % " ∷ ".join(map(str, row)) for row in rows]
+    return "\n".join("    " + " ".join(words[i:i + 3]) for i in range(0, len(words), 3)) + " "
+
+
 # the file, what stands before the entries, the entries, and what stands after them
 PLACES = [
-    ("crates/bounds/src/exp.rt", r"const TABLES: \[u64; 578\] = \[\n", source(COARSE + MIDDLE), r"\];"),
+    ("crates/bounds/src/exp.rt", r"static COARSE: \[u64; 322\] = \[\n", source(COARSE), r"\];"),
+    ("crates/bounds/src/exp.rt", r"static MIDDLE: \[u64; 256\] = \[\n", source(MIDDLE), r"\];"),
+    ("crates/bounds/src/short.rt", r"static HIGH: \[u64; 305\] = \[\n", source(HIGH), r"\];"),
+    ("crates/bounds/src/short.rt", r"static FINEST: \[u64; 1024\] = \[\n", source(FINEST), r"\];"),
     ("crates/bounds/specs/Exponential.antt", r"\ncoarse =\n", listed(COARSE), r"\[\]\n"),
     ("crates/bounds/specs/Exponential.antt", r"\nmiddle =\n", listed(MIDDLE), r"\[\]\n"),
-    ("crates/bounds/src/whole.rt", r"const FAR: \[u64; 15\] = \[\n", source(FAR), r"\];"),
+    ("crates/bounds/src/whole.rt", r"static FAR: \[u64; 15\] = \[\n", source(FAR), r"\];"),
     ("crates/bounds/specs/WholeExponents.antt", r"\nfar =\n", listed(FAR), r"\[\]\n"),
     ("crates/bounds/specs/WholeExponents.antt", r"\nfar_above =\n", listed(FAR_ABOVE), r"\[\]\n"),
-    ("crates/bounds/src/theta.rt", r"const THETAS: \[u64; THETA_WORDS\] = \[\n", source(THETAS), r"\];"),
-    ("crates/bounds/specs/Theta.antt", r"\nthetas =\n", listed(THETAS, 9), r"\[\]\n"),
+    ("crates/bounds/src/theta.rt", r"static THETAS: \[\[u64; 3\]; 513\] = \[\n", rows_source(ROWS), r"\];"),
+    ("crates/bounds/specs/Theta.antt", r"\nthetas =\n", rows_listed(ROWS), r"\[\]\n(?=\n)"),
     ("crates/bounds/proofs/ThetaTable.antt", r"\nlevels =\n", listed(LEVELS, 6), r"\[\]\n"),
 ]
 

@@ -46,5 +46,4 @@ def level(k: int, value: int) -> int:
 
 
 ROWS = [coefficients(k) for k in range(CELLS)]
-THETAS = [entry for row in ROWS for entry in row]
 LEVELS = [level(k, row[0]) for k, row in enumerate(ROWS)]

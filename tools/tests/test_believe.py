@@ -226,10 +226,10 @@ class Page(unittest.TestCase):
 
     def test_a_requires_that_a_function_does_not_have_is_found(self):
         self.assertEqual(list(believe.requires_faults(self.text)), [])
-        head = "## 5. What need not be believed\n\n| sheet_factors: Lent | `SheetLent` `SeasonLent` | %s |\n"
-        self.assertEqual(list(believe.requires_faults(head % "a `requires` of `units_with`, met in `factors_at`")), [])
-        self.assertEqual(list(believe.requires_faults(head % "`SeasonLent`: in the `requires` of `units_with`")),
-                         ["units_with does not require SeasonLent"])
+        head = "## 5. What need not be believed\n\n| row_factors: Season | `RowReady` `SeasonReady` | %s |\n"
+        self.assertEqual(list(believe.requires_faults(head % "a `requires` of `units`, met in `row_figures`")), [])
+        self.assertEqual(list(believe.requires_faults(head % "`SeasonReady`: in the `requires` of `units`")),
+                         ["units does not require SeasonReady"])
 
     def test_a_wrong_limit_is_found(self):
         found = list(believe.limit_faults(self.text.replace("| `trips_limit` | 1,200 |", "| `trips_limit` | 2,000 |")))
@@ -293,7 +293,7 @@ class Files(unittest.TestCase):
     def test_a_definition_for_proofs_alone_is_found(self):
         alone = set(believe.proofs_alone())
         self.assertIn("text: Decimal Numeral", alone)
-        self.assertNotIn("parking: Grid GridReady", alone)
+        self.assertNotIn("parking: Grid CellsInRange", alone)
 
 
 if __name__ == "__main__":

@@ -5,7 +5,7 @@ import unittest
 from tools.check import calls
 from tools.command import TOP
 
-IMPORT = "ghost use Rattle.program.specs.Reads.{Taken, counted};\n"
+IMPORT = "ghost use Rattle.program.specs.Reads.{Taken, taken-once};\n"
 ASKED = """pub fn arrive(
     words: &mut [u64],
 ) -> Check
@@ -28,14 +28,15 @@ class Taken(unittest.TestCase):
     def test_a_program_has_it_from_a_function_that_reads(self):
         self.assertEqual(self.told("crates/report_run/src/lib.rt", IMPORT + "// taken from a file\n"), 0)
         self.assertEqual(self.told("crates/pool_run/proofs/answer/Proof.antt",
-                                   "use Rattle.program.specs.Reads.{counted}\nx = taken-more\n"), 0)
+                                   "use Rattle.program.specs.Reads.{taken-once}\nx = taken-more\n"), 0)
         self.assertEqual(self.told("crates/pool_run/src/lib.rt",
-                                   IMPORT + "    requires taken { Taken 1 n s.now }\n"), 0)
+                                   IMPORT + "    requires taken { Taken 1 s.now }\n"), 0)
         self.assertEqual(self.told("crates/pool_run/proofs/a/Answers.antt",
-                                   "use Rattle.program.specs.Reads.{counted}\nx c = c.loop-test.taken\n"), 0)
+                                   "use Rattle.program.specs.Reads.{taken-once}\nx c = c.loop-test.taken\n"), 0)
 
     def test_a_proof_of_another_crate_may_not_name_it(self):
-        for line in ("use Rattle.program.specs.Reads.{counted, taken}", "use Rattle.program.specs.Reads.{taken as t}",
+        for line in ("use Rattle.program.specs.Reads.{taken-once, taken}",
+                     "use Rattle.program.specs.Reads.{taken as t}",
                      "use Rattle.program.specs.{Reads}\nx = Reads.taken 1", "use Rattle.program as p",
                      "use Rattle.program.specs.Reads as R", "pub use Rattle.program.specs.Reads",
                      "use Rattle.program.specs.Reads.{missed}", "use Rattle.program.specs.Writes.{wrote}",
@@ -51,6 +52,11 @@ class Taken(unittest.TestCase):
 class Requires(unittest.TestCase):
     def test_a_public_function_is_found(self):
         self.assertEqual(calls.demanding(ASKED, exported=False), ["arrive"])
+
+    def test_a_public_method_is_found(self):
+        method = "impl A {\n" + "".join("    %s\n" % line for line in ASKED.splitlines()) + "}\n"
+        self.assertEqual(calls.demanding(method, exported=False), ["arrive"])
+        self.assertEqual(calls.demanding(method.replace("pub fn", "fn"), exported=False), [])
 
     def test_a_private_one_may_require(self):
         self.assertEqual(calls.demanding(ASKED.replace("pub fn", "fn"), exported=False), [])
@@ -90,61 +96,68 @@ class Programs(unittest.TestCase):
         self.assertEqual(list(calls.shared_faults(calls.shared())), [])
 
     def test_which_functions_write(self):
-        for name, write in (("report", set()), ("species", set()), ("pool", {"write_pool", "answer"})):
+        for name, write in (("report", set()), ("species", set()), ("pool", {"answer"})):
             self.assertEqual(calls.writing(calls.bodies(program(name))), write | {calls.START})
 
     def test_an_answer_more_or_less(self):
-        line = "    program::one_sheet::print_sheet(&Report, sheets, &mut text, out, err)\n"
-        for wrong in (line.replace(")\n", ");\n") + line, "    NEITHER\n",
-                      "    while %s == 2 {}\n    0\n" % line.strip(),
-                      "    let _ = out.write(&bytes[..n]);\n" + line, "    let _ = write!(out, \"x\");\n" + line,
-                      "    let _ = out.flush();\n" + line, "    println!(rt; \"x\");\n" + line,
-                      "    std::io::copy(out);\n" + line, "    program::write_out(out, &bytes);\n" + line):
+        line = "    program::one_sheet::print_sheet(&Report, sheets, &mut text, streams)\n"
+        for wrong in (line.replace(")\n", ");\n") + line, "    Status::Neither\n",
+                      "    while %s == Status::Neither {}\n    Status::Neither\n" % line.strip(),
+                      "    let _ = streams.out.write(&bytes);\n" + line,
+                      "    let _ = write!(streams.out, \"x\");\n" + line,
+                      "    let _ = streams.out.flush();\n" + line, "    println!(rt; \"x\");\n" + line,
+                      "    std::io::copy(&mut streams.out);\n" + line,
+                      "    program::write_answer(\"report\", Status::Accepted, b\"x\", streams);\n" + line,
+                      "    program::write_text::<STANDARD_OUTPUT, W>(&mut streams.out, b\"x\");\n" + line,
+                      "    use program::write_text;\n    write_text::<1, W>(&mut streams.out, b\"x\");\n" + line):
             text = program("report")
             self.assertEqual(text.count(line), 1)
             self.assertNotEqual(self.faults("report", text.replace(line, wrong)), [], wrong)
 
     def test_a_second_refusal(self):
-        line = "    if program::write_error(err, text) {\n"
+        line = "    if program::write_text::<STANDARD_ERROR, E>(err, put_line(&mut line, refusal)) {\n"
         text = program("pool")
         self.assertEqual(text.count(line), 1)
-        self.assertNotEqual(
-            self.faults("pool", text.replace(line, "    program::write_error(err, text);\n" + line)), [])
+        for wrong in ("    program::write_text::<STANDARD_ERROR, E>(err, b\"x\");\n",
+                      "    program::write_text::<2, E>(err, b\"x\");\n"):
+            self.assertNotEqual(self.faults("pool", text.replace(line, wrong + line)), [], wrong)
 
     def test_a_function_that_calls_itself(self):
-        line = "            write_pool(first, n, second, m, &bytes[..end], out, err)"
+        line = "            program::write_answer(\"pool\", Status::Accepted, &pooled[..end], streams)"
         text = program("pool")
         self.assertEqual(text.count(line), 1)
         self.assertNotEqual(
-            self.faults("pool", text.replace(line, "    answer(first, n, second, m, out, err);\n" + line)), [])
+            self.faults("pool", text.replace(line, "    answer(first, second, streams);\n" + line)), [])
 
     def test_a_main_is_one_call(self):
         text = (TOP / "crates" / "report" / "src" / "main.rt").read_text(encoding="utf-8")
         line = "    let sheets = "
         for old, new in (("report_run::", "species_run::"), ("OneSheet", "TwoSheets"),
-                         ("&mut rt.stdout()", "&mut rt.stderr()"),
-                         (line, "    report_run::evp_run(&sheets, &mut rt.stdout(), &mut rt.stderr());\n" + line),
+                         ("out: rt.stdout()", "out: rt.stderr()"),
+                         ("    ExitCode::from", "    report_run::evp_run(&sheets, &mut streams);\n    ExitCode::from"),
+                         (line, "    let _ = rt.stdout();\n" + line),
                          ("ExitCode::from(report", "let _ = ExitCode::from(report"), ('"report"', '"species"')):
             with self.subTest(new=new):
                 self.assertIn(old, text)
                 self.assertNotEqual(list(calls.main_faults("report", text.replace(old, new))), [])
 
-    def test_what_the_programs_share_writes_in_two_functions(self):
+    def test_what_the_programs_share_writes_in_one_function(self):
         text = calls.shared()
-        for old, wrong in (("    write_all(out, text)\n", "    write_all(out, &text[1..])\n"),
-                           ("    write_all(err, text)\n", "    true\n"),
-                           ("    write_all(err, text)\n", "    write_all(err, text) & write_all(err, text)\n"),
-                           ('            err,\n            "usage:', ' out,\n            "usage:'),
-                           ("    let _ = write!(err, ", "    let _ = err.write(x);\n    let _ = write!(err, "),
+        write = "    if write_text::<STANDARD_OUTPUT, W>(&mut streams.out, text) {"
+        for old, wrong in ((write, write.replace("text) {", "&text[1..]) {")), (write, "    if true {"),
+                           (write, write.replace(" {", " & write_text::<1, W>(&mut streams.out, text) {")),
+                           (write, write.replace("if ", "").replace(" {", ";\n") + write),
+                           (write, write.replace("OUTPUT", "ERROR")),
+                           ('    let _ = write!(err, "{why}");', '    let _ = write!(out, "{why}");'),
+                           ('    let _ = write!(err, "{why}");', '    let _ = err.write(why);'),
                            ("    out.flush().is_ok()\n", "    out.flush().is_ok() & out.flush().is_ok()\n"),
-                           ("    let _ = write!(err, ", "    println!(rt; \"x\");\n    let _ = write!(err, "),
-                           ("    if write_out(out, text) {",
-                            "    write_out(out, text);\n    if write_out(out, text) {"),
-                           ("    answer(made, &bytes, n, text, out, err)\n",
-                            "    answer(made, &bytes, n, text, out, err);\n"
-                            "    answer(made, &bytes, n, text, out, err)\n"),
-                           ("    write_answer(T::NAME, sheet, &text[..end], out, err)\n",
-                            "    for _ in 0..2 {}\n    write_answer(T::NAME, sheet, &text[..end], out, err)\n")):
+                           ('    let _ = write!(err, "{why}");', '    println!(rt; "x");'),
+                           ("        Ok(input) => answer(made, &input, text, streams),\n",
+                            "        Ok(input) => {\n            answer(made, &input, text, streams);\n"
+                            "            answer(made, &input, text, streams)\n        }\n"),
+                           ("    write_answer(T::NAME, status_of(sheet), &text[..end], streams)\n",
+                            "    for _ in 0..2 {}\n"
+                            "    write_answer(T::NAME, status_of(sheet), &text[..end], streams)\n")):
             self.assertEqual(text.count(old), 1, old)
             self.assertNotEqual(list(calls.shared_faults(text.replace(old, wrong))), [], wrong)
 

@@ -1,29 +1,26 @@
-// What a program in Rust or C can call: the exponential over many exponents at once, with the tables made once.
+// What a program in Rust or C can call: the exponential over many exponents at once.
 #![tactic(auto)]
 
 ghost use Rattle.std.specs.Prelude.{◌≡◌};
-ghost use Rattle.bounds.specs.Exponential.{entries};
 ghost use Rattle.bench_exponentials.specs.Total.{served, total};
 
-use bounds::exp::{ExpTables, exponential, tables};
+use bounds::exp::exponential;
 
 // The first exponent that is not served
 const LIMIT: u64 = 2010000000000000;
 
-fn served(tables: &ExpTables, x: u64) -> u64
-    requires { tables.now ≡ entries }
+fn served(x: u64) -> u64
     ensures { result ≡ served x }
 {
-    if x < LIMIT { exponential(tables, x) } else { 0 }
+    if x < LIMIT { exponential(x) } else { 0 }
 }
 
-fn total(tables: &ExpTables, xs: &[u64]) -> u64
-    requires { tables.now ≡ entries }
+fn total(xs: &[u64]) -> u64
     ensures { result ≡ total xs.now }
 {
     let mut sum: u64 = 0;
     for &x in xs {
-        sum = sum.wrapping_add(served(tables, x));
+        sum = sum.wrapping_add(served(x));
     }
     sum
 }
@@ -33,6 +30,5 @@ fn total(tables: &ExpTables, xs: &[u64]) -> u64
 pub extern "C" fn exponentials_sum(xs: &[u64]) -> u64
     ensures { result ≡ total xs.now }
 {
-    let tables = tables();
-    total(&tables, xs)
+    total(xs)
 }

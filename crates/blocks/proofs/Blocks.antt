@@ -7,13 +7,10 @@ use native.Mathlib.Nat.{eq-or-lt_of_le, mul-le-mul_left}
 use native.Mathlib.Numerals.{add-one}
 use native.Mathlib.Omega.{arith}
 use lib.ListN.{length, get_or, take, drop, length-append, length-drop, get_or-append}
-use lib.Seq.{sets, sets-eq, take_at, drop_at, drop-drop, get_or-append-add}
+use lib.Seq.{sets, sets-eq, take_at, drop_at, drop-drop}
 use borrow.Rule.Slice.PartMut.{put_mid}
+use Rattle.numbers.proofs.Lists.{past}
 use Rattle.blocks.specs.Blocks.{blocks}
-
--- past the first list
-past : (xs ys : List ℕ) (n k : ℕ) → length xs ≡ n → get_or (xs ++ ys) (n + k) 0 ≡ get_or ys k 0
-past xs ys n k e = rw (← e) (get_or-append-add xs ys k 0)
 
 module _ (f : ℕ → List ℕ) (w : ℕ) (size : (i : ℕ) → length (f i) ≡ w) where
   -- n blocks of w words each
@@ -29,7 +26,7 @@ module _ (f : ℕ → List ℕ) (w : ℕ) (size : (i : ℕ) → length (f i) ≡
   blocks_at (suc n) i m h l =
       let within : i ≤ n = omega arith in
       ⊎_elim
-      (λ e. rw e (past (blocks f n) (f n) (w * n) m (blocks-length n)))
+      (λ e. rw e (past (blocks f n) (f n) (w * n) m (w * n + m) (blocks-length n) refl))
       (λ g.
       let inside : w * i + m < length (blocks f n) = omega (arith, blocks-length n, mul-le-mul_left w g) in
       get_or-append (blocks f n) (f n) 0 (w * i + m) inside ∙ blocks_at n i m g l)

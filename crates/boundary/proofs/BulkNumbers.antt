@@ -1,43 +1,107 @@
 -- What holds of the answers in bulk holds of the numbers that leave the library.
 use Rattle.std.proofs.Common.{Ok, Err}
-use mathlib.Core.List.{List}
+use mathlib.Core.List.{List, [], ◌∷◌}
 use mathlib.Core.Path.{◌≡◌, refl, sym, ◌∙◌, ap}
-use Prim.Native.Nat.{ℕ, ◌≤◌}
+use Prim.Native.Nat.{ℕ, suc, zero, ◌+◌, ◌*◌, ◌-◌, ◌≤◌}
 use native.Mathlib.Omega.{arith}
-use lib.ListN.{get_or-replicate}
+use lib.ListN.{length, get_or-replicate}
+use Rattle.std.proofs.Common.{slice_index_or}
 use Rattle.numbers.specs.Lists.{at}
-use Rattle.refusals.specs.Check.{Check, Pass, Refused, number_of, place_of}
-use Rattle.factor_table.specs.declared.RowFactors.{RowFactors}
-use Rattle.factor_table.specs.RowFactors.{band_words, low_place, high_place, row_check, row_answered, row_answer, one_of, RowFactorsCall}
+use Rattle.refusals.specs.declared.Refusal.{Refusal}
+use Rattle.refusals.specs.Rule.{number}
+use Rattle.refusals.proofs.Numbers.{zero-passes}
+use Rattle.refusals.specs.Check.{Check, Pass, number_of, place_of}
+use Rattle.inventory.specs.declared.Band.{Band}
+use Rattle.inventory.specs.FactorBand.{FactorBand}
+use Rattle.factor_table.specs.RowFactors.{RowFactors, low_place, high_place, band_at, one_of, RowFactorsCall}
 use Rattle.factor_table.specs.Factors.{FactorsCall}
 use Rattle.season_report.specs.Seasons.{SeasonsCall}
 use Rattle.boundary.specs.declared.EvpCheck.{EvpCheck}
 use Rattle.boundary.specs.declared.EvpRowFactors.{EvpRowFactors}
 use Rattle.boundary.specs.Export.{check_numbers, factor_numbers}
-use Rattle.boundary.specs.Bulk.{row_factors_numbers, RowFactorsNumbers, FactorsNumbers, SeasonsNumbers}
+use Rattle.boundary.specs.Bulk.{in_words, row_factors_numbers, RowFactorsNumbers, FactorsNumbers, SeasonsNumbers}
 use Rattle.boundary.proofs.Numbers.{check-is}
 
+-- where a band's low and high stand among the words
+low_at : (v : List Band) (i : ℕ) → at (in_words v) (2 * i) ≡ (slice_index_or v i (record { low = 0; high = 0 })).low
+unfolding in_words
+low_at [] i = refl
+low_at (band ∷ bands) zero = refl
+low_at (band ∷ bands) (suc i) = let e : 2 * suc i ≡ suc (suc (2 * i)) = omega arith in rw e (low_at bands i)
+
+high_at : (v : List Band) (i : ℕ) → at (in_words v) (2 * i + 1) ≡ (slice_index_or v i (record { low = 0; high = 0 })).high
+unfolding in_words
+high_at [] i = refl
+high_at (band ∷ bands) zero = refl
+high_at (band ∷ bands) (suc i) = let e : 2 * suc i + 1 ≡ suc (suc (2 * i + 1)) = omega arith in rw e (high_at bands i)
+
+-- band k of those that the code takes apart
+abbrev pub band_of : List Band → ℕ → Band
+band_of v k = slice_index_or v k (record { low = 0; high = 0 })
+
+-- seven bands are fourteen words
+pub seven-words : (v : List Band) → length v ≡ 7 →
+    (band_of v 0).low ∷ (band_of v 0).high ∷ (band_of v 1).low ∷ (band_of v 1).high ∷ (band_of v 2).low ∷ (band_of v 2).high ∷
+    (band_of v 3).low ∷ (band_of v 3).high ∷ (band_of v 4).low ∷ (band_of v 4).high ∷ (band_of v 5).low ∷ (band_of v 5).high ∷
+    (band_of v 6).low ∷ (band_of v 6).high ∷ [] ≡ in_words v
+unfolding in_words
+seven-words (a ∷ b ∷ c ∷ d ∷ e ∷ f ∷ g ∷ []) long = refl
+seven-words [] long = absurd (omega arith)
+seven-words (a ∷ []) long = absurd (omega arith)
+seven-words (a ∷ b ∷ []) long = absurd (omega arith)
+seven-words (a ∷ b ∷ c ∷ []) long = absurd (omega arith)
+seven-words (a ∷ b ∷ c ∷ d ∷ []) long = absurd (omega arith)
+seven-words (a ∷ b ∷ c ∷ d ∷ e ∷ []) long = absurd (omega arith)
+seven-words (a ∷ b ∷ c ∷ d ∷ e ∷ f ∷ []) long = absurd (omega arith)
+seven-words (a ∷ b ∷ c ∷ d ∷ e ∷ f ∷ g ∷ h ∷ v) long = absurd (omega arith)
+
+-- the number and the place of either outcome
+numbers-same : (a : RowFactors) → ((row_factors_numbers a).number ≡ number_of a) × ((row_factors_numbers a).place ≡ place_of a)
+unfolding row_factors_numbers number_of place_of
+numbers-same (Ok v) = (refl, refl)
+numbers-same (Err refusal) = (refl, refl)
+
 -- the numbers of one factor, of either outcome
-one-numbers : (c : Check) (w : List ℕ) {a : RowFactors} (k : ℕ) → 1 ≤ k → k ≤ 7 → a ≡ row_answered c w
-    → factor_numbers (one_of a.check (at a.bands (low_place k)) (at a.bands (high_place k)))
-    ≡ record { number = number_of a.check; place = place_of a.check; low = at a.bands (low_place k); high = at a.bands (high_place k) }
-unfolding row_answered one_of factor_numbers number_of place_of
-one-numbers (Ok _) w k l m e = rw e refl
-one-numbers (Err refusal) w k l m e =
+one-numbers : (a : RowFactors) (k : ℕ) → 1 ≤ k → k ≤ 7 → factor_numbers (one_of a k) ≡ record {
+  number = (row_factors_numbers a).number;
+  place = (row_factors_numbers a).place;
+  low = at (row_factors_numbers a).bands (low_place k);
+  high = at (row_factors_numbers a).bands (high_place k);
+}
+unfolding one_of factor_numbers row_factors_numbers
+one-numbers (Ok v) k l m = rw (low_at v (k - 1), high_at v (k - 1)) refl
+one-numbers (Err refusal) k l m =
     let low = get_or-replicate {A = ℕ} 14 (low_place k) 0 0 (omega arith) in
     let high = get_or-replicate {A = ℕ} 14 (high_place k) 0 0 (omega arith) in
-    rw (e, low, high) refl
+    rw (low, high) refl
+
+-- a refusal has no number 0
+no-zero : (refusal : Refusal) → number refusal.rule ≡ 0 → ⊥
+unfolding number_of
+no-zero refusal none =
+    let passed : ◌≡◌ {A = Check} (Err refusal) Pass = zero-passes (Err refusal) none in
+    let clash : ◌≡◌ {A = ℕ} 0 1 = cc in
+    omega arith
+
+-- the words of an accepted answer are its bands
+bands-held : {s : List ℕ} {season row : ℕ} (a : RowFactors)
+    → ((v : List Band) → a ≡ Ok v → (k : ℕ) → 1 ≤ k → k ≤ 7 → FactorBand s season row k (band_at v k).low (band_at v k).high)
+    → (row_factors_numbers a).number ≡ 0 → (k : ℕ) → 1 ≤ k → k ≤ 7
+    → FactorBand s season row k (at (row_factors_numbers a).bands (low_place k)) (at (row_factors_numbers a).bands (high_place k))
+unfolding row_factors_numbers
+bands-held (Ok v) h none k l m = rw (low_at v (k - 1), high_at v (k - 1)) (h v refl k l m)
+bands-held (Err refusal) h none k l m = absurd (no-zero refusal none)
 
 pub row-factors-numbers : {s : List ℕ} {season row : ℕ} {a : RowFactors} {r : EvpRowFactors} → RowFactorsCall s season row a
     → r ≡ row_factors_numbers a → RowFactorsNumbers s season row r
-unfolding row_factors_numbers row_answer
-row-factors-numbers {s} {season} {row} {a} h e = record {
-  answer-is = e ∙ ap row_factors_numbers h.answer-is;
-  says = rw e h.says;
-  bands = rw e h.bands;
-  same = λ k l m.
-      rw e (ap factor_numbers (sym (h.same k l m)) ∙ one-numbers (row_check s season row) (band_words s season row) k l m h.answer-is);
-}
+row-factors-numbers {s} {season} {row} {a} h e =
+    let n = numbers-same a in
+    record {
+      answer-is = e ∙ ap row_factors_numbers h.answer-is;
+      says = rw (e, n.0, n.1) h.says;
+      bands = rw e (bands-held a h.bands);
+      same = λ k l m. rw e (ap factor_numbers (sym (h.same k l m)) ∙ one-numbers a k l m);
+    }
 
 pub factors-numbers : {s old words : List ℕ} {c : Check} {r : EvpCheck} → FactorsCall s old words c → r ≡ check_numbers c
     → FactorsNumbers s old words r

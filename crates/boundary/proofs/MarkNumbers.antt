@@ -1,55 +1,18 @@
 -- The numbers of a mark that leave the library say what the verdict says.
-use Rattle.std.proofs.Common.{Option, Some, None}
-use mathlib.Core.Path.{◌≡◌, refl, sym}
+use Rattle.std.proofs.Common.{Some, None}
+use mathlib.Core.Path.{◌≡◌, refl}
 use Prim.Native.Nat.{ℕ, ◌<◌}
 use native.Mathlib.Omega.{arith}
-use borrow.Author.Tests.{eq-eqb, ne_eqb}
+use borrow.Author.Tests.{ne_eqb}
 use Rattle.marking.specs.declared.Unit.{Unit}
-use Rattle.marking.specs.declared.Unit.TheVariants.{Milligram, Gram, Kilogram, Tonne}
 use Rattle.marking.specs.declared.Filed.{Filed}
 use Rattle.marking.specs.declared.Verdict.{Verdict}
 use Rattle.marking.specs.declared.Verdict.TheVariants.{Agrees, Fits, Low, High, Unreadable}
-use Rattle.marking.specs.Verdicts.{verdict}
 use Rattle.marking.specs.Meaning.{Marked}
 use Rattle.marking.proofs.Verdicts.{verdict-means}
 use Rattle.boundary.specs.declared.EvpFiled.{EvpFiled}
 use Rattle.boundary.specs.declared.EvpVerdict.{EvpVerdict}
 use Rattle.boundary.specs.MarkExport.{unit_handed, figure, handed_verdict, verdict_numbers, NumbersMark, MarkNumbers}
-
--- by the unit's number: 0, 1, 2, 3, or any other
-module _ (u : ℕ) where
-  pub unit-0 : u ≡ 0 → Some Milligram ≡ unit_handed u
-  unfolding unit_handed
-  unit-0 e = rw (eq-eqb u 0 e)
-
-  module _ (n0 : u ≡ 0 → ⊥) where
-    pub unit-1 : u ≡ 1 → Some Gram ≡ unit_handed u
-    unfolding unit_handed
-    unit-1 e = rw (ne_eqb u 0 n0, eq-eqb u 1 e)
-
-    module _ (n1 : u ≡ 1 → ⊥) where
-      pub unit-2 : u ≡ 2 → Some Kilogram ≡ unit_handed u
-      unfolding unit_handed
-      unit-2 e = rw (ne_eqb u 0 n0, ne_eqb u 1 n1, eq-eqb u 2 e)
-
-      module _ (n2 : u ≡ 2 → ⊥) where
-        pub unit-3 : u ≡ 3 → Some Tonne ≡ unit_handed u
-        unfolding unit_handed
-        unit-3 e = rw (ne_eqb u 0 n0, ne_eqb u 1 n1, ne_eqb u 2 n2, eq-eqb u 3 e)
-
-        pub unit-other : (u ≡ 3 → ⊥) → None ≡ unit_handed u
-        unfolding unit_handed
-        unit-other n3 = rw (ne_eqb u 0 n0, ne_eqb u 1 n1, ne_eqb u 2 n2, ne_eqb u 3 n3)
-
-module _ {unit : Option Unit} (digits places low high : ℕ) where
-  pub marked-in : {r : Verdict} (u : Unit) → unit ≡ Some u → r ≡ verdict (figure digits places u) low high
-      → r ≡ handed_verdict digits places unit low high
-  unfolding handed_verdict
-  marked-in u e h = rw e h
-
-  pub not-marked : unit ≡ None → Unreadable ≡ handed_verdict digits places unit low high
-  unfolding handed_verdict
-  not-marked e = rw e
 
 -- of each verdict the numbers say the same
 numbers-mark : (f : Filed) (low high : ℕ) (v : Verdict) → Marked f low high v → NumbersMark f low high (verdict_numbers v)
@@ -100,8 +63,15 @@ named : (digits places low high u : ℕ) (x : Unit) → unit_handed u ≡ Some x
 unfolding handed_verdict
 named digits places low high u x e = rw e (numbers-mark _ low high _ (verdict-means _ low high))
 
+-- from 4 on a number names no unit
 unit-none : (u : ℕ) → 3 < u → unit_handed u ≡ None
-unit-none u h = sym (unit-other u (λ e. omega arith) (λ e. omega arith) (λ e. omega arith) (λ e. omega arith))
+unfolding unit_handed
+unit-none u h = rw (
+  ne_eqb u 0 (λ e. omega arith),
+  ne_eqb u 1 (λ e. omega arith),
+  ne_eqb u 2 (λ e. omega arith),
+  ne_eqb u 3 (λ e. omega arith),
+)
 
 unread : (digits places low high u : ℕ) → 3 < u → (verdict_numbers (handed_verdict digits places (unit_handed u) low high)).verdict ≡ 4
 unfolding handed_verdict verdict_numbers

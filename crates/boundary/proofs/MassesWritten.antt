@@ -1,21 +1,22 @@
 -- The species written to a buffer: 29 words at its front, or none.
 -- Assumes nothing.
 use mathlib.Core.List.{List}
-use mathlib.Core.Path.{◌≡◌, ◌∙◌}
+use mathlib.Core.Path.{◌≡◌, sym, ap, ◌∙◌}
 use Prim.Native.Nat.{ℕ, ◌≤◌, ◌<◌}
 use native.Mathlib.Omega.{arith}
-use borrow.Author.Tests.{lt-ltb, le-ltb}
+use borrow.Author.Tests.{le-ltb}
 use lib.ListN.{length}
 use Rattle.numbers.specs.Lists.{at}
 use Rattle.numbers.proofs.Lists.{tab-length, sum-ext}
-use Rattle.refusals.specs.declared.Rule.TheVariants as rule
-use Rattle.refusals.specs.Rule.{number}
-use Rattle.refusals.specs.Check.{Pass, Refused, refuse}
+use Rattle.refusals.specs.Check.{Check, Pass, refuse}
+use Rattle.refusals.proofs.Numbers.{zero-passes}
 use Rattle.inventory.specs.ReportCall.{written}
 use Rattle.inventory.proofs.Written.{written-first}
 use Rattle.speciation.specs.Split.{species_mass, species_masses, SpeciesPromise}
 use Rattle.speciation.proofs.Promised.{promised}
+use Rattle.boundary.specs.declared.EvpCheck.{EvpCheck}
 use Rattle.boundary.specs.Export.{check_numbers}
+use Rattle.boundary.proofs.Numbers.{check-is}
 use Rattle.boundary.specs.SpeciesCall.{species_check, SpeciesNumbers}
 
 -- there are 29 of them
@@ -37,17 +38,21 @@ first-words total old =
     same : (i : ℕ) → i < 29 → at (written Pass (species_masses total) old) i ≡ at (species_masses total) i
     same i h = written-first (species_masses total) old i (omega (arith, masses-length total))
 
--- Each outcome of the code is the answer.
-module _ (total : ℕ) (old : List ℕ) where
-  pub short : length old < 29 → SpeciesNumbers total old old (record { number = 22; place = 0 })
-  unfolding species_check refuse check_numbers written number
-  short h =
-      let refused : species_check (length old) ≡ Refused rule.Room 0 = rw (lt-ltb (length old) 29 h) in
-      record { answer-is = rw refused; masses-are = rw refused; promise = λ zero. absurd (omega (arith, zero)) }
+-- a buffer with room passes
+pub room-passes : (room : ℕ) → 29 ≤ room → species_check room ≡ Pass
+unfolding species_check refuse
+room-passes room h = rw (le-ltb room 29 h)
 
-  pub written_out : {new : List ℕ} → 29 ≤ length old → new ≡ written Pass (species_masses total) old
-      → SpeciesNumbers total old new (record { number = 0; place = 0 })
-  unfolding species_check refuse check_numbers
-  written_out h e =
-      let passed : species_check (length old) ≡ Pass = rw (le-ltb (length old) 29 h) in
-      record { answer-is = rw passed; masses-are = rw passed e; promise = λ zero. rw e (first-words total old) }
+-- what holds of the answer and of the buffer holds of the numbers
+pub species-numbers : (total : ℕ) (old : List ℕ) {new : List ℕ} {c : Check} {r : EvpCheck} → c ≡ species_check (length old)
+    → new ≡ written (species_check (length old)) (species_masses total) old → r ≡ check_numbers c → SpeciesNumbers total old new r
+unfolding check_numbers
+species-numbers total old {new} {c} {r} a w e =
+    let n : r ≡ check_numbers (species_check (length old)) = e ∙ ap check_numbers a in
+    record {
+      answer-is = n;
+      masses-are = w;
+      promise = λ none.
+          let passed = zero-passes (species_check (length old)) (ap (λ (x : EvpCheck). x.number) (sym (n ∙ check-is _)) ∙ none) in
+          rw (w, passed) (first-words total old);
+    }

@@ -1,7 +1,7 @@
 -- The numbers that leave the library are those of the answers' definitions.
 use Rattle.std.proofs.Common.{Ok, Err}
 use mathlib.Core.Path.{◌≡◌, refl}
-use Rattle.refusals.specs.Check.{Check, Pass, Refused, number_of, place_of}
+use Rattle.refusals.specs.Check.{Check, number_of, place_of}
 use Rattle.inventory.specs.FactorBand.{FactorAnswer, answer_low, answer_high}
 use Rattle.boundary.specs.Export.{check_numbers, factor_numbers}
 

@@ -5,6 +5,7 @@ use mathlib.Core.Path.{◌≡◌, refl, ap, ◌∙◌}
 use Rattle.refusals.specs.Check.{number_of, place_of}
 use Prim.Native.Nat.{ℕ}
 use lib.ListN.{length}
+use Rattle.pooling.specs.declared.PoolRefusal.{PoolRefusal}
 use Rattle.pooling.specs.declared.PoolRefusal.TheVariants.{First, Second, Pooled}
 use Rattle.pooling.specs.Pool.{pool}
 use Rattle.pooling.specs.Late.{Regions}
@@ -26,6 +27,13 @@ place_is (Ok _) bytes = refl
 place_is (Err (First refusal)) bytes = refl
 place_is (Err (Second refusal)) bytes = refl
 place_is (Err (Pooled refusal)) bytes = refl
+
+-- a refusal writes no byte, however long the pool would be
+pub refused-alike : (why : PoolRefusal) (m n : ℕ) → pool_numbers (Err why) m ≡ pool_numbers (Err why) n
+unfolding pool_numbers
+refused-alike (First refusal) m n = refl
+refused-alike (Second refusal) m n = refl
+refused-alike (Pooled refusal) m n = refl
 
 -- what holds of the answer holds of its numbers
 pub pool-numbers : {a b old out : List ℕ} {r : PoolAnswer} {n : EvpPool} → PoolCall a b old out r → n ≡ pool_numbers r (length (pool a b))

@@ -3,10 +3,9 @@
 use mathlib.Core.List.{List}
 use mathlib.Core.Path.{◌≡◌, ◌∙◌, ap}
 use Prim.Native.Nat.{ℕ}
-use Rattle.refusals.specs.Check.{Check}
+use Rattle.refusals.specs.Check.{Answer, Check}
 use Rattle.ledger.specs.declared.Call.{Call}
-use Rattle.shared_ledger.specs.declared.RowAnswer.{RowAnswer}
-use Rattle.shared_ledger.specs.declared.TotalsAnswer.{TotalsAnswer}
+use Rattle.shared_ledger.specs.declared.RowRead.{RowRead}
 use Rattle.shared_ledger.specs.Opening.{OpenCall}
 use Rattle.shared_ledger.specs.Calls.{SharedChangeCall, SharedRowCall, SharedTotalsCall}
 use Rattle.boundary.specs.declared.EvpCheck.{EvpCheck}
@@ -34,12 +33,12 @@ shared-numbers a e = record {
   says = rw (e ∙ check-is _) a.says;
 }
 
-pub row_told : {s owners words : List ℕ} {who i : ℕ} {a : RowAnswer} {r : EvpRow} → SharedRowCall s owners words who i a
+pub row_told : {s owners words : List ℕ} {who i : ℕ} {a : Answer RowRead} {r : EvpRow} → SharedRowCall s owners words who i a
     → r ≡ row_numbers a → RowNumbers s owners words who i r
 unfolding row_numbers
 row_told a e = record { answer-is = e ∙ ap row_numbers a.answer-is; says = rw e a.says }
 
-pub totals-told : {s owners words : List ℕ} {who : ℕ} {a : TotalsAnswer} {r : EvpTotals}
+pub totals-told : {s owners words : List ℕ} {who : ℕ} {a : Answer (List ℕ)} {r : EvpTotals}
     → SharedTotalsCall s owners words who a → r ≡ totals_numbers a → TotalsNumbers s owners words who r
 unfolding totals_numbers
 totals-told a e = record { answer-is = e ∙ ap totals_numbers a.answer-is; says = rw e a.says }

@@ -4,14 +4,12 @@ use Rattle.std.proofs.Common.{Ok, Err}
 use mathlib.Core.List.{List}
 use mathlib.Core.Path.{◌≡◌, refl, ap}
 use Prim.Native.Nat.{ℕ}
-use native.Mathlib.Omega.{arith}
 use lib.ListN.{length}
-use Rattle.refusals.specs.Check.{Check, Pass, Refused, number_of, place_of}
+use Rattle.refusals.specs.Check.{Check, number_of, place_of}
 use Rattle.sheet.specs.Versions.{version_of}
 use Rattle.sheet.specs.Bytes.{rows_of}
 use Rattle.report_words.specs.Report.{report}
 use Rattle.inventory.specs.ReportAnswers.{report_check}
-use Rattle.inventory.proofs.CallConditions.{report-judged}
 use Rattle.refusals.proofs.Numbers.{zero-passes}
 use Rattle.text.specs.Lines.{report_lines, refusal_line}
 use Rattle.report_text.specs.Text.{text_of, report_text, TextCall}

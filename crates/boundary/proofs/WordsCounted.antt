@@ -8,7 +8,7 @@ use native.Mathlib.Omega.{arith}
 use borrow.Author.Tests.{le-ltb}
 use lib.ListN.{length}
 use Rattle.refusals.specs.declared.Refusal.{Refusal}
-use Rattle.refusals.specs.Check.{Pass, Refused, refuse, ◌then◌}
+use Rattle.refusals.specs.Check.{Pass, refuse, ◌then◌}
 use Rattle.sheet.specs.Bytes.{rows_of}
 use Rattle.sheet.specs.Sheet.{sheet_check}
 use Rattle.sheet.proofs.Accepted.{accepted}

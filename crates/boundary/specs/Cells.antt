@@ -9,7 +9,7 @@ use Rattle.map_cells.specs.Sums.{CellAnswer, cell_refusal, cell_sum}
 use Rattle.map_cells.specs.Promise.{SumPromise}
 use Rattle.map_shares.specs.declared.Travel.{Travel}
 use Rattle.map_shares.specs.declared.Words.{Words}
-use Rattle.map_rows.specs.declared.RowCells.{RowCells}
+use Rattle.map_rows.specs.Kinds.{RowCells}
 use Rattle.map_rows.specs.Promise.{RowCellsPromise}
 use Rattle.map_rows.specs.Rows.{RowCellsAnswer, travel_refusal, row_cells_answer}
 use Rattle.boundary.specs.declared.EvpCell.{EvpCell}

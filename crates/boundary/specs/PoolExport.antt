@@ -5,7 +5,7 @@ use Rattle.inventory.specs.ReportCall.{written}
 use Rattle.pooling.specs.declared.PoolRefusal.TheVariants.{First, Second, Pooled}
 use Rattle.pooling.specs.Pool.{pool, pool_check}
 use Rattle.refusals.specs.Rule.{number}
-use Rattle.pooling.specs.PoolCall.{PoolAnswer, Accepted, pool_answer, PoolSays}
+use Rattle.pooling.specs.PoolCall.{PoolAnswer, pool_answer, PoolSays}
 use Rattle.boundary.specs.declared.EvpPool.{EvpPool}
 
 -- the number and the place of an answer, and which sheet they are of: 1 the first, 2 the second, 3 the two together; and how many bytes are

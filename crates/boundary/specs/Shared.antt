@@ -1,15 +1,15 @@
 -- What a program in another language gets of a call on a shared ledger: numbers alone, as the answer's definition in Rattle says them.
 -- Definitions only.
-use Rattle.std.specs.Prelude.{List, ◌≡◌, ℕ, length}
-use Rattle.refusals.specs.Check.{number_of, place_of}
+use Rattle.std.specs.Prelude.{List, ◌≡◌, ℕ, length, Ok, Err}
+use Rattle.numbers.specs.Lists.{tab}
+use Rattle.refusals.specs.Check.{Answer, number_of, place_of}
 use Rattle.sheet.specs.Demands.{Says}
 use Rattle.report_words.specs.Report.{report}
 use Rattle.report_words.specs.Promise.{ReportPromise}
 use Rattle.inventory.specs.ReportCall.{written}
 use Rattle.ledger.specs.declared.Call.{Call}
 use Rattle.ledger.specs.Ledger.{sheet_after, words_after}
-use Rattle.shared_ledger.specs.declared.RowAnswer.{RowAnswer}
-use Rattle.shared_ledger.specs.declared.TotalsAnswer.{TotalsAnswer}
+use Rattle.shared_ledger.specs.declared.RowRead.{RowRead}
 use Rattle.shared_ledger.specs.Opening.{shared_check, shared_demands}
 use Rattle.shared_ledger.specs.Calls.{shared_change_check, shared_change_demands, shared_row_answer, shared_row_demands}
 use Rattle.shared_ledger.specs.Calls.{shared_totals_answer, shared_totals_demands}
@@ -18,12 +18,28 @@ use Rattle.boundary.specs.declared.EvpRow.{EvpRow}
 use Rattle.boundary.specs.declared.EvpTotals.{EvpTotals}
 use Rattle.boundary.specs.Export.{check_numbers}
 
--- the number and the place of a read, and what it tells
-unfoldable pub row_numbers : RowAnswer → EvpRow
-row_numbers a = record { number = number_of a.check; place = place_of a.check; count = a.count; words = a.words }
+unfoldable pub zeros : ℕ → List ℕ
+zeros n = tab (λ (m : ℕ). 0) n
 
-unfoldable pub totals_numbers : TotalsAnswer → EvpTotals
-totals_numbers a = record { number = number_of a.check; place = place_of a.check; words = a.words }
+-- the count and the words that a read of a row returns, and the words of a read of the totals: zeros where it is refused
+unfoldable pub count_told : Answer RowRead → ℕ
+count_told (Ok read) = read.count
+count_told (Err refusal) = 0
+
+unfoldable pub words_told : Answer RowRead → List ℕ
+words_told (Ok read) = read.words
+words_told (Err refusal) = zeros 6
+
+unfoldable pub words_of_totals : Answer (List ℕ) → List ℕ
+words_of_totals (Ok words) = words
+words_of_totals (Err refusal) = zeros 26
+
+-- all numbers of a read
+unfoldable pub row_numbers : Answer RowRead → EvpRow
+row_numbers a = record { number = number_of a; place = place_of a; count = count_told a; words = words_told a }
+
+unfoldable pub totals_numbers : Answer (List ℕ) → EvpTotals
+totals_numbers a = record { number = number_of a; place = place_of a; words = words_of_totals a }
 
 -- after an opening
 pub record OpenNumbers (s owners old words : List ℕ) (r : EvpCheck) : Type 0 where

@@ -1,7 +1,7 @@
 -- What a program in another language gets of the calls that check a sheet and make no report: whether it is accepted, and how many words its
 -- report has. Definitions only.
 use Rattle.std.specs.Prelude.{List, ◌≡◌, ℕ, ◌≤◌, length, Ok, Err}
-use Rattle.refusals.specs.Check.{Check, Pass, Refused}
+use Rattle.refusals.specs.Check.{Check, Pass}
 use Rattle.sheet.specs.Sheet.{sheet_check}
 use Rattle.sheet.specs.Demands.{Says, demands}
 use Rattle.report_words.specs.Report.{report}

@@ -1,8 +1,14 @@
-// What passes to and from a program in another language: structs of numbers and doubles, as include/evaporation.h has them. What they say
-// is defined in specs/; the code is in the crates boundary_calls and evaporation.
+// What passes to and from a program in another language: structs of numbers and doubles, as include/evaporation.h has them, and how they are
+// made of the answers in Rattle. What they say is defined in specs/; the calls are in the crates boundary_calls and evaporation.
 #![tactic(auto)]
 
 use map_shares::{Mileages, Speeds};
+
+mod answers;
+mod cells;
+pub mod filed;
+mod shared;
+mod species;
 
 // A refusal's number and place; number 0 where the sheet is accepted.
 #[repr(C)]

@@ -1,6 +1,5 @@
 // The answer of the pool call as numbers.
 ghost use Rattle.std.specs.Prelude.{◌≡◌, length};
-ghost use Rattle.refusals.specs.Rule.{number};
 ghost use Rattle.pooling.specs.Pool.{pool};
 ghost use Rattle.pooling.specs.PoolCall.{pool_answer};
 ghost use Rattle.boundary.specs.PoolExport.{pool_numbers};
@@ -8,21 +7,9 @@ ghost use Rattle.boundary.specs.PoolExport.{pool_numbers};
 use boundary::EvpPool;
 use pooling::PoolRefusal;
 use pooling_calls::length::pool_length;
-use refusals::Refusal;
 
-// A refusal, of one of three sheets.
-fn refused_pool(refusal: Refusal, sheet: u64) -> EvpPool
-    ensures { result ≡ record { number = number refusal.rule; place = refusal.place; sheet = sheet; bytes = 0 } }
-{
-    EvpPool {
-        number: refusal.rule.number(),
-        place: refusal.place,
-        sheet,
-        bytes: 0,
-    }
-}
-
-// What pooling two sheets with this much room was answered, and how many bytes it wrote.
+// What pooling two sheets with this much room was answered, and how many bytes it wrote. No `From` of the answer: the bytes are those of
+// the two sheets, which the answer does not have.
 pub fn pool_numbers(
     answer: Result<(), PoolRefusal>,
     first: &[u8],
@@ -39,8 +26,6 @@ pub fn pool_numbers(
             sheet: 0,
             bytes: pool_length(first, second) as u64,
         },
-        Err(PoolRefusal::First(refusal)) => refused_pool(refusal, 1),
-        Err(PoolRefusal::Second(refusal)) => refused_pool(refusal, 2),
-        Err(PoolRefusal::Pooled(refusal)) => refused_pool(refusal, 3),
+        Err(why) => EvpPool::from(why),
     }
 }

@@ -20,6 +20,7 @@ use Rattle.boundary.specs.declared.EvpCheck.{EvpCheck}
 use Rattle.boundary.specs.declared.EvpRow.{EvpRow}
 use Rattle.boundary.specs.declared.EvpTotals.{EvpTotals}
 use Rattle.boundary.specs.Export.{check_numbers}
+use Rattle.boundary.specs.Shared.{count_told, words_told, words_of_totals}
 use Rattle.boundary.specs.Shared.{row_numbers, totals_numbers, OpenNumbers, SharedNumbers, RowNumbers, TotalsNumbers}
 use Rattle.boundary.proofs.Numbers.{check-is}
 use Rattle.boundary_courses.specs.SharedCourse.{Reply, of_change, of_row, of_totals, Made, none, changed, row_read, totals_read, Course}
@@ -126,14 +127,14 @@ isolated-numbers who some s owners w t others v bytes bytes' same asks instead r
 row_is : {owners t u : List ℕ} {who i count : ℕ} {words : List ℕ} {r : EvpRow} → RowNumbers t owners u who i r
     → reply owners (record { sheet = t; words = u }) (told.read_row who i) ≡ told.of_row (row_told Pass count words)
     → r ≡ record { number = 0; place = 0; count = count; words = words }
-unfolding reply row_numbers row_told number_of place_of
+unfolding reply row_numbers row_told number_of place_of count_told words_told
 row_is {owners} {t} {u} {who} {i} {count} {words} a e =
     let same : shared_row_answer t owners u who i ≡ row_told Pass count words = cc in a.answer-is ∙ ap row_numbers same
 
 totals-is : {owners t u : List ℕ} {who : ℕ} {words : List ℕ} {r : EvpTotals} → TotalsNumbers t owners u who r
     → reply owners (record { sheet = t; words = u }) (told.read_totals who) ≡ told.of_totals (totals_told Pass words)
     → r ≡ record { number = 0; place = 0; words = words }
-unfolding reply totals_numbers totals_told number_of place_of
+unfolding reply totals_numbers totals_told number_of place_of words_of_totals
 totals-is {owners} {t} {u} {who} {words} a e =
     let same : shared_totals_answer t owners u who ≡ totals_told Pass words = cc in a.answer-is ∙ ap totals_numbers same
 

@@ -17,7 +17,8 @@ pub use Rattle.bounds.proofs.Growth.{exponential-mono}
 pub use Rattle.bounds.proofs.Products.{product-least, product-most}
 pub use Rattle.bounds.proofs.Steepness.{climb-to, short-most-1, held-to-0, held-to-3}
 pub use Rattle.bounds.proofs.ThetaTable.{theta-least, theta-near, theta-most, theta-rounded}
-pub use Rattle.bounds.proofs.WholeExponents.{far-below, far-above, far-gap, far-triple, far-size, far-2, far-14}
+pub use Rattle.bounds.proofs.WholeExponents.{far-below, far-above, far-gap, far-triple, far-2, far-14}
+use Rattle.bounds.proofs.WholeExponents.{far-size}
 pub use Rattle.bounds.proofs.PowerBound.{power-within, power_size}
 pub use Rattle.bounds.proofs.Root.{power2_5-NonNegative, power2_5-above, power2_5-below, cut_root-is, root-square-cut, cut_root-multiple}
 pub use Rattle.bounds.proofs.Weights.{w-most, rises-where, apart-most, apart-alike}

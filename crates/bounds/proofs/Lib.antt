@@ -2,7 +2,6 @@ mod Root
 mod Parts
 pub mod Within
 pub mod Table
-mod Tables
 mod Product
 mod Tail
 mod Sizes

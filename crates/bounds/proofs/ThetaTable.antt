@@ -16,14 +16,12 @@ use Rattle.numbers.proofs.Order.{via, ≤-by, ≤-refl, ≤_trans, ≈-refl, ≈
 use Rattle.numbers.proofs.Order.{ratio-sum, ratio-product}
 use Rattle.bounds.specs.Series.{E, two_pos}
 use Rattle.bounds.specs.Enclosure.{Within}
-use Rattle.bounds.specs.Exponential.{entries}
 use Rattle.bounds.proofs.Product.{den, acc, num, den_pos, num-zero, num-scale, den-scale, product-above}
 use Rattle.bounds.proofs.Product.{product-below}
 use Rattle.bounds.proofs.Table.{both, both_left, both_right}
 use Rattle.bounds.proofs.Tail.{Near, near, near_test, top, tail}
 use Rattle.bounds.proofs.Exponential.{E-at, E-mono}
 use Rattle.bounds.proofs.Units.{unit-pos, units}
-use Rattle.bounds.proofs.Tables.{theta-at}
 use Rattle.bounds.specs.Theta.{thetas, coefficient, on_cell, theta, on_cell_exact, scale-pos, theta_exact}
 
 -- Polynomials of s = τ/t, term by term: if no sum of the first coefficients is larger, no value is.
@@ -411,28 +409,23 @@ levels =
 abbrev test_at : ℕ → ℕ → ℕ → ℕ → ℕ → Bool
 test_at k p₀ p₁ p₂ e = cell_test (2 ^ 42) k p₀ p₁ p₂ (p₀ + k * p₁) (p₁ + k * p₂) e
 
-abbrev cells_test : (ℕ → ℕ → ℕ → ℕ → ℕ → Bool) → ℕ → List ℕ → List ℕ → Bool
-cells_test f k ps [] = true
+abbrev cells_test : (ℕ → ℕ → ℕ → ℕ → ℕ → Bool) → ℕ → List (List ℕ) → List ℕ → Bool
+cells_test f k cells [] = true
 cells_test f k [] (e ∷ es) = false
-cells_test f k (p₀ ∷ []) (e ∷ es) = false
-cells_test f k (p₀ ∷ (p₁ ∷ [])) (e ∷ es) = false
-cells_test f k (p₀ ∷ (p₁ ∷ (p₂ ∷ ps))) (e ∷ es) = both (f k p₀ p₁ p₂ e) (cells_test f (suc k) ps es)
+cells_test f k (p ∷ ps) (e ∷ es) = both (f k (get_or p 0 0) (get_or p 1 0) (get_or p 2 0) e) (cells_test f (suc k) ps es)
 
 -- the cells from i on
-cells-from : (f : ℕ → ℕ → ℕ → ℕ → ℕ → Bool) (ps es : List ℕ) (i : ℕ) → T (cells_test f i ps es) → (k : ℕ) → k < length es
-    → T (f (i + k) (get_or ps (3 * k) 0) (get_or ps (3 * k + 1) 0) (get_or ps (3 * k + 2) 0) (get_or es k 0))
+cells-from : (f : ℕ → ℕ → ℕ → ℕ → ℕ → Bool) (ps : List (List ℕ)) (es : List ℕ) (i : ℕ) → T (cells_test f i ps es) → (k : ℕ) → k < length es
+    → T (f (i + k) (get_or (get_or ps k []) 0 0) (get_or (get_or ps k []) 1 0) (get_or (get_or ps k []) 2 0) (get_or es k 0))
 cells-from f ps [] i t k h = absurd (not-suc-le-zero h)
 cells-from f [] (e ∷ es) i t k h = absurd t
-cells-from f (p₀ ∷ []) (e ∷ es) i t k h = absurd t
-cells-from f (p₀ ∷ (p₁ ∷ [])) (e ∷ es) i t k h = absurd t
-cells-from f (p₀ ∷ (p₁ ∷ (p₂ ∷ ps))) (e ∷ es) i t zero h =
-    rw (add-zero i) (both_left (f i p₀ p₁ p₂ e) (cells_test f (suc i) ps es) t)
-cells-from f (p₀ ∷ (p₁ ∷ (p₂ ∷ ps))) (e ∷ es) i t (suc k) h =
+cells-from f (p ∷ ps) (e ∷ es) i t zero h =
+    rw (add-zero i) (both_left (f i (get_or p 0 0) (get_or p 1 0) (get_or p 2 0) e) (cells_test f (suc i) ps es) t)
+cells-from f (p ∷ ps) (e ∷ es) i t (suc k) h =
     let l : i + suc k ≡ suc i + k = omega arith in
-    let g₀ : 3 * suc k ≡ suc (suc (suc (3 * k))) = omega arith in
-    let g₁ : 3 * suc k + 1 ≡ suc (suc (suc (3 * k + 1))) = omega arith in
-    let g₂ : 3 * suc k + 2 ≡ suc (suc (suc (3 * k + 2))) = omega arith in
-    rw (g₁, g₂, g₀, l) (cells-from f ps es (suc i) (both_right (f i p₀ p₁ p₂ e) (cells_test f (suc i) ps es) t) k (le_of_suc-le-suc h))
+    rw l
+    (cells-from f ps es (suc i)
+    (both_right (f i (get_or p 0 0) (get_or p 1 0) (get_or p 2 0) e) (cells_test f (suc i) ps es) t) k (le_of_suc-le-suc h))
 
 cells-pass : T (cells_test test_at 0 thetas levels)
 unfolding thetas levels cell_test
@@ -448,8 +441,7 @@ passed : (k : ℕ) → k < 513
     (coefficient k 0 + k * coefficient k 1) (coefficient k 1 + k * coefficient k 2) (get_or levels k 0)
 passed k h =
     let z : 0 + k ≡ k = omega arith in
-    let w : 3 * k + 0 ≡ 3 * k = omega arith in
-    cell-passed (2 ^ 42) k _ _ _ _ _ _ (omega arith) (rw w (rw z at (cells-from test_at thetas levels 0 cells-pass k (rw levels-length h))))
+    cell-passed (2 ^ 42) k _ _ _ _ _ _ (omega arith) (rw z at (cells-from test_at thetas levels 0 cells-pass k (rw levels-length h)))
 
 exponent-pos : 0 < 2 ^ 29 * 2 ^ 29 * 2 ^ 29 * 2 ^ 42
 exponent-pos = mul-pos (mul-pos (mul-pos (two_pos 29) (two_pos 29)) (two_pos 29)) (two_pos 42)
@@ -494,7 +486,7 @@ sum-all : (t τ p₀ p₁ p₂ w : ℕ) → τ ≤ t → p₀ + p₁ + p₂ ≤ 
 sum-all t τ p₀ p₁ p₂ w h g =
     omega (arith, mul-le-mul_left (p₁ * t) h, mul-le-mul_left p₂ (mul-le-mul h h), mul-le-mul_left (t * t) g)
 
-coefficients-most : (k : ℕ) → k < 513 → coefficient k 0 + coefficient k 1 + coefficient k 2 ≤ 23 * 2 ^ 27
+pub coefficients-most : (k : ℕ) → k < 513 → coefficient k 0 + coefficient k 1 + coefficient k 2 ≤ 23 * 2 ^ 27
 coefficients-most k h = (passed k h).fits
 
 exact-most : (k τ : ℕ) → k < 513 → τ ≤ 2 ^ 29 → on_cell_exact k τ ≤ 23 * 2 ^ 27 * (2 ^ 29 * 2 ^ 29)
@@ -572,23 +564,3 @@ theta-rounded t = record {
   above = omega (arith, on_cell-below (t / 2 ^ 29) (t % 2 ^ 29));
   below = omega (arith, on_cell-above (t / 2 ^ 29) (t % 2 ^ 29) (omega arith));
 }
-
--- The three coefficients that the program reads.
-module _ {table : List ℕ} (same : table ≡ entries) (t : ℕ) (h : t ≤ 2 ^ 38) where
-  read : (j : ℕ) → j < 3 → get_or table (1907 + 3 * (t / 2 ^ 29) + j) 0 ≡ coefficient (t / 2 ^ 29) j
-  read j l =
-      let e : 1907 + 3 * (t / 2 ^ 29) + j ≡ 1907 + (3 * (t / 2 ^ 29) + j) = omega arith in
-      rw (same, e) (theta-at (3 * (t / 2 ^ 29) + j))
-
-  first_read : get_or table (1907 + 3 * (t / 2 ^ 29)) 0 ≡ coefficient (t / 2 ^ 29) 0
-  first_read = let e : 1907 + 3 * (t / 2 ^ 29) + 0 ≡ 1907 + 3 * (t / 2 ^ 29) = omega arith in rw e at (read 0 (omega arith))
-
-  pub read-most : get_or table (1907 + 3 * (t / 2 ^ 29)) 0 + get_or table (1907 + 3 * (t / 2 ^ 29) + 1) 0
-      + get_or table (1907 + 3 * (t / 2 ^ 29) + 2) 0 ≤ 23 * 2 ^ 27
-  read-most = rw (first_read, read 1 (omega arith), read 2 (omega arith)) (coefficients-most (t / 2 ^ 29) (omega arith))
-
-  pub theta-read : get_or table (1907 + 3 * (t / 2 ^ 29)) 0
-      + (get_or table (1907 + 3 * (t / 2 ^ 29) + 1) 0 + get_or table (1907 + 3 * (t / 2 ^ 29) + 2) 0 * (t % 2 ^ 29) / 2 ^ 29)
-      * (t % 2 ^ 29) / 2 ^ 29 ≡ theta t
-  unfolding theta on_cell
-  theta-read = rw (first_read, read 1 (omega arith), read 2 (omega arith)) refl

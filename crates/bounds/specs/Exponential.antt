@@ -1,10 +1,8 @@
 -- Need not be believed: the computed exponential, that is which whole number the program's exponential is.
 -- An exponent z is held as the whole number x = (z + 16)·10¹⁴, and the result is in units of 2⁻⁴⁰. With
 -- z = (h − 256)/16 + m/4096 + ρ and ρ below 2⁻¹², E(z) is close to coarse(h)·middle(m)·(1 + ρ + ρ²/2); every step cuts downwards.
-use Rattle.std.specs.Prelude.{List, [], ◌∷◌, ◌++◌, ℕ, ◌+◌, ◌*◌, ◌/◌, ◌%◌, ◌^◌, get_or}
+use Rattle.std.specs.Prelude.{List, [], ◌∷◌, ℕ, ◌+◌, ◌*◌, ◌/◌, ◌%◌, ◌^◌, get_or}
 use Rattle.numbers.specs.Fraction.{Fraction, ten-pos}
-use Rattle.numbers.specs.Lists.{tab}
-use Rattle.bounds.specs.Theta.{thetas}
 
 -- z = x·10⁻¹⁴ − 16
 abbrev pub exponent : ℕ → Fraction
@@ -91,10 +89,6 @@ middle =
     1165860984406 ∷ 1166145653184 ∷ 1166430391469 ∷ 1166715199279 ∷ 1167000076630 ∷ 1167285023541 ∷ 1167570040026 ∷ 1167855126105 ∷
     1168140281793 ∷ 1168425507108 ∷ 1168710802066 ∷ 1168996166685 ∷ 1169281600981 ∷ 1169567104972 ∷ 1169852678675 ∷ 1170138322106 ∷ []
 
--- both
-unfoldable pub constants : List ℕ
-constants = coarse ++ middle
-
 -- ρ in 2⁻⁴⁰, for the rest r = ρ·10¹⁴ below 10¹⁴/4096: 2⁴⁰/10¹⁴ is 2²⁶/5¹⁴
 unfoldable pub rest : ℕ → ℕ
 rest r = r * 2 ^ 26 / 6103515625
@@ -114,10 +108,6 @@ high h = get_or coarse h 0 / 2 ^ 13
 -- and just below 2³⁰·E(j/16384), for j from 0 to 1023: 5¹⁴ is 10¹⁴/16384
 unfoldable pub finest : ℕ → ℕ
 finest j = fine (j * 6103515625) / 2 ^ 10
-
--- the four tables and that of Θ, one after the other, as the program has them
-unfoldable pub entries : List ℕ
-entries = constants ++ (tab high 305 ++ (tab finest 1024 ++ thetas))
 
 -- E(z)
 unfoldable pub exponential : ℕ → ℕ

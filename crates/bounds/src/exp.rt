@@ -3,39 +3,16 @@
 ghost use Rattle.std.specs.Prelude.{◌≡◌, ◌*◌, ◌^◌, ◌<◌, ◌≤◌, ◌/◌, get_or};
 ghost use Rattle.bounds.specs.Series.{E};
 ghost use Rattle.bounds.specs.Enclosure.{WithinAll};
-ghost use Rattle.bounds.specs.Exponential.{exponent, middle, constants, entries, rest, quadratic, fine};
-ghost use Rattle.bounds.specs.Theta.{thetas};
+ghost use Rattle.bounds.specs.Exponential.{exponent, coarse, middle, rest, quadratic, fine};
 ghost use Rattle.bounds.specs.Exponential.{exponential, exponent_limit, exponential_error};
 
 use crate::fixed::mul_above;
-use crate::theta::{THETA_WORDS, thetas};
-use std::array;
 
 // 1 / 16, the step of the first table, in units of 10^-14
 const COARSE_STEP: u64 = 6250000000000;
 
 // 1 / 4096, the step of the second table, in units of 10^-14
 const FINE_STEP: u64 = 24414062500;
-
-// Where the second table starts.
-const MIDDLE: usize = 322;
-
-// Where the two tables of the short exponential start, and from units of 2^-40 to their units of 2^-27 and 2^-30
-pub const HIGH: usize = 578;
-
-pub const FINEST: usize = 883;
-
-// Where the table of Θ starts, and how many words all tables have.
-pub const THETA: usize = 1907;
-
-pub const TABLE_WORDS: usize = 3446;
-
-// The tables of the exponentials and of Θ, one after the other. `tables` makes them.
-pub type ExpTables = [u64; TABLE_WORDS];
-
-const TWO_13: u64 = 8192;
-
-const TWO_10: u64 = 1024;
 
 // 2^26 and 5^14: 2^40 / 10^14 is 2^26 / 5^14
 const TWO_26: u64 = 67108864;
@@ -67,79 +44,51 @@ fn quadratic(r: u64) -> u64
     ONE + p + p * p / TWO
 }
 
-// E(m / 4096 + p), for d = (m / 4096 + p) * 10^14 below 10^14 / 16 and the entry at m
-fn fine(entry: u64, d: u64) -> u64
-    requires { (entry ≡ get_or middle (d / 24414062500) 0) × (d < 6250000000000) }
-    ensures { (result ≡ fine d) × (2 ^ 40 ≤ result) × (result < 12 * 10 ^ 11) }
+// The entry of the first table at h.
+fn coarse(h: usize) -> u64
+    requires { h < 322 }
+    ensures { (result ≡ get_or coarse h 0) × (result < 64 * 10 ^ 12) }
 {
-    mul_above(entry, quadratic(d % FINE_STEP))
+    COARSE[h]
 }
 
-// E(z) for z below 4.1. The tables are those that `tables` gives.
-pub fn exponential(tables: &ExpTables, x: u64) -> u64
-    requires { (tables.now ≡ entries) × (x < exponent_limit) }
+// The entry of the second table at m.
+fn middle(m: usize) -> u64
+    requires { m < 256 }
+    ensures { (result ≡ get_or middle m 0) × (result < 118 * 10 ^ 10) }
+{
+    MIDDLE[m]
+}
+
+// E(m / 4096 + p), for d = (m / 4096 + p) * 10^14 below 10^14 / 16
+fn fine(d: u64) -> u64
+    requires { d < 6250000000000 }
+    ensures { (result ≡ fine d) × (2 ^ 40 ≤ result) × (result < 12 * 10 ^ 11) }
+{
+    let m = (d / FINE_STEP) as usize;
+    mul_above(middle(m), quadratic(d % FINE_STEP))
+}
+
+// E(z) for z below 4.1.
+pub fn exponential(x: u64) -> u64
+    requires { x < exponent_limit }
     ensures { (result ≡ exponential x) × (result < 2 ^ 46) × WithinAll (2 ^ 40) result (exponential_error x) (λ n. E n (exponent x)) }
 {
     let h = (x / COARSE_STEP) as usize;
-    let d = x % COARSE_STEP;
-    let m = (d / FINE_STEP) as usize;
-    mul_above(tables[h], fine(tables[MIDDLE + m], d))
+    mul_above(coarse(h), fine(x % COARSE_STEP))
 }
 
 // How far 2^40 E(z) can be above what `exponential` gives for the same x
-pub fn exponential_error(tables: &ExpTables, x: u64) -> u64
-    requires { (tables.now ≡ entries) × (x < exponent_limit) }
+pub fn exponential_error(x: u64) -> u64
+    requires { x < exponent_limit }
     ensures { (result ≡ exponential_error x) × (result ≤ 475) }
 {
     let h = (x / COARSE_STEP) as usize;
-    8 * (tables[h] / ONE + 1) + 3
+    8 * (coarse(h) / ONE + 1) + 3
 }
 
-// The entry at a place of the exponentials' tables: a constant, or one of the short exponential, which is made of the constants.
-fn entry(table: &[u64; 578], place: usize) -> u64
-    requires { (table.now ≡ constants) × (place < 1907) }
-    ensures { result ≡ get_or entries place 0 }
-{
-    if place < HIGH {
-        return table[place];
-    }
-    if place < FINEST {
-        return table[place - HIGH] / TWO_13;
-    }
-    let d = (place - FINEST) as u64 * FIVE_14;
-    let m = (d / FINE_STEP) as usize;
-    fine(table[MIDDLE + m], d) / TWO_10
-}
-
-// The word at a place of all tables.
-fn word(table: &[u64; 578], coefficients: &[u64; THETA_WORDS], place: usize) -> u64
-    requires { (table.now ≡ constants) × (coefficients.now ≡ thetas) × (place < 3446) }
-    ensures { result ≡ get_or entries place 0 }
-{
-    if place < THETA {
-        return entry(table, place);
-    }
-    coefficients[place - THETA]
-}
-
-// The two tables of the exponential as a value.
-fn constants() -> [u64; 578]
-    ensures { result ≡ constants }
-{
-    TABLES
-}
-
-// All tables as one value. A call makes it once and passes it by reference: a constant is built anew wherever it is read.
-pub fn tables() -> ExpTables
-    ensures { result ≡ entries }
-{
-    let table = constants();
-    let coefficients = thetas();
-    array::from_fn(|place| word(&table, &coefficients, place))
-}
-
-// just below 2^40 E((h - 256) / 16), for h from 0 to 321; then just below 2^40 E(m / 4096), for m from 0 to 255
-const TABLES: [u64; 578] = [
+// just below 2^40 E((h - 256) / 16), for h from 0 to 321
+static COARSE: [u64; 322] = [
     123733,
     131713,
     140208,
@@ -462,6 +411,10 @@ const TABLES: [u64; 578] = [
     56394188164706,
     60031300816500,
     63902987080796,
+];
+
+// just below 2^40 E(m / 4096), for m from 0 to 255
+static MIDDLE: [u64; 256] = [
     1099511627776,
     1099780096002,
     1100048629781,

@@ -15,7 +15,8 @@ const WEIGHTS: [u64; 48] = [
     352193337, 298107834, 249231025, 205810384, 167868390, 135240582, 107617178,
 ];
 
-// The weights as a value, to be made once: the constant itself would be built anew wherever it is read.
+// The weights as a value, to be made once: the constant itself would be built anew wherever it is read. It is no static, unlike the tables
+// of the exponentials, since the customer's paper asks for a constant.
 pub fn weights_table() -> [u64; 48]
     ensures { result ≡ weights }
 {

@@ -4,7 +4,6 @@
 pub mod exp;
 pub mod fixed;
 pub mod hours;
-pub mod order;
 pub mod power;
 pub mod short;
 pub mod theta;

@@ -1,9 +1,9 @@
 // E at whole exponents from below, as a constant table.
-ghost use Rattle.std.specs.Prelude.{◌≡◌};
+ghost use Rattle.std.specs.Prelude.{◌≡◌, ◌^◌, ◌<◌, get_or};
 ghost use Rattle.bounds.specs.WholeExponents.{far};
 
 // 2^30 E(c) from below, for c from 0 to 14
-const FAR: [u64; 15] = [
+static FAR: [u64; 15] = [
     1073741824,
     2918732888,
     7933938573,
@@ -21,9 +21,10 @@ const FAR: [u64; 15] = [
     1291286512936591,
 ];
 
-// The table as a value, to be made once and passed by reference.
-pub fn far_table() -> [u64; 15]
-    ensures { result ≡ far }
+// 2^30 E(c) from below.
+pub fn far(c: usize) -> u64
+    requires { c < 15 }
+    ensures { (result ≡ get_or far c 0) × (result < 2 ^ 51) }
 {
-    FAR
+    FAR[c]
 }

@@ -1,2 +1,3 @@
 pub mod Through
-pub mod Curves
+pub mod Loads
+pub mod Lines

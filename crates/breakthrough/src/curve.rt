@@ -1,9 +1,7 @@
 // What breaks through a carbon canister of the vapour of a rise, in units of 2^-40 g.
 ghost use Rattle.std.specs.Prelude.{◌≡◌, ◌*◌, ◌-◌, ◌/◌, ◌^◌, ◌<◌, ◌≤◌};
-ghost use Rattle.bounds.specs.Exponential.{entries};
 ghost use Rattle.breakthrough.specs.Through.{CurveReady, exponent_of, through};
 
-use bounds::exp::ExpTables;
 use bounds::fixed::mul_shift;
 use bounds::short::{risen, short};
 
@@ -41,10 +39,10 @@ fn overflow(c: Curve, rise: u64, x: u64) -> u64
 
 // What breaks through of the vapour of a rise.
 #[tactic(auto, unfolding(crate::specs::Through::through))]
-pub fn through(tables: &ExpTables, c: Curve, rise: u64) -> u64
-    requires { (tables.now ≡ entries) × CurveReady c × (rise ≤ 72 * 2 ^ 40) }
+pub fn through(c: Curve, rise: u64) -> u64
+    requires { CurveReady c × (rise ≤ 72 * 2 ^ 40) }
     ensures { result ≡ through c rise }
 {
     let x = risen(c.exponent, c.reach, rise, c.last);
-    (short(tables, x) * TWO_4 + overflow(c, rise, x)).saturating_sub(c.first)
+    (short(x) * TWO_4 + overflow(c, rise, x)).saturating_sub(c.first)
 }

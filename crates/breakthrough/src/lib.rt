@@ -3,5 +3,6 @@
 
 pub mod curve;
 pub mod curves;
+pub mod fitting;
 pub mod loads;
 pub mod losses;

@@ -1,17 +1,16 @@
 // The load of a canister at parking start, and how far what is lost there can be above the computed one.
-ghost use Rattle.std.specs.Prelude.{◌≡◌, ℕ, ◌≤◌};
-ghost use Rattle.bounds.specs.Exponential.{entries};
-ghost use Rattle.numbers.specs.Lists.{tab, at};
+ghost use Rattle.std.specs.Prelude.{◌≡◌, ◌≤◌};
 ghost use Rattle.sheet.specs.Limits.{mileage_limit};
 ghost use Rattle.factors.specs.Escape.{tenth_grams, driven_error};
 ghost use Rattle.factors.specs.Units.{row_start, loss_error};
-ghost use Rattle.breakthrough.specs.Curves.{KeptOf, LoadsReady};
+ghost use Rattle.breakthrough.specs.Loads.{KeptOf, LoadReady};
 
-use bounds::exp::{ExpTables, ONE};
+use bounds::exp::ONE;
 use exact::Row;
 use fields::classes::halves;
-use starting_loads::loads::starts;
+use starting_loads::loads::{Balance, start};
 use starting_loads::mileage::net;
+use thresholds::Mileage;
 
 // From this mileage on a canister is not empty.
 const FIRST_KILOMETRES: u64 = 17;
@@ -20,6 +19,21 @@ const FIRST_KILOMETRES: u64 = 17;
 const WRITTEN_ERROR: u64 = 93010;
 
 const DRIVEN_ERROR: u64 = 192570;
+
+// A row, and what its canister keeps of its load: the mileage alone says it, no season changes it.
+#[derive(Clone, Copy)]
+pub struct LoadedRow {
+    pub row: Row,
+    pub kept: u64,
+    ghost kept_of: { KeptOf row kept },
+}
+
+// a + 16 and 2 b s of a canister at one temperature, in units of 2^-44.
+#[derive(Clone, Copy)]
+pub struct Line {
+    pub base: u64,
+    pub growth: u64,
+}
 
 // Tenths of a gram in units of 2^-40 g, cut.
 #[tactic(auto, unfolding(factors::specs::Escape::tenth_grams))]
@@ -41,9 +55,9 @@ pub fn loss_error(row: Row) -> u64
     }
 }
 
-// What a row's canister keeps of its load, which its mileage says and no season changes; of no account up to 16 km and without canister.
-pub fn kept_of(tables: &ExpTables, row: Row) -> u64
-    requires { (tables.now ≡ entries) × (row.mileage ≤ mileage_limit) }
+// What a row's canister keeps of its load; of no account up to 16 km and without canister.
+pub fn kept_of(row: Row) -> u64
+    requires { row.mileage ≤ mileage_limit }
     ensures { KeptOf row result }
 {
     let canister = row.canister;
@@ -54,22 +68,25 @@ pub fn kept_of(tables: &ExpTables, row: Row) -> u64
     if row.mileage < FIRST_KILOMETRES {
         return 0;
     }
-    net(tables, row.mileage, halves)
+    let mileage = Mileage {
+        kilometres: row.mileage,
+    };
+    net(mileage, halves)
 }
 
-// The load at each distance from 14:00, where a and 2 b s are these: found from the mileage, or written. (Up to 16 km both are 0.)
-pub fn start_loads(
-    tables: &ExpTables,
-    row: Row,
-    kept: u64,
-    bases: &[u64; 25],
-    growths: &[u64; 25],
-) -> [u64; 25]
-    requires { (tables.now ≡ entries) × LoadsReady row bases.now growths.now × KeptOf row kept }
-    ensures { result ≡ tab (λ (d : ℕ). row_start row (at bases.now d) (at growths.now d)) 25 }
+// The load where a and 2 b s are these: found from the mileage, or written. (Up to 16 km both are 0.)
+pub fn start_load(loaded: LoadedRow, line: Line) -> u64
+    requires { LoadReady loaded.row line.base line.growth }
+    ensures { result ≡ row_start loaded.row line.base line.growth }
 {
-    if FIRST_KILOMETRES <= row.mileage {
-        return starts(tables, bases, growths, tenth_grams(row.saturation), kept);
+    let row = loaded.row;
+    if row.mileage < FIRST_KILOMETRES {
+        return tenth_grams(row.load);
     }
-    [tenth_grams(row.load); 25]
+    let balance = Balance {
+        base: line.base,
+        growth: line.growth,
+        saturation: tenth_grams(row.saturation),
+    };
+    start(balance, loaded.kept)
 }

@@ -1,4 +1,5 @@
-// Head and length: numbers 1 to 7.
+// Head and length: numbers 1 to 7. What reads the head asks for the 8 bytes that number 1 shows to be there: a type for them would be no
+// plainer.
 ghost use Rattle.std.specs.Prelude.{◌≡◌, ◌≤◌, length};
 ghost use Rattle.sheet.specs.Sheet.{letters_missing, mark_check, numbers_check, head_check, length_check};
 
@@ -8,7 +9,7 @@ use fields::{
     ROW_BYTES, SEASON_BYTES, has_many_rows, rows_most, rows_of, seasons_of, seasons_start, u8_at,
     version_of,
 };
-use refusals::{Check, Refusal, Rule, refuse};
+use refusals::{Check, Rule, refuse};
 
 // The length of the head.
 const HEAD: usize = 8;
@@ -18,21 +19,15 @@ fn letters_missing(s: &[u8]) -> bool
     requires { 8 ≤ length s.now }
     ensures { result ≡ letters_missing s.now }
 {
-    let mark = b"EVP";
-    !((s[0] == mark[0]) & (s[1] == mark[1]) & (s[2] == mark[2]))
+    !s.starts_with(b"EVP")
 }
 
 // Numbers 1 and 2. The letters are compared before any field is read.
-#[tactic(auto, using(refusals::proofs::Chain::chained), unfolding(sheet::specs::Sheet::mark_check))]
+#[tactic(auto, using(refusals::proofs::Chain::chained, crate::proofs::Reading::shown), unfolding(sheet::specs::Sheet::mark_check))]
 pub fn mark_check(s: &[u8]) -> Check
     ensures { result ≡ mark_check s.now }
 {
-    if s.len() < HEAD {
-        return Err(Refusal {
-            rule: Rule::HeadShort,
-            place: 0,
-        });
-    }
+    refuse(s.len() < HEAD, Rule::HeadShort, 0)?;
     refuse(letters_missing(s), Rule::Mark, 0)
 }
 
@@ -50,7 +45,7 @@ fn numbers_check(s: &[u8]) -> Check
 }
 
 // Numbers 1 to 6.
-#[tactic(auto, using(refusals::proofs::Chain::chained), unfolding(sheet::specs::Sheet::head_check))]
+#[tactic(auto, using(refusals::proofs::Chain::chained, crate::proofs::Reading::shown), unfolding(sheet::specs::Sheet::head_check))]
 pub fn head_check(s: &[u8]) -> Check
     ensures { result ≡ head_check s.now }
 {

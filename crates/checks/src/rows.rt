@@ -8,39 +8,29 @@ ghost use Rattle.refusals.specs.Check.{refuse, ◌then◌, each};
 ghost use Rattle.sheet.specs.Sheet.{is_absent, code_wrong, percent_wrong, load_wrong};
 ghost use Rattle.sheet.specs.Sheet.{saturation_above, some_season, mileage_wrong, row_check};
 ghost use Rattle.sheet.specs.RunningSums.{vehicles_before};
-ghost use Rattle.sheet.specs.Range.{SeasonInRange};
-ghost use Rattle.checks.specs.Passed.{SeasonsPassed};
 
-use exact::{Canister, Equipment, Row, Season};
-use fields::classes::{BY_CLASS, LAST_CODE, halves, no_canister};
+use crate::checked_row::CheckedRow;
+use crate::exponent::Demand;
+use crate::passed_seasons::PassedSeasons;
+use exact::{Canister, Row};
+use fields::classes::{BY_CLASS, LAST_CODE, no_canister};
 use fields::limits::{
     FLEET_LIMIT, MILEAGE_LIMIT, MINUTES_LIMIT, PERCENT_LIMIT, TANK_LIMIT, TRIPS_LIMIT,
     VEHICLES_LIMIT,
 };
-use fields::{
-    equipment_at, has_many_rows, has_mileage, row_at, row_place, rows_of, season_at, seasons_of,
-    u8_at, u16_at, vehicles_of, warmth,
-};
-use refusals::{Check, Rule, refuse};
-
-// The class and technology are not in the table.
-fn is_absent(e: Equipment) -> bool
-    ensures { result ≡ is_absent e }
-{
-    match e {
-        Equipment::Absent => true,
-        Equipment::Fitted(_, _) => false,
-    }
-}
+use fields::{has_many_rows, has_mileage, row_at, row_place, rows_of, vehicles_of};
+use refusals::{Check, Rule};
 
 // A canister code that means nothing.
+#[tactic(auto, unfolding(sheet::specs::Sheet::code_wrong))]
 fn code_wrong(code: u64) -> bool
     ensures { result ≡ code_wrong code }
 {
-    (LAST_CODE < code) & (code != BY_CLASS)
+    !matches!(code, 0..=LAST_CODE | BY_CLASS)
 }
 
 // A share or fill level above 100 percent.
+#[tactic(auto, unfolding(sheet::specs::Sheet::percent_wrong))]
 fn percent_wrong(row: Row) -> bool
     ensures { result ≡ percent_wrong row }
 {
@@ -48,6 +38,7 @@ fn percent_wrong(row: Row) -> bool
 }
 
 // A load above the saturating load, or either of them with no canister. A load equal to it passes.
+#[tactic(auto, unfolding(sheet::specs::Sheet::load_wrong))]
 fn load_wrong(canister: Canister, load: u64, saturation: u64) -> bool
     ensures { result ≡ load_wrong canister load saturation }
 {
@@ -59,146 +50,120 @@ fn load_wrong(canister: Canister, load: u64, saturation: u64) -> bool
     }
 }
 
-// In one season: at its highest temperature, a + b·s·m above the limit, for m tenths of a gram.
-// At h tenths above −30 °C, 20000000·a is 130000·h − 2000·(129500 + 15·vp), and 1000000·b is 112000 + 10·h − 15·vp.
-// Without a canister s is 0, and a alone is below 0.
-fn saturation_above(limit: u64, canister: Canister, m: u64, season: Season) -> bool
-    requires { SeasonInRange season × (limit ≤ 3) × (m < 65536) }
-    ensures { result ≡ saturation_above limit canister m season }
-{
-    let highest = warmth(season.highest);
-    let b = 112000 + 10 * highest - 15 * season.vp;
-    let most = limit * 20000000 + 2000 * (129500 + 15 * season.vp);
-    most < b * halves(canister) * m + 130000 * highest
-}
-
-// In some season.
-fn saturated(s: &[u8], limit: u64, canister: Canister, saturation: u64) -> bool
-    requires { SeasonsPassed s.now × (limit ≤ 3) × (saturation < 65536) }
-    ensures { result ≡ some_season (saturation_above limit canister saturation) s.now (seasons_of s.now) }
-{
-    let mut wrong = false;
-    for i in 0..seasons_of(s) {
-        wrong = wrong | saturation_above(limit, canister, saturation, season_at(s, i));
+#[tactic(auto, using(refusals::proofs::Chain::chained))]
+impl CheckedRow<'_> {
+    // A mileage above the limit, or one with no canister, beside a load, or where a + b·s·m_sat is above 0 in some season.
+    #[tactic(auto, unfolding(sheet::specs::Sheet::mileage_wrong))]
+    fn mileage_wrong(self) -> bool
+        ensures { result ≡ mileage_wrong self.entry.seasons.sheet.now self.entry.row }
+    {
+        let row = self.row;
+        let none = no_canister(row.canister);
+        let above = self
+            .saturation()
+            .is_above_in_some(Demand::WithMileage, self.seasons);
+        (MILEAGE_LIMIT < row.mileage) | ((1 <= row.mileage) & (none | (row.load != 0) | above))
     }
-    wrong
-}
 
-// A mileage above the limit, or one with no canister, beside a load, or where a + b·s·m_sat is above 0 in some season.
-fn mileage_wrong(s: &[u8], row: Row) -> bool
-    requires { SeasonsPassed s.now × (row.saturation < 65536) }
-    ensures { result ≡ mileage_wrong s.now row }
-{
-    let canister = row.canister;
-    let none = no_canister(canister);
-    let above = saturated(s, 0, canister, row.saturation);
-    (MILEAGE_LIMIT < row.mileage) | ((1 <= row.mileage) & (none | (row.load != 0) | above))
-}
-
-// Numbers 13 to 15 of the row that starts at p.
-#[tactic(auto, using(refusals::proofs::Chain::chained))]
-fn class_check(s: &[u8], row: Row, p: usize) -> Check
-    requires { p + 24 ≤ length s.now }
-    ensures { result ≡ (
-        refuse (is_absent (equipment_at s.now p)) Rule.Class p then
-        refuse (code_wrong (u8_at s.now (p + 2))) Rule.CanisterCode p then
-        refuse (percent_wrong row) Rule.Percent p) }
-{
-    let place = p as u64;
-    refuse(is_absent(equipment_at(s, p)), Rule::Class, place)?;
-    refuse(code_wrong(u8_at(s, p + 2)), Rule::CanisterCode, place)?;
-    refuse(percent_wrong(row), Rule::Percent, place)
-}
-
-// Numbers 16 and 26, after so many vehicles in the rows before.
-#[tactic(auto, using(refusals::proofs::Chain::chained))]
-fn fleet_check(s: &[u8], vehicles: u64, before: u64, p: usize) -> Check
-    requires { (8 ≤ length s.now) × (vehicles < 2 ^ 32) × (before < 2 ^ 62) }
-    ensures { result ≡ (
-        refuse (ltb vehicles_limit vehicles) Rule.Vehicles p then
-        refuse (has_many_rows s.now && ltb fleet_limit (before + vehicles)) Rule.Fleet p) }
-{
-    let place = p as u64;
-    let exceeded = has_many_rows(s) & (FLEET_LIMIT < before + vehicles);
-    refuse(VEHICLES_LIMIT < vehicles, Rule::Vehicles, place)?;
-    refuse(exceeded, Rule::Fleet, place)
-}
-
-// Numbers 17 and 18.
-#[tactic(auto, using(refusals::proofs::Chain::chained))]
-fn use_check(s: &[u8], row: Row, p: usize) -> Check
-    requires { p + 24 ≤ length s.now }
-    ensures { result ≡ (
-        refuse (ltb tank_limit (u16_at s.now (p + 6))) Rule.Tank p then
-        refuse (ltb trips_limit row.trips || ltb minutes_limit row.minutes) Rule.Trips p) }
-{
-    let place = p as u64;
-    let driving = (TRIPS_LIMIT < row.trips) | (MINUTES_LIMIT < row.minutes);
-    refuse(TANK_LIMIT < u16_at(s, p + 6), Rule::Tank, place)?;
-    refuse(driving, Rule::Trips, place)
-}
-
-// Numbers 19 and 20.
-#[tactic(auto, using(refusals::proofs::Chain::chained))]
-fn load_check(s: &[u8], row: Row, p: usize) -> Check
-    requires { SeasonsPassed s.now × (row.saturation < 65536) }
-    ensures { result ≡ (
-        refuse (load_wrong row.canister row.load row.saturation) Rule.Load p then
-        refuse (some_season (saturation_above 3 row.canister row.saturation) s.now (seasons_of s.now)) Rule.Exponent p) }
-{
-    let place = p as u64;
-    let canister = row.canister;
-    refuse(
-        load_wrong(canister, row.load, row.saturation),
-        Rule::Load,
-        place,
-    )?;
-    refuse(
-        saturated(s, 3, canister, row.saturation),
-        Rule::Exponent,
-        place,
-    )
-}
-
-// Number 21, or 25 in its place.
-fn mileage_check(s: &[u8], row: Row, p: usize) -> Check
-    requires { SeasonsPassed s.now × (row.saturation < 65536) }
-    ensures { result ≡ (
-        refuse (not (has_mileage s.now) && not (eqb row.mileage 0)) Rule.RowZeros p then
-        refuse (has_mileage s.now && mileage_wrong s.now row) Rule.Mileage p) }
-{
-    let place = p as u64;
-    if has_mileage(s) {
-        return refuse(mileage_wrong(s, row), Rule::Mileage, place);
+    // Numbers 13 to 15.
+    fn class_check(self) -> Check
+        ensures { let s = self.entry.seasons.sheet.now in let row = self.entry.row in let p = self.entry.start in
+            result ≡ (
+            refuse (is_absent (equipment_at s p)) Rule.Class p then
+            refuse (code_wrong (u8_at s (p + 2))) Rule.CanisterCode p then
+            refuse (percent_wrong row) Rule.Percent p) }
+    {
+        self.refuse(self.is_absent(), Rule::Class)?;
+        self.refuse(code_wrong(self.bytes().code()), Rule::CanisterCode)?;
+        self.refuse(percent_wrong(self.row), Rule::Percent)
     }
-    refuse(row.mileage != 0, Rule::RowZeros, place)
+
+    // Numbers 16 and 26, after so many vehicles in the rows before.
+    fn fleet_check(self, before: u64) -> Check
+        ensures { let s = self.entry.seasons.sheet.now in let row = self.entry.row in let p = self.entry.start in
+            result ≡ (
+            refuse (ltb vehicles_limit row.vehicles) Rule.Vehicles p then
+            refuse (has_many_rows s && ltb fleet_limit (before + row.vehicles)) Rule.Fleet p) }
+    {
+        let fleet = before.saturating_add(self.row.vehicles);
+        let exceeded = has_many_rows(self.seasons.sheet) & (FLEET_LIMIT < fleet);
+        self.refuse(VEHICLES_LIMIT < self.row.vehicles, Rule::Vehicles)?;
+        self.refuse(exceeded, Rule::Fleet)
+    }
+
+    // Numbers 17 and 18.
+    fn use_check(self) -> Check
+        ensures { let s = self.entry.seasons.sheet.now in let row = self.entry.row in let p = self.entry.start in
+            result ≡ (
+            refuse (ltb tank_limit (u16_at s (p + 6))) Rule.Tank p then
+            refuse (ltb trips_limit row.trips || ltb minutes_limit row.minutes) Rule.Trips p) }
+    {
+        let driving = (TRIPS_LIMIT < self.row.trips) | (MINUTES_LIMIT < self.row.minutes);
+        self.refuse(TANK_LIMIT < self.bytes().written_tank(), Rule::Tank)?;
+        self.refuse(driving, Rule::Trips)
+    }
+
+    // Numbers 19 and 20.
+    fn load_check(self) -> Check
+        ensures { let s = self.entry.seasons.sheet.now in let row = self.entry.row in let p = self.entry.start in
+            result ≡ (
+            refuse (load_wrong row.canister row.load row.saturation) Rule.Load p then
+            refuse (some_season (saturation_above 3 row.canister row.saturation) s (seasons_of s)) Rule.Exponent p) }
+    {
+        let row = self.row;
+        self.refuse(
+            load_wrong(row.canister, row.load, row.saturation),
+            Rule::Load,
+        )?;
+        self.refuse(
+            self.saturation()
+                .is_above_in_some(Demand::EveryRow, self.seasons),
+            Rule::Exponent,
+        )
+    }
+
+    // Number 21, or 25 in its place.
+    fn mileage_check(self) -> Check
+        ensures { let s = self.entry.seasons.sheet.now in let row = self.entry.row in let p = self.entry.start in
+            result ≡ (
+            refuse (not (has_mileage s) && not (eqb row.mileage 0)) Rule.RowZeros p then
+            refuse (has_mileage s && mileage_wrong s row) Rule.Mileage p) }
+    {
+        if has_mileage(self.seasons.sheet) {
+            return self.refuse(self.mileage_wrong(), Rule::Mileage);
+        }
+        self.refuse(self.row.mileage != 0, Rule::RowZeros)
+    }
 }
 
 // Row i, after so many vehicles in the rows before.
 #[tactic(auto, using(refusals::proofs::Chain::chained, sheet::proofs::Stages::row_stages))]
-fn row_check(s: &[u8], i: usize, before: u64) -> Check
-    requires { SeasonsPassed s.now × (row_place s.now i + 24 ≤ length s.now) × (before ≡ vehicles_before s.now i) × (before < 2 ^ 62) }
-    ensures { result ≡ row_check s.now i }
+fn row_check(seasons: PassedSeasons, i: usize, before: u64) -> Check
+    requires { (row_place seasons.sheet.now i + 24 ≤ length seasons.sheet.now) × (before ≡ vehicles_before seasons.sheet.now i) }
+    ensures { result ≡ row_check seasons.entry.sheet.now i }
 {
-    let row = row_at(s, i);
-    let p = row_place(s, i);
-    class_check(s, row, p)?;
-    fleet_check(s, row.vehicles, before, p)?;
-    use_check(s, row, p)?;
-    load_check(s, row, p)?;
-    mileage_check(s, row, p)
+    let row = CheckedRow {
+        seasons,
+        start: row_place(seasons.sheet, i),
+        row: row_at(seasons.sheet, i),
+    };
+    row.class_check()?;
+    row.fleet_check(before)?;
+    row.use_check()?;
+    row.load_check()?;
+    row.mileage_check()
 }
 
-// The rows one after another.
-#[tactic(auto, using(refusals::proofs::Chain::chained))]
-pub fn rows_check(s: &[u8]) -> Check
-    requires { SeasonsPassed s.now × (row_place s.now (rows_of s.now) ≤ length s.now) }
-    ensures { result ≡ each (row_check s.now) (rows_of s.now) }
+// The rows one after another, with the vehicles before each. An iterator with that sum would be written for this loop alone.
+#[tactic(auto, using(refusals::proofs::Chain::chained, crate::proofs::Reading::of_seasons, crate::proofs::OneMore::rows_on))]
+pub fn rows_check(seasons: PassedSeasons) -> Check
+    requires { row_place seasons.sheet.now (rows_of seasons.sheet.now) ≤ length seasons.sheet.now }
+    ensures { result ≡ each (row_check seasons.entry.sheet.now) (rows_of seasons.entry.sheet.now) }
 {
     let mut before: u64 = 0;
-    for i in 0..rows_of(s) {
-        row_check(s, i, before)?;
-        before += vehicles_of(s, i);
+    for i in 0..rows_of(seasons.sheet) {
+        row_check(seasons, i, before)?;
+        before += vehicles_of(seasons.sheet, i);
     }
     Ok(())
 }

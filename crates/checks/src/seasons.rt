@@ -1,16 +1,17 @@
 // Each season: numbers 10 to 12.
-ghost use Rattle.std.specs.Prelude.{◌≡◌, ◌+◌, ◌<◌, ◌≤◌, length};
+ghost use Rattle.std.specs.Prelude.{◌≡◌, ◌+◌, ◌<◌, ◌≤◌, MatchResult, length};
 ghost use Rattle.sheet.specs.Limits.{days_limit};
 ghost use Rattle.sheet.specs.Bytes.{seasons_of, season_place, row_place};
 ghost use Rattle.refusals.specs.Check.{each};
 ghost use Rattle.sheet.specs.Sheet.{temperatures_wrong, season_check};
 ghost use Rattle.sheet.specs.RunningSums.{days_before};
 
+use crate::passed_seasons::PassedSeasons;
 use exact::Season;
 use fields::limits::{COLD_LIMIT, DAYS_LIMIT, VP_LEAST, VP_LIMIT, WARM_LIMIT};
 use fields::range::outside;
 use fields::{season_at, season_place, seasons_of, warmth};
-use refusals::{Check, Rule, refuse};
+use refusals::{Check, Refusal, Rule, refuse};
 
 // The temperatures are out of range or the wrong way round. A lowest that is not above the highest is in range where that is.
 fn temperatures_wrong(season: Season) -> bool
@@ -40,16 +41,17 @@ fn season_check(s: &[u8], i: usize, before: u64) -> Check
     )
 }
 
-// The seasons one after another, with their running sum of days.
-#[tactic(auto, using(refusals::proofs::Chain::chained))]
-pub fn seasons_check(s: &[u8]) -> Check
+// The seasons one after another, with their running sum of days: the sheet with the word that they have passed, or the first refusal.
+// An iterator with the sum before each would be written for this loop alone.
+#[tactic(auto, using(refusals::proofs::Chain::chained, sheet::proofs::Versions::start_between, crate::proofs::OneMore::seasons_on))]
+pub fn seasons_check(s: &[u8]) -> Result<PassedSeasons<'_>, Refusal>
     requires { row_place s.now 0 ≤ length s.now }
-    ensures { result ≡ each (season_check s.now) (seasons_of s.now) }
+    ensures { MatchResult result (λ seasons. seasons.sheet.now ≡ s.now) (λ refusal. each (season_check s.now) (seasons_of s.now) ≡ Err refusal) }
 {
     let mut before: u64 = 0;
     for i in 0..seasons_of(s) {
         season_check(s, i, before)?;
         before += season_at(s, i).days;
     }
-    Ok(())
+    Ok(PassedSeasons { sheet: s })
 }

@@ -2,15 +2,13 @@
 ghost use Rattle.boundary.specs.Bulk.{RowFactorsNumbers, FactorsNumbers, SeasonsNumbers};
 
 use boundary::{EvpCheck, EvpRowFactors};
-use boundary_calls::bulk::row_factors_numbers;
-use boundary_calls::check_numbers;
 
 // All seven factors of a season and a row.
 #[unsafe(no_mangle)]
 pub extern "C" fn evp_row_factors(sheet: &[u8], season: u64, row: u64) -> EvpRowFactors
     ensures { RowFactorsNumbers sheet.now season row result }
 {
-    row_factors_numbers(factor_table::row_factors(sheet, season, row))
+    EvpRowFactors::from(factor_table::row_factors(sheet, season, row))
 }
 
 // All factors of a sheet.
@@ -18,7 +16,7 @@ pub extern "C" fn evp_row_factors(sheet: &[u8], season: u64, row: u64) -> EvpRow
 pub extern "C" fn evp_factors(sheet: &[u8], words: &mut [u64]) -> EvpCheck
     ensures { FactorsNumbers sheet.now words.old words.new result }
 {
-    check_numbers(factor_table::table::factors(sheet, words))
+    EvpCheck::from(factor_table::table::factors(sheet, words))
 }
 
 // The report of each season.
@@ -26,5 +24,5 @@ pub extern "C" fn evp_factors(sheet: &[u8], words: &mut [u64]) -> EvpCheck
 pub extern "C" fn evp_report_seasons(sheet: &[u8], words: &mut [u64]) -> EvpCheck
     ensures { SeasonsNumbers sheet.now words.old words.new result }
 {
-    check_numbers(season_report::report_seasons(sheet, words))
+    EvpCheck::from(season_report::report_seasons(sheet, words))
 }

@@ -2,13 +2,12 @@
 ghost use Rattle.boundary.specs.MarkExport.{MarkNumbers};
 
 use boundary::{EvpFiled, EvpVerdict};
-use boundary_calls::filed::{mark_in, unit_handed, verdict_numbers};
+use boundary_calls::filed::mark_in;
 
 // The mark of a filed figure against a band from low to high milligrams.
 #[unsafe(no_mangle)]
 pub extern "C" fn evp_mark(filed: EvpFiled, low: u64, high: u64) -> EvpVerdict
     ensures { MarkNumbers filed low high result }
 {
-    let unit = unit_handed(filed.unit);
-    verdict_numbers(mark_in(filed.digits, filed.places, unit, low, high))
+    EvpVerdict::from(mark_in(filed, low, high))
 }

@@ -1,5 +1,5 @@
 // The calls for a program in another language. A slice is passed as a pointer and a length. Their answers are declared in the crate
-// boundary, and made of those in Rattle by boundary_calls.
+// boundary, and made there of those in Rattle.
 #![tactic(auto)]
 
 ghost use Rattle.std.specs.Prelude.{◌≡◌};
@@ -8,7 +8,6 @@ ghost use Rattle.boundary.specs.TextExport.{TextNumbers};
 ghost use Rattle.boundary.specs.Version.{library_version};
 
 use boundary::{EvpCheck, EvpFactor, EvpText};
-use boundary_calls::{check_numbers, factor_numbers, text_numbers};
 use inventory::check::report_check;
 
 pub mod bulk;
@@ -37,7 +36,7 @@ pub extern "C" fn evp_library_version() -> u64
 pub extern "C" fn evp_factor(sheet: &[u8], season: u64, row: u64, factor: u64) -> EvpFactor
     ensures { FactorNumbers sheet.now season row factor result }
 {
-    factor_numbers(inventory::factor(sheet, season, row, factor))
+    EvpFactor::from(inventory::factor(sheet, season, row, factor))
 }
 
 // The report call.
@@ -45,7 +44,7 @@ pub extern "C" fn evp_factor(sheet: &[u8], season: u64, row: u64, factor: u64) -
 pub extern "C" fn evp_report(sheet: &[u8], words: &mut [u64]) -> EvpCheck
     ensures { ReportNumbers sheet.now words.old words.new result }
 {
-    check_numbers(inventory::report(sheet, words))
+    EvpCheck::from(inventory::report(sheet, words))
 }
 
 // The report as a text. It answers whether the text is a report, and its length; it is written only where it fits.
@@ -54,5 +53,6 @@ pub extern "C" fn evp_text(sheet: &[u8], words: &mut [u64], text: &mut [u8]) -> 
     ensures { TextNumbers sheet.now words.old words.new text.old text.new result }
 {
     let check = report_check(sheet, words.len());
-    text_numbers(check, report_text::report_text(sheet, words, text))
+    let written = report_text::report_text(sheet, words, text);
+    EvpText::from((check, report_text::length_of(written)))
 }

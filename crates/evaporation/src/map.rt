@@ -2,9 +2,7 @@
 ghost use Rattle.boundary.specs.Cells.{RowCellsNumbers, CellSumNumbers};
 
 use boundary::{EvpCell, EvpCellSum, EvpRowCells, EvpTravel};
-use boundary_calls::map::{
-    cell_handed, handed_row, handed_sum, row_numbers, sum_numbers, travel_handed,
-};
+use boundary_calls::map::{handed_row, handed_sum};
 use map_shares::Words;
 
 // The urban, rural and highway cells of a row.
@@ -12,7 +10,7 @@ use map_shares::Words;
 pub extern "C" fn evp_cells_of_row(words: Words, travel: EvpTravel) -> EvpRowCells
     ensures { RowCellsNumbers words travel result }
 {
-    row_numbers(handed_row(words, travel_handed(travel)))
+    EvpRowCells::from(handed_row(words, travel))
 }
 
 // The sum of two cells.
@@ -20,5 +18,5 @@ pub extern "C" fn evp_cells_of_row(words: Words, travel: EvpTravel) -> EvpRowCel
 pub extern "C" fn evp_add_cells(a: EvpCell, b: EvpCell) -> EvpCellSum
     ensures { CellSumNumbers a b result }
 {
-    sum_numbers(handed_sum(cell_handed(a), cell_handed(b)))
+    EvpCellSum::from(handed_sum(a, b))
 }

@@ -3,7 +3,7 @@ ghost use Rattle.ledger.specs.declared.Call.TheVariants.{Arrival, Departure};
 ghost use Rattle.boundary.specs.Change.{ChangeNumbers};
 
 use boundary::EvpCheck;
-use boundary_calls::check_numbers;
+use ledger::Call;
 
 // Vehicles arrive at a row, counted from 0.
 #[unsafe(no_mangle)]
@@ -15,7 +15,7 @@ pub extern "C" fn evp_arrive(
 ) -> EvpCheck
     ensures { ChangeNumbers sheet.old words.old (Arrival row vehicles) sheet.new words.new result }
 {
-    check_numbers(ledger_calls::arrive(sheet, words, row, vehicles))
+    EvpCheck::from(ledger_calls::change(sheet, words, Call::Arrival(row, vehicles)))
 }
 
 // Vehicles depart from it.
@@ -28,5 +28,5 @@ pub extern "C" fn evp_depart(
 ) -> EvpCheck
     ensures { ChangeNumbers sheet.old words.old (Departure row vehicles) sheet.new words.new result }
 {
-    check_numbers(ledger_calls::depart(sheet, words, row, vehicles))
+    EvpCheck::from(ledger_calls::change(sheet, words, Call::Departure(row, vehicles)))
 }

@@ -3,15 +3,16 @@ ghost use Rattle.ledger.specs.declared.Call.TheVariants.{Arrival, Departure};
 ghost use Rattle.boundary.specs.Shared.{OpenNumbers, SharedNumbers, RowNumbers, TotalsNumbers};
 
 use boundary::{EvpCheck, EvpRow, EvpTotals};
-use boundary_calls::check_numbers;
-use boundary_calls::shared::{row_numbers, totals_numbers};
+use ledger::Call;
+use shared_ledger::Caller;
+use shared_ledger_calls::SharedLedger;
 
 // The ledger is opened with its owners, one byte a row.
 #[unsafe(no_mangle)]
 pub extern "C" fn evp_shared_open(sheet: &[u8], owners: &[u8], words: &mut [u64]) -> EvpCheck
     ensures { OpenNumbers sheet.now owners.now words.old words.new result }
 {
-    check_numbers(shared_ledger_calls::open(sheet, owners, words))
+    EvpCheck::from(shared_ledger_calls::open(sheet, owners, words))
 }
 
 // Vehicles arrive at a row, counted from 0, where its owner calls.
@@ -27,7 +28,8 @@ pub extern "C" fn evp_shared_arrive(
     ensures { SharedNumbers sheet.old owners.now words.old who (Arrival row vehicles)
         sheet.new words.new result }
 {
-    check_numbers(shared_ledger_calls::arrive(sheet, owners, words, who, row, vehicles))
+    let arrival = Call::Arrival(row, vehicles);
+    EvpCheck::from(shared_ledger_calls::change(sheet, owners, words, Caller::from(who), arrival))
 }
 
 // Vehicles depart from it.
@@ -43,7 +45,8 @@ pub extern "C" fn evp_shared_depart(
     ensures { SharedNumbers sheet.old owners.now words.old who (Departure row vehicles)
         sheet.new words.new result }
 {
-    check_numbers(shared_ledger_calls::depart(sheet, owners, words, who, row, vehicles))
+    let departure = Call::Departure(row, vehicles);
+    EvpCheck::from(shared_ledger_calls::change(sheet, owners, words, Caller::from(who), departure))
 }
 
 // A row's count and six words.
@@ -57,7 +60,12 @@ pub extern "C" fn evp_shared_row(
 ) -> EvpRow
     ensures { RowNumbers sheet.now owners.now words.now who row result }
 {
-    row_numbers(shared_ledger_calls::read_row(sheet, owners, words, who, row))
+    let ledger = SharedLedger {
+        sheet,
+        owners,
+        words,
+    };
+    EvpRow::from(ledger.read_row(Caller::from(who), row))
 }
 
 // The 26 words after the rows.
@@ -70,5 +78,10 @@ pub extern "C" fn evp_shared_totals(
 ) -> EvpTotals
     ensures { TotalsNumbers sheet.now owners.now words.now who result }
 {
-    totals_numbers(shared_ledger_calls::read_totals(sheet, owners, words, who))
+    let ledger = SharedLedger {
+        sheet,
+        owners,
+        words,
+    };
+    EvpTotals::from(ledger.read_totals(Caller::from(who)))
 }

@@ -2,7 +2,6 @@
 ghost use Rattle.boundary.specs.SheetExport.{SheetNumbers, WordsCounted};
 
 use boundary::EvpCheck;
-use boundary_calls::check_numbers;
 use boundary_calls::sheets::report_words;
 use checks::check_sheet;
 
@@ -11,7 +10,7 @@ use checks::check_sheet;
 pub extern "C" fn evp_check_sheet(sheet: &[u8]) -> EvpCheck
     ensures { SheetNumbers sheet.now result }
 {
-    check_numbers(check_sheet(sheet))
+    EvpCheck::from(check_sheet(sheet))
 }
 
 // How many words its report has.

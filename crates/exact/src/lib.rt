@@ -10,11 +10,11 @@ pub enum Canister {
     Large,
 }
 
-// What a class and technology stand for in Table 3-11: no such pair, or a canister and a tank in tenths of a litre.
+// What a class and technology of Table 3-11 are fitted with: a canister, and a tank in tenths of a litre.
 #[derive(Clone, Copy)]
-pub enum Equipment {
-    Absent,
-    Fitted(Canister, u64),
+pub struct Fitted {
+    pub canister: Canister,
+    pub tank: u64,
 }
 
 // One season.

@@ -2,12 +2,12 @@
 #![tactic(auto)]
 
 ghost use Rattle.std.specs.Prelude.{◌≡◌};
-ghost use Rattle.findings.specs.Table.{finding_of};
+ghost use Rattle.findings.specs.Table.{table, finding_of};
 ghost use Rattle.findings.specs.Meaning.{Explains};
 
 use crate::head::{length_finding, mark_finding, numbers_finding};
 use crate::parking::parking_finding;
-use findings::Finding;
+use findings::{Finding, Judged};
 use row_findings::rows_finding;
 use season_findings::seasons_finding;
 
@@ -15,29 +15,15 @@ mod head;
 mod parking;
 
 // The stages one after another. Each reads only what the stages before it showed to be there.
-fn stages(s: &[u8]) -> Finding
-    ensures { result ≡ finding_of s.now }
+#[tactic(auto, using(findings::proofs::Steps::in_order), unfolding(findings::specs::Table::table))]
+fn stages(s: &[u8]) -> Judged
+    ensures { result ≡ table s.now }
 {
-    let mark = mark_finding(s);
-    if mark.number != 0 {
-        return mark;
-    }
-    let numbers = numbers_finding(s);
-    if numbers.number != 0 {
-        return numbers;
-    }
-    let length = length_finding(s);
-    if length.number != 0 {
-        return length;
-    }
-    let parking = parking_finding(s);
-    if parking.number != 0 {
-        return parking;
-    }
-    let seasons = seasons_finding(s);
-    if seasons.number != 0 {
-        return seasons;
-    }
+    mark_finding(s)?;
+    numbers_finding(s)?;
+    length_finding(s)?;
+    parking_finding(s)?;
+    seasons_finding(s)?;
     rows_finding(s)
 }
 
@@ -45,5 +31,8 @@ fn stages(s: &[u8]) -> Finding
 pub fn explain(s: &[u8]) -> Finding
     ensures { (result ≡ finding_of s.now) × Explains s.now result }
 {
-    stages(s)
+    match stages(s) {
+        Ok(()) => Finding::default(),
+        Err(found) => Finding::from(found),
+    }
 }

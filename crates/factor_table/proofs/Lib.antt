@@ -1,4 +1,5 @@
 pub mod Pairs
+pub mod RowBands
 pub mod RowPromise
 pub mod SheetTable
 pub mod TablePromise

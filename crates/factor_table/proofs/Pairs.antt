@@ -1,11 +1,10 @@
 -- The 14 words of a season and row: each pair is the band that the factor call answers.
-use mathlib.Core.List.{List, ◌++◌, append-nil}
+use mathlib.Core.List.{List}
 use mathlib.Core.Path.{◌≡◌, refl, sym, ◌∙◌, ap}
 use Prim.Native.Nat.{ℕ, suc, zero, ◌+◌, ◌*◌, ◌-◌, ◌/◌, ◌%◌, ◌≤◌, ◌<◌}
 use native.Mathlib.Omega.{arith}
 use borrow.Author.Tests.{le-ltb}
-use lib.ListN.{length, get_or, drop_of_length-le}
-use lib.Seq.{sets, sets-eq}
+use lib.ListN.{length, get_or}
 use Rattle.numbers.specs.Lists.{tab, at}
 use Rattle.numbers.proofs.Lists.{tab-length, get_d-tab, tab-ext}
 use Rattle.factors.specs.Units.{low_micrograms, high_micrograms}
@@ -54,15 +53,6 @@ module _ (s : List ℕ) (season row : ℕ) where
   pub bands-length : length (band_words s season row) ≡ 14
   unfolding band_words
   bands-length = tab-length _ 14
-
-  -- stored in an array of that size
-  pub bands-stored : {units : List ℕ} (old : List ℕ) → units ≡ seven_units (season_at s season) (row_at s row) (cells_of s) → length old ≡ 14
-      → sets old 0 (tab (band_of units) 14) ≡ band_words s season row
-  bands-stored {units} old e long =
-      let size = tab-length (band_of units) 14 in
-      sets-eq (tab (band_of units) 14) old 0 (omega arith) ∙
-      ap (λ (r : List ℕ). tab (band_of units) 14 ++ r) (drop_of_length-le old {i = 0 + length (tab (band_of units) 14)} (omega arith)) ∙
-      append-nil (tab (band_of units) 14) ∙ bands-are e
 
   -- the low and the high of factor k
   module _ (k : ℕ) (least : 1 ≤ k) (most : k ≤ 7) where

@@ -2,61 +2,79 @@
 use Rattle.std.proofs.Common.{Ok, Err}
 use mathlib.Core.List.{List}
 use mathlib.Core.Path.{◌≡◌, refl, ◌∙◌}
-use Prim.Native.Nat.{ℕ, ◌≤◌}
+use Prim.Native.Nat.{ℕ, suc, zero, ◌≤◌}
 use native.Mathlib.Omega.{arith}
-use lib.ListN.{replicate}
-use Rattle.numbers.specs.Lists.{at}
 use Rattle.refusals.specs.declared.Refusal.{Refusal}
-use Rattle.refusals.specs.Check.{Check, Pass, number_of}
+use Rattle.refusals.specs.Check.{Check, Pass, number_of, place_of}
 use Rattle.sheet.proofs.Accepted.{Bytes}
-use Rattle.inventory.specs.FactorAnswers.{factor_answer}
-use Rattle.inventory.specs.FactorBand.{FactorBand}
+use Rattle.inventory.specs.declared.Band.{Band}
+use Rattle.inventory.specs.FactorAnswers.{units_at, factor_answer}
+use Rattle.inventory.specs.FactorBand.{FactorBand, answer_low, answer_high}
 use Rattle.inventory.proofs.CallConditions.{factor-says}
-use Rattle.refusals.proofs.Numbers.{zero-passes}
-use Rattle.inventory.proofs.FactorPromise.{refusal_is}
-use Rattle.factor_table.specs.declared.RowFactors.{RowFactors}
-use Rattle.factor_table.specs.RowFactors.{band_words, low_place, high_place, row_check, row_answered, row_answer, one_of, RowFactorsCall}
-use Rattle.factor_table.proofs.Pairs.{check-same, band-same, band-holds}
+use Rattle.inventory.proofs.FactorPromise.{band-is, promised, refusal_is}
+use Rattle.factor_table.specs.RowFactors.{band, row_bands, band_at, RowFactors, row_check, row_answered, row_answer, one_of, RowFactorsCall}
+use Rattle.factor_table.proofs.Pairs.{check-same}
+
+-- the band of factor k is its low and high
+band-at : (s : List ℕ) (season row k : ℕ) → 1 ≤ k → k ≤ 7 → band_at (row_bands s season row) k ≡ band (units_at s season row k)
+unfolding row_bands
+band-at s season row zero l m = absurd (omega arith)
+band-at s season row (suc zero) l m = refl
+band-at s season row (suc (suc zero)) l m = refl
+band-at s season row (suc (suc (suc zero))) l m = refl
+band-at s season row (suc (suc (suc (suc zero)))) l m = refl
+band-at s season row (suc (suc (suc (suc (suc zero))))) l m = refl
+band-at s season row (suc (suc (suc (suc (suc (suc zero)))))) l m = refl
+band-at s season row (suc (suc (suc (suc (suc (suc (suc zero))))))) l m = refl
+band-at s season row (suc (suc (suc (suc (suc (suc (suc (suc k)))))))) l m = absurd (omega arith)
+
+-- the number and the place of either outcome
+numbers-same : (c : Check) (bands : List Band) → (number_of (row_answered c bands) ≡ number_of c) × (place_of (row_answered c bands) ≡ place_of c)
+unfolding row_answered number_of place_of
+numbers-same (Ok _) bands = (refl, refl)
+numbers-same (Err refusal) bands = (refl, refl)
 
 module _ (s : List ℕ) (season row : ℕ) (bytes : Bytes s) where
+  module _ (k : ℕ) (least : 1 ≤ k) (most : k ≤ 7) (passed : row_check s season row ≡ Pass) where
+    -- the factor call answers this band
+    band-same : Ok (band_at (row_bands s season row) k) ≡ factor_answer s season row k
+    band-same =
+        rw (band-at s season row k least most)
+        (band-is s season row k bytes (check-same s season row k least most ∙ passed) refl refl refl)
+
+    -- and promises this of it
+    band-holds : FactorBand s season row k (band_at (row_bands s season row) k).low (band_at (row_bands s season row) k).high
+    unfolding number_of answer_low answer_high
+    band-holds = (promised s season row k bytes band-same).band refl
+
   -- for either outcome of the checks
-  kept : (c : Check) → row_check s season row ≡ c → {r : RowFactors} → r ≡ row_answered c (band_words s season row)
-      → (number_of r.check ≡ 0 → (k : ℕ) → 1 ≤ k → k ≤ 7 → FactorBand s season row k (at r.bands (low_place k)) (at r.bands (high_place k)))
-      × ((k : ℕ) → 1 ≤ k → k ≤ 7
-      → one_of r.check (at r.bands (low_place k)) (at r.bands (high_place k)) ≡ factor_answer s season row k)
-      × (r.check ≡ c)
-  unfolding row_answered one_of number_of
-  kept (Ok _) h e =
-      rw e (
-        λ _ k l m. band-holds s season row k l m bytes h,
-        λ k l m. band-same s season row k l m bytes h,
-        refl,
-      )
-  kept (Err refusal) h e =
-      rw e (
-        λ zero.
-            let passed : row_check s season row ≡ Pass =
-            zero-passes (row_check s season row) (rw h zero) in
-            let clash : ◌≡◌ {A = ℕ} 0 1 = cc in
-            absurd (omega arith),
-        λ k l m. refusal_is s season row k bytes (check-same s season row k l m ∙ h),
-        refl,
-      )
+  kept : (c : Check) → row_check s season row ≡ c → {r : RowFactors} → r ≡ row_answered c (row_bands s season row)
+      → ((v : List Band) → r ≡ Ok v → (k : ℕ) → 1 ≤ k → k ≤ 7 → FactorBand s season row k (band_at v k).low (band_at v k).high)
+      × ((k : ℕ) → 1 ≤ k → k ≤ 7 → one_of r k ≡ factor_answer s season row k)
+  unfolding row_answered one_of
+  kept (Ok _) h e = (
+    λ v f k l m. let same : v ≡ row_bands s season row = cc in rw same (band-holds k l m h),
+    λ k l m. rw e (band-same k l m h),
+  )
+  kept (Err refusal) h e = (
+    λ v f. let clash : ◌≡◌ {A = ℕ} 0 1 = cc in absurd (omega arith),
+    λ k l m. rw e (refusal_is s season row k bytes (check-same s season row k l m ∙ h)),
+  )
 
   -- an answer that is the definition's is what is promised
   pub row-promised : {r : RowFactors} → r ≡ row_answer s season row → RowFactorsCall s season row r
   unfolding row_answer
   row-promised e =
       let k = kept (row_check s season row) refl e in
-      record { answer-is = e; says = rw k.2 (factor-says s season row 1); bands = k.0; same = k.1 }
+      let n = numbers-same (row_check s season row) (row_bands s season row) in
+      record { answer-is = e; says = rw (e, n.0, n.1) (factor-says s season row 1); bands = k.0; same = k.1 }
 
   -- Each outcome of the code is the definition's.
-  pub refused-is : {refusal : Refusal} → {bands : List ℕ} → row_check s season row ≡ Err refusal → bands ≡ replicate 14 0
-      → {c : Check} → c ≡ Err refusal → {r : RowFactors} → r ≡ record { check = c; bands = bands } → r ≡ row_answer s season row
+  pub refused-is : {r : RowFactors} {refusal : Refusal} → row_check s season row ≡ Err refusal → r ≡ Err refusal → r ≡ row_answer s season row
   unfolding row_answer row_answered
-  refused-is h b f e = e ∙ rw (h, b, f) refl
+  refused-is h e = e ∙ rw h refl
 
-  pub passed_is : {bands : List ℕ} → row_check s season row ≡ Pass → bands ≡ band_words s season row
-      → {c : Check} → c ≡ Pass → {r : RowFactors} → r ≡ record { check = c; bands = bands } → r ≡ row_answer s season row
+  pub passed_is : {r : RowFactors} {bands : List Band} → row_check s season row ≡ Pass → bands ≡ row_bands s season row → r ≡ Ok bands
+      → r ≡ row_answer s season row
   unfolding row_answer row_answered
-  passed_is h b f e = e ∙ rw (h, b, f) refl
+  passed_is h b e = e ∙ rw (h, b) refl

@@ -1,1 +1,2 @@
+pub mod AcceptedFleet
 pub mod ClassTable

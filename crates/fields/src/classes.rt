@@ -1,137 +1,132 @@
 // The class and technology table of document 01, what a row leaves to its class, and the sizes of canisters.
-ghost use Rattle.std.specs.Prelude.{◌≡◌, ◌*◌, ◌≤◌};
-ghost use Rattle.exact.specs.Classes.{small_first, medium_first, without, always_small, at_technology, equipment};
+ghost use Rattle.std.specs.Prelude.{◌≡◌, ◌≤◌, [], ◌∷◌, slice_get, MatchOption};
+ghost use Rattle.exact.specs.Classes.{absent, fitted_with, equipment};
 ghost use Rattle.sheet.specs.Bytes.{fitted_canister, fitted_tank, canister_of, tank_of};
 ghost use Rattle.sheet.specs.Range.{halves};
 ghost use Rattle.sheet.specs.Sheet.{no_canister};
 
-use exact::{Canister, Equipment};
+use exact::{Canister, Fitted};
 
 // The largest code that names a canister, and the code that leaves it to the class.
 pub const LAST_CODE: u64 = 3;
 
 pub const BY_CLASS: u64 = 255;
 
-// Classes 1, 2 and 4, by technology.
-fn small_first(litres: u64, technology: u64) -> Equipment
-    requires { litres ≤ 75 }
-    ensures { result ≡ at_technology litres (small_first litres).canisters technology }
-{
-    match technology {
-        0 => Equipment::Fitted(Canister::None, 10 * litres),
-        1..=2 => Equipment::Fitted(Canister::Small, 10 * litres),
-        3..=5 => Equipment::Fitted(Canister::Medium, 10 * litres),
-        _ => Equipment::Absent,
-    }
-}
+// Document 01 asks for "match on class and technology numbers with ranges", which is why these are numbers and no enums.
 
-// Class 3.
-fn medium_first(litres: u64, technology: u64) -> Equipment
-    requires { litres ≤ 75 }
-    ensures { result ≡ at_technology litres (medium_first litres).canisters technology }
+// Classes 1 to 4: the one canister from technology 1 on, the other from 3 on.
+fn one_then_other(one: Canister, other: Canister, technology: u64) -> Option<Canister>
+    ensures { result ≡ slice_get (Canister.None ∷ one ∷ one ∷ other ∷ other ∷ other ∷ []) technology }
 {
     match technology {
-        0 => Equipment::Fitted(Canister::None, 10 * litres),
-        1..=2 => Equipment::Fitted(Canister::Medium, 10 * litres),
-        3..=5 => Equipment::Fitted(Canister::Large, 10 * litres),
-        _ => Equipment::Absent,
+        0 => Some(Canister::None),
+        1..=2 => Some(one),
+        3..=5 => Some(other),
+        _ => None,
     }
 }
 
 // Classes 5 to 8.
-fn without(litres: u64, technology: u64) -> Equipment
-    requires { litres ≤ 75 }
-    ensures { result ≡ at_technology litres (without litres).canisters technology }
+fn without(technology: u64) -> Option<Canister>
+    ensures { result ≡ slice_get (Canister.None ∷ Canister.None ∷ Canister.None ∷ Canister.None ∷ []) technology }
 {
     match technology {
-        0..=3 => Equipment::Fitted(Canister::None, 10 * litres),
-        _ => Equipment::Absent,
+        0..=3 => Some(Canister::None),
+        _ => None,
     }
 }
 
 // Class 9.
-fn always_small(litres: u64, technology: u64) -> Equipment
-    requires { litres ≤ 75 }
-    ensures { result ≡ at_technology litres (always_small litres).canisters technology }
+fn always_small(technology: u64) -> Option<Canister>
+    ensures { result ≡ slice_get (Canister.Small ∷ Canister.Small ∷ Canister.Small ∷ []) technology }
 {
     match technology {
-        0..=2 => Equipment::Fitted(Canister::Small, 10 * litres),
-        _ => Equipment::Absent,
+        0..=2 => Some(Canister::Small),
+        _ => None,
     }
 }
 
-// The tank in litres of a class from 5 to 8.
-fn litres_without(class: u64) -> u64
-    requires { (5 ≤ class) × (class ≤ 8) }
-    ensures { (10 * result ≡ fitted_tank (equipment class 0)) × (result ≤ 75) }
+// A canister with a tank in tenths of a litre.
+fn with_tank(tank: u64, canister: Option<Canister>) -> Option<Fitted>
+    ensures { MatchOption canister (result ≡ absent) (λ c. result ≡ fitted_with c tank) }
 {
-    match class {
-        5 => 5,
-        6 => 8,
-        7 => 10,
-        _ => 18,
-    }
+    canister.map(|canister| Fitted { canister, tank })
 }
 
 // The canister and the tank of a class and a technology, or the absent pair.
-pub fn equipment_of(class: u64, technology: u64) -> Equipment
+pub fn equipment_of(class: u64, technology: u64) -> Option<Fitted>
     ensures { result ≡ equipment class technology }
 {
     match class {
-        1 => small_first(50, technology),
-        2 => small_first(60, technology),
-        3 => medium_first(75, technology),
-        4 => small_first(60, technology),
-        5..=8 => without(litres_without(class), technology),
-        9 => always_small(20, technology),
-        _ => Equipment::Absent,
+        1 => with_tank(
+            500,
+            one_then_other(Canister::Small, Canister::Medium, technology),
+        ),
+        2 => with_tank(
+            600,
+            one_then_other(Canister::Small, Canister::Medium, technology),
+        ),
+        3 => with_tank(
+            750,
+            one_then_other(Canister::Medium, Canister::Large, technology),
+        ),
+        4 => with_tank(
+            600,
+            one_then_other(Canister::Small, Canister::Medium, technology),
+        ),
+        5 => with_tank(50, without(technology)),
+        6 => with_tank(80, without(technology)),
+        7 => with_tank(100, without(technology)),
+        8 => with_tank(180, without(technology)),
+        9 => with_tank(200, always_small(technology)),
+        _ => None,
     }
 }
 
 // The canister that a class and technology are fitted with.
-fn fitted_canister(e: Equipment) -> Canister
-    ensures { result ≡ fitted_canister e }
+#[tactic(auto, unfolding(sheet::specs::Bytes::fitted_canister))]
+fn fitted_canister(equipment: Option<Fitted>) -> Canister
+    ensures { result ≡ fitted_canister equipment }
 {
-    match e {
-        Equipment::Absent => Canister::None,
-        Equipment::Fitted(canister, _) => canister,
-    }
+    equipment.map_or(Canister::None, |fitted| fitted.canister)
 }
 
 // The tank that they are fitted with, in tenths of a litre.
-fn fitted_tank(e: Equipment) -> u64
-    ensures { result ≡ fitted_tank e }
+#[tactic(auto, unfolding(sheet::specs::Bytes::fitted_tank))]
+fn fitted_tank(equipment: Option<Fitted>) -> u64
+    ensures { result ≡ fitted_tank equipment }
 {
-    match e {
-        Equipment::Absent => 0,
-        Equipment::Fitted(_, tank) => tank,
-    }
+    equipment.map_or(0, |fitted| fitted.tank)
 }
 
-// What a row's canister code stands for; 255 leaves it to the class.
-pub fn canister_of(code: u64, e: Equipment) -> Canister
-    ensures { result ≡ canister_of code e }
+// What a row's canister code stands for; 255 leaves it to the class. An enum of the codes would be no plainer: it would live for this
+// one match, and a row that is not yet checked may have a code that is none of them.
+#[tactic(auto, unfolding(sheet::specs::Bytes::canister_of, sheet::specs::Bytes::written_canister))]
+pub fn canister_of(code: u64, equipment: Option<Fitted>) -> Canister
+    ensures { result ≡ canister_of code equipment }
 {
     match code {
         1 => Canister::Small,
         2 => Canister::Medium,
         3 => Canister::Large,
-        255 => fitted_canister(e),
+        255 => fitted_canister(equipment),
         _ => Canister::None,
     }
 }
 
 // A row's tank in tenths of a litre; 0 leaves it to the class.
-pub fn tank_of(tenths: u64, e: Equipment) -> u64
-    ensures { result ≡ tank_of tenths e }
+#[tactic(auto, unfolding(sheet::specs::Bytes::tank_of))]
+pub fn tank_of(tenths: u64, equipment: Option<Fitted>) -> u64
+    ensures { result ≡ tank_of tenths equipment }
 {
     match tenths {
-        0 => fitted_tank(e),
+        0 => fitted_tank(equipment),
         _ => tenths,
     }
 }
 
 // The size s of a canister in halves: 2, 1 and 1/2 for small, medium and large.
+#[tactic(auto, unfolding(sheet::specs::Range::halves))]
 pub fn halves(canister: Canister) -> u64
     ensures { (result ≡ halves canister) × (result ≤ 4) }
 {
@@ -144,6 +139,7 @@ pub fn halves(canister: Canister) -> u64
 }
 
 // No canister counts for the row.
+#[tactic(auto, unfolding(sheet::specs::Sheet::no_canister))]
 pub fn no_canister(canister: Canister) -> bool
     ensures { result ≡ no_canister canister }
 {

@@ -1,24 +1,29 @@
 // The fields of a sheet where documents 01 and 02 place them. Integers are little-endian.
+// Each function asks for the bytes that it reads and no more, since the checks read a sheet before it is accepted. A type for the head, for
+// the lists and for the grid would be made from these same bounds at each call, and be no plainer. Of a sheet that passed, Accepted of the
+// crate checks has the seasons and rows without such bounds.
 #![tactic(auto)]
 
-ghost use Rattle.std.specs.Prelude.{◌≡◌, ◌+◌, ◌*◌, ◌^◌, ◌<◌, ◌≤◌, length};
+ghost use Rattle.std.specs.Prelude.{◌≡◌, ◌+◌, ◌*◌, ◌^◌, ◌<◌, ◌≤◌, leb, length};
 ghost use Rattle.sheet.specs.Integers.{u8_at, u16_at, u32_at};
 ghost use Rattle.sheet.specs.Versions.{version_of, has_grid, has_mileage, has_many_rows, rows_most, seasons_start};
 ghost use Rattle.sheet.specs.Bytes.{seasons_of, rows_of, counts_at, duration_counts, hour_counts, grid_counts};
-ghost use Rattle.sheet.specs.Bytes.{season_place, row_place, season_from, season_at, equipment_at, canister_of, tank_of, row_from, row_at};
+ghost use Rattle.sheet.specs.Bytes.{season_place, row_place, season_from, season_at, row_at};
 ghost use Rattle.sheet.specs.Range.{warmth};
 ghost use Rattle.refusals.specs.Check.{Pass};
 ghost use Rattle.sheet.specs.Sheet.{sheet_check};
 ghost use Rattle.sheet.specs.RunningSums.{vehicles_before};
 ghost use Rattle.exact.specs.Factors.{total};
+ghost use Rattle.fields.specs.Version.{first_version};
 
-use crate::classes::{canister_of, equipment_of, tank_of};
 use crate::limits::{COLD_LIMIT, MANY_ROWS_LIMIT, ROWS_LIMIT};
-use exact::{Canister, Equipment, Row, Season};
+use crate::row_bytes::RowBytes;
+use exact::{Row, Season};
 
 pub mod classes;
 pub mod limits;
 pub mod range;
+pub mod row_bytes;
 
 // How many counts a list of the parking part has, and where the two lists start.
 pub const COUNTS: usize = 24;
@@ -27,16 +32,10 @@ pub const DURATIONS_START: usize = 8;
 
 pub const HOURS_START: usize = 56;
 
-// How many counts a grid has, where it starts, and the first version with a grid in place of the two lists.
+// How many counts a grid has, and where it starts.
 pub const CELLS: usize = 576;
 
 pub const GRID_START: usize = 8;
-
-const GRID_VERSION: u64 = 2;
-
-const MILEAGE_VERSION: u64 = 3;
-
-const MANY_ROWS_VERSION: u64 = 4;
 
 // Where the parking ends and the seasons start: after two lists, and after a grid.
 const AFTER_LISTS: usize = 104;
@@ -63,14 +62,32 @@ pub fn u16_at(s: &[u8], i: usize) -> u64
     requires { i + 2 ≤ length s.now }
     ensures { (result ≡ u16_at s.now i) × (result < 65536) }
 {
-    u8_at(s, i) + 256 * u8_at(s, i + 1)
+    u64::from(u16::from_le_bytes([s[i], s[i + 1]]))
 }
 
 fn u32_at(s: &[u8], i: usize) -> u64
     requires { i + 4 ≤ length s.now }
     ensures { (result ≡ u32_at s.now i) × (result < 2 ^ 32) }
 {
-    u16_at(s, i) + 65536 * u16_at(s, i + 2)
+    u64::from(u32::from_le_bytes([s[i], s[i + 1], s[i + 2], s[i + 3]]))
+}
+
+// The versions after the first, by what each brought: a grid in place of the two lists, a mileage, and two bytes for the count of rows.
+#[derive(Clone, Copy)]
+enum Version {
+    Grid = 2,
+    Mileage = 3,
+    ManyRows = 4,
+}
+
+impl Version {
+    // The sheet has this version or a later one.
+    fn is_reached(self, s: &[u8]) -> bool
+        requires { 8 ≤ length s.now }
+        ensures { result ≡ leb (first_version self) (version_of s.now) }
+    {
+        self as u64 <= version_of(s)
+    }
 }
 
 // The version that the head gives.
@@ -86,7 +103,7 @@ pub fn has_grid(s: &[u8]) -> bool
     requires { 8 ≤ length s.now }
     ensures { result ≡ has_grid s.now }
 {
-    GRID_VERSION <= version_of(s)
+    Version::Grid.is_reached(s)
 }
 
 // Whether the rows have a mileage.
@@ -94,7 +111,7 @@ pub fn has_mileage(s: &[u8]) -> bool
     requires { 8 ≤ length s.now }
     ensures { result ≡ has_mileage s.now }
 {
-    MILEAGE_VERSION <= version_of(s)
+    Version::Mileage.is_reached(s)
 }
 
 // Whether the count of rows has two bytes.
@@ -102,10 +119,11 @@ pub fn has_many_rows(s: &[u8]) -> bool
     requires { 8 ≤ length s.now }
     ensures { result ≡ has_many_rows s.now }
 {
-    MANY_ROWS_VERSION <= version_of(s)
+    Version::ManyRows.is_reached(s)
 }
 
 // How many rows there may be.
+#[tactic(auto, unfolding(sheet::specs::Versions::rows_most))]
 pub fn rows_most(s: &[u8]) -> u64
     requires { 8 ≤ length s.now }
     ensures { result ≡ rows_most s.now }
@@ -118,6 +136,7 @@ pub fn rows_most(s: &[u8]) -> u64
 }
 
 // Where the seasons start.
+#[tactic(auto, unfolding(sheet::specs::Versions::seasons_start))]
 pub fn seasons_start(s: &[u8]) -> usize
     requires { 8 ≤ length s.now }
     ensures { (result ≡ seasons_start s.now) × (result ≤ 1160) }
@@ -134,6 +153,7 @@ pub fn seasons_of(s: &[u8]) -> usize
 }
 
 // How many rows the head gives.
+#[tactic(auto, unfolding(sheet::specs::Bytes::rows_of))]
 pub fn rows_of(s: &[u8]) -> usize
     requires { 8 ≤ length s.now }
     ensures { (result ≡ rows_of s.now) × (result < 65536) }
@@ -170,6 +190,7 @@ fn counts_at<const N: usize>(s: &[u8], p: usize) -> [u64; N]
 }
 
 // The counts for durations 0.5, 1, .. 12 h.
+#[tactic(auto, unfolding(sheet::specs::Bytes::duration_counts))]
 pub fn duration_counts(s: &[u8]) -> [u64; 24]
     requires { 104 ≤ length s.now }
     ensures { result ≡ duration_counts s.now }
@@ -178,6 +199,7 @@ pub fn duration_counts(s: &[u8]) -> [u64; 24]
 }
 
 // The counts for end hours 1 to 24.
+#[tactic(auto, unfolding(sheet::specs::Bytes::hour_counts))]
 pub fn hour_counts(s: &[u8]) -> [u64; 24]
     requires { 104 ≤ length s.now }
     ensures { result ≡ hour_counts s.now }
@@ -186,6 +208,7 @@ pub fn hour_counts(s: &[u8]) -> [u64; 24]
 }
 
 // The counts of the grid, end hour 1 first, its 24 durations in a row.
+#[tactic(auto, unfolding(sheet::specs::Bytes::grid_counts))]
 pub fn grid_counts(s: &[u8]) -> [u64; 576]
     requires { 1160 ≤ length s.now }
     ensures { result ≡ grid_counts s.now }
@@ -194,6 +217,7 @@ pub fn grid_counts(s: &[u8]) -> [u64; 576]
 }
 
 // The season that starts at p.
+#[tactic(auto, unfolding(sheet::specs::Bytes::season_from))]
 fn season_from(s: &[u8], p: usize) -> Season
     requires { p + 8 ≤ length s.now }
     ensures { (result ≡ season_from s.now p) × (result.days < 65536) × (result.lowest < 65536) × (result.highest < 65536) }
@@ -214,7 +238,8 @@ pub fn season_place(s: &[u8], i: usize) -> usize
     seasons_start(s) + SEASON_BYTES * i
 }
 
-// Season i, counted from 0.
+// Season i, counted from 0. A season and a row take a line or two each to read: one function for both, over a trait, would be no plainer.
+#[tactic(auto, unfolding(sheet::specs::Bytes::season_at))]
 pub fn season_at(s: &[u8], i: usize) -> Season
     requires { season_place s.now i + 8 ≤ length s.now }
     ensures { (result ≡ season_at s.now i) × (result.days < 65536) × (result.lowest < 65536) × (result.highest < 65536) }
@@ -222,57 +247,12 @@ pub fn season_at(s: &[u8], i: usize) -> Season
     season_from(s, season_place(s, i))
 }
 
-// A temperature's tenths of °C above −30 °C, at most 800 for one that a sheet may have.
+// A temperature's tenths of °C above −30 °C, at most 800 for one that a sheet may have. In two's complement the sum wraps at 16 bits.
 pub fn warmth(tenths: u64) -> u64
     requires { tenths < 65536 }
     ensures { result ≡ warmth tenths }
 {
-    (tenths + COLD_LIMIT) % BITS_16
-}
-
-// What the class and technology of the row that starts at p stand for.
-pub fn equipment_at(s: &[u8], p: usize) -> Equipment
-    requires { p + 2 ≤ length s.now }
-    ensures { result ≡ equipment_at s.now p }
-{
-    equipment_of(u8_at(s, p), u8_at(s, p + 1))
-}
-
-// The canister that counts for the row that starts at p.
-fn canister_at(s: &[u8], p: usize) -> Canister
-    requires { p + 24 ≤ length s.now }
-    ensures { result ≡ canister_of (u8_at s.now (p + 2)) (equipment_at s.now p) }
-{
-    canister_of(u8_at(s, p + 2), equipment_at(s, p))
-}
-
-// The tank that counts for the row that starts at p.
-fn tank_at(s: &[u8], p: usize) -> u64
-    requires { p + 24 ≤ length s.now }
-    ensures { result ≡ tank_of (u16_at s.now (p + 6)) (equipment_at s.now p) }
-{
-    tank_of(u16_at(s, p + 6), equipment_at(s, p))
-}
-
-// The row that starts at p.
-fn row_from(s: &[u8], p: usize) -> Row
-    requires { p + 24 ≤ length s.now }
-    ensures { (result ≡ row_from s.now p) × (result.saturation < 65536) × (result.vehicles < 2 ^ 32) }
-{
-    Row {
-        class: u8_at(s, p),
-        canister: canister_at(s, p),
-        carburettor: u8_at(s, p + 3),
-        hot: u8_at(s, p + 4),
-        fill: u8_at(s, p + 5),
-        tank: tank_at(s, p),
-        vehicles: u32_at(s, p + 8),
-        trips: u16_at(s, p + 12),
-        minutes: u16_at(s, p + 14),
-        load: u16_at(s, p + 16),
-        saturation: u16_at(s, p + 18),
-        mileage: u32_at(s, p + 20),
-    }
+    u64::from((tenths as u16).wrapping_add(COLD_LIMIT as u16))
 }
 
 // Where row i starts, counted from 0.
@@ -284,14 +264,20 @@ pub fn row_place(s: &[u8], i: usize) -> usize
 }
 
 // Row i, counted from 0.
+#[tactic(auto, unfolding(sheet::specs::Bytes::row_at))]
 pub fn row_at(s: &[u8], i: usize) -> Row
     requires { row_place s.now i + 24 ≤ length s.now }
     ensures { (result ≡ row_at s.now i) × (result.saturation < 65536) × (result.vehicles < 2 ^ 32) }
 {
-    row_from(s, row_place(s, i))
+    RowBytes {
+        sheet: s,
+        start: row_place(s, i),
+    }
+    .row()
 }
 
 // The vehicles of row i.
+#[tactic(auto, unfolding(sheet::specs::Bytes::row_at, sheet::specs::Bytes::row_from))]
 pub fn vehicles_of(s: &[u8], i: usize) -> u64
     requires { row_place s.now i + 24 ≤ length s.now }
     ensures { (result ≡ (row_at s.now i).vehicles) × (result < 2 ^ 32) }
@@ -300,6 +286,7 @@ pub fn vehicles_of(s: &[u8], i: usize) -> u64
 }
 
 // The vehicles of all rows.
+#[tactic(auto, using(crate::proofs::AcceptedFleet::fleet))]
 pub fn fleet_of(s: &[u8]) -> u64
     requires { sheet_check s.now ≡ Pass }
     ensures { (result ≡ vehicles_before s.now (rows_of s.now)) × (result ≤ 320000000) }

@@ -2,9 +2,14 @@
 // makes them is in season_findings, row_findings and explanation.
 #![tactic(auto)]
 
+use crate::reasons::Reason;
+
+pub mod reasons;
+pub mod spans;
+
 // The first thing that is wrong, or all zeros.
 #[repr(C)]
-#[derive(Clone, Copy)]
+#[derive(Clone, Copy, Default, PartialEq, Eq, Debug)]
 pub struct Finding {
     // The number and the place that the sheet's check returns, and which of the reasons of this number it is, from 1.
     pub number: u64,
@@ -22,18 +27,87 @@ pub struct Finding {
     pub most: u64,
 }
 
-// The parts of a line of the table. The record it is about: its place, its index and a season of the row.
-#[derive(Clone, Copy)]
-pub struct Site(pub u64, pub u64, pub u64);
-
-// A number and a reason of it.
-#[derive(Clone, Copy)]
-pub struct Rule(pub u64, pub u64);
+// The record that a line of the table is about: its place, its index and a season of the row.
+#[derive(Clone, Copy, PartialEq, Eq, Debug)]
+pub struct Site {
+    pub place: u64,
+    pub index: u64,
+    pub season: u64,
+}
 
 // A field: its first byte, its bytes and the number that stands there.
-#[derive(Clone, Copy)]
-pub struct Field(pub u64, pub u64, pub u64);
+#[derive(Clone, Copy, PartialEq, Eq, Debug)]
+pub struct Field {
+    pub at: u64,
+    pub bytes: u64,
+    pub value: u64,
+}
 
 // The least and the most of it.
-#[derive(Clone, Copy)]
-pub struct Limits(pub u64, pub u64);
+#[derive(Clone, Copy, PartialEq, Eq, Debug)]
+pub struct Limits {
+    pub least: u64,
+    pub most: u64,
+}
+
+// A line of the table whose field is outside its limits.
+#[derive(Clone, Copy, PartialEq, Eq, Debug)]
+pub struct Found {
+    pub site: Site,
+    pub reason: Reason,
+    pub field: Field,
+    pub limits: Limits,
+}
+
+// Lines of the table find nothing wrong, or say what the first of them has found.
+pub type Judged = Result<(), Found>;
+
+impl From<Found> for Finding {
+    ghost use Rattle.std.specs.Prelude.{◌≡◌};
+    ghost use Rattle.findings.specs.Lines.{entry};
+
+    ghost from_gives = { λ found finding. finding ≡ entry found };
+
+    fn from(found: Found) -> Finding {
+        Finding {
+            number: found.reason.rule().number(),
+            place: found.site.place,
+            reason: found.reason.nth(),
+            index: found.site.index,
+            season: found.site.season,
+            at: found.field.at,
+            bytes: found.field.bytes,
+            value: found.field.value,
+            least: found.limits.least,
+            most: found.limits.most,
+        }
+    }
+}
+
+impl Limits {
+    ghost use Rattle.std.specs.Prelude.{◌≡◌};
+    ghost use Rattle.findings.specs.Lines.{limits};
+
+    pub fn between(least: u64, most: u64) -> Limits
+        ensures { result ≡ limits least most }
+    {
+        Limits { least, most }
+    }
+
+    // Any number that is at most this one.
+    pub fn up_to(most: u64) -> Limits
+        ensures { result ≡ limits 0 most }
+    {
+        Limits { least: 0, most }
+    }
+
+    // This number alone.
+    pub fn only(value: u64) -> Limits
+        ensures { result ≡ limits value value }
+    {
+        Limits {
+            least: value,
+            most: value,
+        }
+    }
+}

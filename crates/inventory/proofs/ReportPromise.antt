@@ -1,10 +1,11 @@
 -- The report call writes the report, and what is promised of its words holds of the buffer.
 -- Assumes nothing.
 use mathlib.Core.List.{List, ◌++◌}
-use mathlib.Core.Path.{◌≡◌, ap}
+use mathlib.Core.Path.{◌≡◌, refl, ap}
 use Prim.Native.Nat.{ℕ, ◌+◌, ◌*◌}
 use native.Mathlib.Omega.{arith}
 use lib.ListN.{length, drop}
+use Rattle.numbers.proofs.Lists.{tab-at}
 use Rattle.refusals.specs.Check.{Check, Pass}
 use Rattle.sheet.specs.Bytes.{rows_of}
 use Rattle.sheet.proofs.Checks.{then-pass}
@@ -12,7 +13,6 @@ use Rattle.sheet.proofs.Accepted.{Bytes, accepted}
 use Rattle.report_words.specs.Report.{report}
 use Rattle.report_words.specs.Categories.{report_length}
 use Rattle.report_words.specs.Years.{filled, report_word}
-use Rattle.report_words.proofs.Filled.{tab-get_d}
 use Rattle.report_words.proofs.ReportPlaces.{report-length}
 use Rattle.report_words.proofs.Promised.{promise}
 use Rattle.inventory.specs.ReportCall.{written, ReportCall}
@@ -42,4 +42,4 @@ pub report-written : (s old : List ℕ) → filled (report_word s) (6 * rows_of 
 unfolding written report_length
 report-written s old =
     let long : length (report s) ≡ 6 * rows_of s + 26 = report-length s in
-    rw (← long) (ap (λ (r : List ℕ). r ++ drop (length (report s)) old) (tab-get_d (report s)))
+    rw (← long) (ap (λ (r : List ℕ). r ++ drop (length (report s)) old) (tab-at (report s) refl))

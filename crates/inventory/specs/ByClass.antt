@@ -2,7 +2,7 @@
 -- exactly as the same value written on the row". Definitions only.
 use Rattle.std.specs.Prelude.{List, ◌≡◌, ℕ}
 use Rattle.exact.specs.declared.Canister.{Canister}
-use Rattle.exact.specs.declared.Equipment.TheVariants.{Fitted}
+use Rattle.exact.specs.Classes.{fitted_with}
 use Rattle.refusals.specs.Check.{Pass}
 use Rattle.sheet.specs.Bytes.{row_place, equipment_at}
 use Rattle.sheet.specs.Sheet.{sheet_check}
@@ -17,5 +17,5 @@ pub record SameByClass (s t : List ℕ) : Type 0 where
 
 -- so it is for every s, and every t that is s with the canister or the tank, or both, of row i written as its class has them
 abbrev pub ClassTheorem : Type 0
-ClassTheorem = (s t : List ℕ) (i : ℕ) (c : Canister) (tank : ℕ) → equipment_at s (row_place s i) ≡ Fitted c tank
+ClassTheorem = (s t : List ℕ) (i : ℕ) (c : Canister) (tank : ℕ) → equipment_at s (row_place s i) ≡ fitted_with c tank
     → Written s t (row_place s i) c tank → SameByClass s t

@@ -2,7 +2,6 @@
 -- is returned, with its place.
 -- Assumes nothing.
 use mathlib.Core.List.{List}
-use mathlib.Core.Logic.{⊎_elim}
 use Prim.Native.Nat.{ℕ, ◌<◌}
 use native.Mathlib.Omega.{arith}
 use borrow.Author.Tests.{leb-true, leb-false}
@@ -15,7 +14,7 @@ use Rattle.sheet.specs.Versions.{version_of, has_many_rows}
 use Rattle.sheet.specs.Bytes.{rows_of}
 use Rattle.sheet.specs.Counts.{counts_of}
 use Rattle.refusals.specs.Check.{number_of, place_of}
-use Rattle.sheet.specs.Demands.{FirstUnmet, Says}
+use Rattle.sheet.specs.Demands.{Says}
 use Rattle.sheet.proofs.Checks.{Tests, Judges, judges-refuse, judges-then, ltb-tests, leb-shows, ||-tests, guarded, says}
 use Rattle.inventory.proofs.CallConditions.{report-judged}
 use Rattle.ledger.specs.declared.Call.{Call}

@@ -1,6 +1,6 @@
 -- The counts of a sheet as a list, and what 29 leaves of them: a call that is not wrong keeps them within the limits of numbers 16 and 26.
 -- Assumes nothing.
-use mathlib.Core.Bool.{Bool, true, false, ◌&&◌, ◌||◌}
+use mathlib.Core.Bool.{Bool, true, false, ◌&&◌}
 use mathlib.Core.List.{List, [], ◌∷◌, ◌++◌}
 use mathlib.Core.Path.{◌≡◌, refl, sym, ap, ◌∙◌}
 use Prim.Native.Nat.{ℕ, suc, zero, ◌+◌, ◌-◌, ◌^◌, ◌≤◌, ◌<◌}
@@ -10,6 +10,7 @@ use borrow.Author.Tests.{ltb-false, leb-false, le-leb}
 use lib.Dec.{leb, ltb}
 use lib.ListN.{length, set, length-set}
 use lib.Seq.{ext_get_or, get_or-set_same, get_or-set_other}
+use Rattle.std.proofs.lemmas.Bool.{or_parts}
 use Rattle.numbers.specs.Lists.{tab, at}
 use Rattle.numbers.proofs.Lists.{tab-length, get_d-tab}
 use Rattle.exact.specs.Factors.{total}
@@ -69,27 +70,18 @@ counts-changed s i v bits room there =
       | no n ↦ rw (row_kept s i v bits room j n) (sym (get_or-set_other (counts_of s) i j v 0 n ∙ count_at s j inside'))
     ])
 
--- neither of two tests holds
-neither : (b c : Bool) → (b || c) ≡ false → (b ≡ false) × (c ≡ false)
-neither true c h = (h, cc)
-neither false c h = (refl, h)
-
--- of two of which one holds, not the other
-not-both : (b c : Bool) → (b && c) ≡ false → b ≡ true → c ≡ false
-not-both true c h e = h
-not-both false c h e = cc
-
 -- What a call leaves that is not past the limits: fleet of all rows, v in its row.
 module _ (many : Bool) (fleet v : ℕ) where
   moved-most : (call : Call) → v ≤ vehicles_limit → past many fleet v call ≡ false → moved v call ≤ vehicles_limit
   unfolding past moved
-  moved-most (Arrival row k) h g = ltb-false vehicles_limit (v + k) (neither (ltb vehicles_limit (v + k)) _ g).0
+  moved-most (Arrival row k) h g = ltb-false vehicles_limit (v + k) (or_parts (ltb vehicles_limit (v + k)) _ g).0
   moved-most (Departure row k) h g = omega arith
 
   moved-together : (call : Call) → fleet ≤ fleet_limit → many ≡ true → past many fleet v call ≡ false → fleet + moved v call ≤ fleet_limit + v
   unfolding past moved
   moved-together (Arrival row k) h e g =
-      omega (arith, ltb-false fleet_limit (fleet + k) (not-both many (ltb fleet_limit (fleet + k)) (neither (ltb vehicles_limit (v + k)) _ g).1 e))
+      let over : (many && ltb fleet_limit (fleet + k)) ≡ false = (or_parts (ltb vehicles_limit (v + k)) _ g).1 in
+      omega (arith, ltb-false fleet_limit (fleet + k) (rw e at over))
   moved-together (Departure row k) h e g = omega arith
 
 -- the vehicles of all rows of an accepted sheet that may have many
@@ -108,7 +100,7 @@ pub record Allowed (s : List ℕ) (call : Call) : Type 0 where
 pub allowed : (s : List ℕ) (call : Call) → Accepted s → wrong (has_many_rows s) (counts_of s) call ≡ false → Allowed s call
 unfolding wrong
 allowed s call a h =
-    let (inside, within) = neither (leb (length (counts_of s)) (row_of call)) _ h in
+    let (inside, within) = or_parts (leb (length (counts_of s)) (row_of call)) _ h in
     let there : row_of call < rows_of s = omega (arith, leb-false (length (counts_of s)) (row_of call) inside, counts-length s) in
     let count : at (counts_of s) (row_of call) ≡ (row_at s (row_of call)).vehicles = count_at s (row_of call) there in
     record {

@@ -4,7 +4,7 @@ use Rattle.std.specs.Prelude.{List, [], ◌∷◌, ◌≡◌, ℕ, ◌+◌, ◌�
 use Rattle.numbers.specs.Lists.{at}
 use Rattle.exact.specs.Factors.{total}
 use Rattle.refusals.specs.declared.Rule.TheVariants as rule
-use Rattle.refusals.specs.Check.{Check, Pass, Refused, refuse, ◌then◌, number_of, place_of}
+use Rattle.refusals.specs.Check.{Check, refuse, ◌then◌, number_of, place_of}
 use Rattle.sheet.specs.Limits.{vehicles_limit, fleet_limit}
 use Rattle.sheet.specs.Versions.{version_of, has_many_rows}
 use Rattle.sheet.specs.Bytes.{rows_of}

@@ -14,7 +14,7 @@ use Rattle.numbers.specs.Lists.{at}
 use Rattle.exact.specs.Factors.{total}
 use Rattle.refusals.specs.declared.Rule.TheVariants as rule
 use Rattle.refusals.specs.declared.Refusal.{Refusal}
-use Rattle.refusals.specs.Check.{Check, Pass, Refused, refuse, ◌then◌}
+use Rattle.refusals.specs.Check.{Check, Pass, refuse}
 use Rattle.sheet.specs.Limits.{vehicles_limit}
 use Rattle.sheet.specs.Versions.{has_many_rows}
 use Rattle.sheet.specs.Bytes.{rows_of, row_at}
@@ -78,6 +78,10 @@ module _ (s : List ℕ) (pass : sheet_check s ≡ Pass) (call : Call) where
 
   pub row-named-there : wrong (has_many_rows s) (counts_of s) call ≡ false → row_of call < rows_of s
   row-named-there h = (allowed s call (accepted s pass) h).there
+
+  -- the count that it leaves is within the row's limit
+  pub new-most : wrong (has_many_rows s) (counts_of s) call ≡ false → new_count (counts_of s) call ≤ vehicles_limit
+  new-most h = (allowed s call (accepted s pass) h).most
 
 pub with-count-same : (s : List ℕ) {i j v w : ℕ} → i ≡ j → v ≡ w → with_count s i v ≡ with_count s j w
 with-count-same s {j} {v} e f = ap (λ (k : ℕ). with_count s k v) e ∙ ap (with_count s j) f

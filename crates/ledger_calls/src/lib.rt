@@ -1,7 +1,6 @@
-// The ledger's calls: vehicles arrive at a row or depart from it, and the report is kept in step. The caller lends the sheet and the words.
+// The ledger's calls: vehicles arrive at a row or depart from it, and the report is kept in step. The sheet and the words are the caller's.
 #![tactic(auto)]
 
-ghost use Rattle.ledger.specs.declared.Call.TheVariants.{Arrival, Departure};
 ghost use Rattle.std.specs.Prelude.{◌≡◌};
 ghost use Rattle.ledger.specs.Ledger.{ChangeCall, change_check};
 
@@ -28,18 +27,4 @@ pub fn change(s: &mut [u8], words: &mut [u64], call: Call) -> Check
     change_check(s, words.len(), call)?;
     apply(s, words, call);
     Ok(())
-}
-
-// Vehicles arrive at a row.
-pub fn arrive(s: &mut [u8], words: &mut [u64], row: u64, vehicles: u64) -> Check
-    ensures { ChangeCall s.old words.old (Arrival row vehicles) s.new words.new result }
-{
-    change(s, words, Call::Arrival(row, vehicles))
-}
-
-// Vehicles depart from a row.
-pub fn depart(s: &mut [u8], words: &mut [u64], row: u64, vehicles: u64) -> Check
-    ensures { ChangeCall s.old words.old (Departure row vehicles) s.new words.new result }
-{
-    change(s, words, Call::Departure(row, vehicles))
 }

@@ -1,16 +1,14 @@
 // The parts of a change of a ledger whose sheet has passed its checks: whether the change is wrong, and making it. The calls on a ledger and on a
 // shared one are made of them.
 ghost use Rattle.std.specs.Prelude.{false, ◌&&◌, ◌||◌, ◌≡◌, ◌+◌, ◌≤◌, ltb, length};
-ghost use Rattle.std.proofs.lemmas.List.Edits.{sets};
 ghost use Rattle.exact.specs.Factors.{total};
 ghost use Rattle.refusals.specs.Check.{Pass};
 ghost use Rattle.sheet.specs.Limits.{vehicles_limit, fleet_limit};
 ghost use Rattle.sheet.specs.Versions.{has_many_rows};
 ghost use Rattle.sheet.specs.Bytes.{row_place};
-ghost use Rattle.sheet.specs.Counts.{counts_of, four_bytes, with_count};
+ghost use Rattle.sheet.specs.Counts.{counts_of, with_count};
 ghost use Rattle.sheet.specs.Sheet.{sheet_check};
-ghost use Rattle.ledger.specs.declared.Call.TheVariants.{Arrival, Departure};
-ghost use Rattle.ledger.specs.Machine.{row_of, past, wrong, new_count};
+ghost use Rattle.ledger.specs.Machine.{past, wrong, new_count};
 ghost use Rattle.inventory.specs.ReportAnswers.{report_check};
 ghost use Rattle.ledger.specs.Ledger.{sheet_after, words_after};
 
@@ -50,22 +48,12 @@ fn is_past(s: &[u8], v: u64, call: Call) -> bool
     }
 }
 
-// The row that a call names.
-pub fn row_named(call: Call) -> u64
-    ensures { result ≡ row_of call }
-{
-    match call {
-        Call::Arrival(row, _) => row,
-        Call::Departure(row, _) => row,
-    }
-}
-
 // Condition 29: no such row, or past what the row has or may have.
 pub fn call_wrong(s: &[u8], call: Call) -> bool
     requires { sheet_check s.now ≡ Pass }
     ensures { result ≡ wrong (has_many_rows s.now) (counts_of s.now) call }
 {
-    let row = row_named(call);
+    let row = call.row();
     if rows_of(s) as u64 <= row {
         return true;
     }
@@ -77,41 +65,31 @@ fn count_after(s: &[u8], call: Call) -> u64
     requires { (sheet_check s.now ≡ Pass) × (wrong (has_many_rows s.now) (counts_of s.now) call ≡ false) }
     ensures { result ≡ new_count (counts_of s.now) call }
 {
-    let v = vehicles_of(s, row_named(call) as usize);
+    let v = vehicles_of(s, call.row() as usize);
     match call {
         Call::Arrival(_, count) => v + count,
         Call::Departure(_, count) => v - count,
     }
 }
 
-// A number of 32 bits is stored at p, little-endian.
-fn store_u32(s: &mut [u8], p: usize, v: u64)
-    requires { p + 4 ≤ length s.old }
-    ensures { s.new ≡ sets s.old p (four_bytes v) }
-{
-    s[p] = (v % 256) as u8;
-    s[p + 1] = (v / 256 % 256) as u8;
-    s[p + 2] = (v / 65536 % 256) as u8;
-    s[p + 3] = (v / 16777216 % 256) as u8;
-}
-
-// Row i gets v vehicles.
-fn set_vehicles(s: &mut [u8], i: usize, v: u64)
+// Row i gets v vehicles: the four bytes of its count, the lowest first.
+fn set_vehicles(s: &mut [u8], i: usize, v: u32)
     requires { row_place s.old i + 24 ≤ length s.old }
     ensures { s.new ≡ with_count s.old i v }
 {
     let place = row_place(s, i) + 8;
-    store_u32(s, place, v);
+    s[place..place + 4].copy_from_slice(&v.to_le_bytes());
 }
 
-// An allowed call: its row gets the new count, and the words of the row and all sums are made anew.
+// An allowed call: its row gets the new count, and the words of the row and all sums are computed again. That the call is allowed is required and is
+// in no type: such a type would have to borrow the sheet that is changed here.
 pub fn apply(s: &mut [u8], words: &mut [u64], call: Call)
     requires { (report_check s.old (length words.old) ≡ Pass) × (wrong (has_many_rows s.old) (counts_of s.old) call ≡ false) }
     ensures { (s.new ≡ sheet_after Pass s.old call)
         × (words.new ≡ words_after Pass s.new call words.old) }
 {
     let new = count_after(s, call);
-    let i = row_named(call) as usize;
-    set_vehicles(s, i, new);
+    let i = call.row() as usize;
+    set_vehicles(s, i, new as u32);
     renew_row(s, words, i);
 }

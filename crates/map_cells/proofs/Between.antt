@@ -9,7 +9,7 @@ use Rattle.map_cells.specs.declared.Cell.TheVariants.{Empty, Exact, Band}
 use Rattle.map_cells.specs.Doubles.{mass_limit, double, whole_of}
 use Rattle.map_cells.specs.Cells.{cell_of, exact_masses, band_masses, masses_of}
 use Rattle.map_cells.specs.Between.{cell_between}
-use Rattle.map_cells.specs.Sums.{CellAnswer, cell_refusal, masses_sum, cell_sum}
+use Rattle.map_cells.specs.Sums.{CellAnswer, cell_refusal, masses_sum}
 use Rattle.map_cells.proofs.WholeDoubles.{double-value, same-value, double-eq, whole-limit}
 
 -- a whole double compared with 0
@@ -102,20 +102,6 @@ module _ (low high : Float) where
   unfolding cell_between
   between-band e f = rw (e, f)
 
-module _ {c : Cell} where
-  pub masses-empty : c ≡ Empty → Some (0, 0) ≡ masses_of c
-  unfolding masses_of
-  masses-empty e = rw e
-
-  pub masses-exact : {r : Option (ℕ × ℕ)} {w : Option ℕ} (m : Float) → c ≡ Exact m → w ≡ whole_of m → r ≡ exact_masses w → r ≡ masses_of c
-  unfolding masses_of
-  masses-exact m e f g = rw e (g ∙ ap exact_masses f)
-
-  pub masses-band : {r : Option (ℕ × ℕ)} {v w : Option ℕ} (l h : Float) → c ≡ Band l h → v ≡ whole_of l → w ≡ whole_of h
-      → r ≡ band_masses v w → r ≡ masses_of c
-  unfolding masses_of
-  masses-band {r} {v} {w} l h e f k g = rw e (g ∙ ap (λ (x : Option ℕ). band_masses x w) f ∙ ap (λ (x : Option ℕ). band_masses (whole_of l) x) k)
-
 module _ (low high low' high' : ℕ) where
   pub sum_over : mass_limit < high + high' → ◌≡◌ {A = CellAnswer} (Err cell_refusal) (masses_sum (Some (low, high)) (Some (low', high')))
   unfolding masses_sum
@@ -128,18 +114,3 @@ module _ (low high low' high' : ℕ) where
   sum-within x y r g g' h e f k =
       let o : low + low' ≤ high + high' = omega arith in
       rw (le-leb (high + high') mass_limit h) (ap Ok (k ∙ rw (e, f) (between_is (low + low') (high + high') o h)))
-
-module _ (a b : Cell) {first : Option (ℕ × ℕ)} (e : first ≡ masses_of a) where
-  pub sum_first : first ≡ None → ◌≡◌ {A = CellAnswer} (Err cell_refusal) (cell_sum a b)
-  unfolding cell_sum masses_sum
-  sum_first f = rw (← e, f)
-
-  pub sum-second : {second : Option (ℕ × ℕ)} (l h : ℕ) → first ≡ Some (l, h) → second ≡ masses_of b → second ≡ None
-      → ◌≡◌ {A = CellAnswer} (Err cell_refusal) (cell_sum a b)
-  unfolding cell_sum masses_sum
-  sum-second l h f g k = rw (← e, f, ← g, k)
-
-  pub sum_both : {second : Option (ℕ × ℕ)} (l h l' h' : ℕ) → first ≡ Some (l, h) → second ≡ masses_of b → second ≡ Some (l', h')
-      → cell_sum a b ≡ masses_sum (Some (l, h)) (Some (l', h'))
-  unfolding cell_sum
-  sum_both l h l' h' f g k = rw (← e, f, ← g, k)

@@ -2,8 +2,8 @@
 use Rattle.std.proofs.Common.{Option, Some, None, Ok}
 use Rattle.std.proofs.Common.{◌≡◌, ℕ, ◌+◌, ◌*◌, ◌≤◌, Bool, true, false, cond, eqb, ltb, sym, refl, subst, arith, eqb→eq, eqb-true}
 use lib.Ieee.{Float, nan, inf, fin, up}
-use Rattle.numbers.specs.Fraction.{Fraction, ◌≤ᶠ◌, ◌≈ᶠ◌, ◌+ᶠ◌, whole}
-use Rattle.numbers.proofs.Order.{≤_trans, ≤-antisym, ≈-sym, ≈-trans, ≈→≤, ≈→≥, +-mono}
+use Rattle.numbers.specs.Fraction.{Fraction, ◌≤ᶠ◌, ◌≈ᶠ◌, ◌+ᶠ◌, whole, one-pos}
+use Rattle.numbers.proofs.Order.{ratio, ratio-sum, ≤_trans, ≤-antisym, ≈-sym, ≈-trans, ≈→≤, ≈→≥, +-mono}
 use Rattle.map_cells.specs.declared.Cell.{Cell}
 use Rattle.map_cells.specs.declared.Cell.TheVariants.{Empty, Exact, Band}
 use Rattle.map_cells.specs.Doubles.{mass_limit, double, whole_of}
@@ -89,18 +89,14 @@ between-whole (Band l u) low high x e h =
               below = subst (λ (k : ℕ). x ≤ᶠ whole k) b (≤_trans h.below (≈→≤ (g n refl)));
             }
 
--- whole numbers added
-whole-add : (a b : ℕ) → whole a +ᶠ whole b ≈ᶠ whole (a + b)
-unfolding whole ◌+ᶠ◌
-whole-add a b = record { cross = omega arith }
-
 -- "Sums of cells are exact": where x lies in one cell and y in the other, x + y lies in their sum, and is 0 where that is empty
 pub sum-encloses : (a b c : Cell) (x y : Fraction) → cell_sum a b ≡ Ok c → InCell a x → InCell b y → InCell c (x +ᶠ y)
+unfolding whole ratio
 sum-encloses a b c x y e hx hy =
     let g = given-sum a b c e in
     let p = between-whole a _ _ x g.first hx in
     let q = between-whole b _ _ y g.second hy in
     rw g.cell-is at
     (in_cell (g.low + g.low') (g.high + g.high') (x +ᶠ y) g.order g.room
-    (≤_trans (≈→≥ (whole-add g.low g.low')) (+-mono p.above q.above))
-    (≤_trans (+-mono p.below q.below) (≈→≤ (whole-add g.high g.high'))))
+    (≤_trans (≈→≥ (ratio-sum g.low g.low' 1 one-pos)) (+-mono p.above q.above))
+    (≤_trans (+-mono p.below q.below) (≈→≤ (ratio-sum g.high g.high' 1 one-pos))))

@@ -57,16 +57,12 @@ IsWhole nan n = ⊥
 IsWhole (inf s) n = ⊥
 IsWhole (fin s m e) n = (m * up e ≡ n * down e) × (n ≤ mass_limit) × T (not s || eqb n 0)
 
--- (a·b = c·d and d above 0) the quotient
-quotient_is : (v n d : ℕ) → 0 < d → v ≡ n * d → v / d ≡ n
-quotient_is v n d h e = ap (λ (x : ℕ). x / d) e ∙ mul-div_cancel n h
-
 mass-of : (x : Float) (n : ℕ) → IsWhole x n → whole_of x ≡ Some n
 unfolding whole_of
 mass-of nan n h = elim h [ ]
 mass-of (inf _) n h = elim h [ ]
 mass-of (fin s m e) n h =
-    let q : m * up e / down e ≡ n = quotient_is (m * up e) n (down e) (down_pos e) h.0 in
+    let q : m * up e / down e ≡ n = ap (λ (x : ℕ). x / down e) h.0 ∙ mul-div_cancel n (down_pos e) in
     rw q (tests (eqb (m * up e) (n * down e)) (leb n mass_limit) (not s || eqb n 0)
     (subst (λ (y : ℕ). T (eqb (m * up e) y)) h.0 (eqb_refl (m * up e))) (le→leb n mass_limit h.1) h.2)
   where
@@ -127,7 +123,7 @@ cut-is nan n h = elim h [ ]
 cut-is (inf _) n h = elim h [ ]
 cut-is (fin true m e) n h = sym (either true n h.2 refl)
 cut-is (fin false m e) n h =
-    let q : m * up e / down e ≡ n = quotient_is (m * up e) n (down e) (down_pos e) h.0 in
+    let q : m * up e / down e ≡ n = ap (λ (x : ℕ). x / down e) h.0 ∙ mul-div_cancel n (down_pos e) in
     rw q (omega (arith, h.1))
 
 -- a double of value n, compared with any other finite double
@@ -255,10 +251,6 @@ zero_bits_lem (fin s m e) h =
 pub none-small : (x : Float) (k : ℕ) → k ≡ to_unsigned 64 x → k ≡ 0 → zero_bits x ≡ false → whole_of x ≡ None
 none-small x k e z t =
     none_of x (λ n h. let same : n ≡ 0 = omega (arith, cut-is x n h) in false≢true (sym t ∙ zero_bits_lem x (rw same at h)))
-
--- what passes a test
-pub passes : {b : Bool} → b ≡ true → T b
-passes e = subst T (sym e) tt
 
 -- a double that the definition takes for n is n
 pub whole_is : (x : Float) (n : ℕ) → whole_of x ≡ Some n → IsWhole x n

@@ -4,3 +4,4 @@ pub mod Sums
 pub mod Values
 pub mod Between
 pub mod Promise
+pub mod Taken

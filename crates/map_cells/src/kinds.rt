@@ -1,52 +1,86 @@
 // The three kinds of cell: made of two doubles, and taken apart.
-ghost use Rattle.std.specs.Prelude.{◌≡◌};
+ghost use Rattle.std.specs.Prelude.{◌≡◌, ◌≤◌};
 ghost use Rattle.map_cells.specs.Between.{LowAndHigh, cell_between};
 ghost use Rattle.map_cells.specs.Cells.{exact_masses, band_masses, masses_of};
+ghost use Rattle.map_cells.specs.Doubles.{mass_limit, whole_of};
+ghost use Rattle.map_cells.specs.Sums.{cell_refusal};
+ghost use Rattle.map_cells.specs.Taken.{Taken};
 
-use crate::Cell;
-use crate::doubles::whole_of;
+use crate::doubles::WholeMass;
+use crate::{Cell, cell_refusal};
+use refusals::Refusal;
+
+// Two doubles that are a low and a high mass, in this order.
+#[derive(Clone, Copy)]
+pub struct Limits {
+    pub low: f64,
+    pub high: f64,
+    ghost masses: { ∥ LowAndHigh low high ∥₁ },
+}
+
+// The low and the high of a cell, in whole milligrams.
+#[derive(Clone, Copy)]
+pub struct Masses {
+    pub low: u64,
+    pub high: u64,
+    ghost order: { low ≤ high },
+    ghost limit: { high ≤ mass_limit },
+}
 
 // Empty where the high is 0, one mass where low and high are equal.
-pub fn cell_between(low: f64, high: f64) -> Cell
-    requires { LowAndHigh low high }
-    ensures { result ≡ cell_between low high }
-{
-    if high == 0.0 {
-        return Cell::Empty;
-    }
-    if low == high {
-        Cell::Exact(low)
-    } else {
-        Cell::Band(low, high)
+impl From<Limits> for Cell {
+    ghost from_gives = { λ l c. c ≡ cell_between l.low l.high };
+
+    fn from(limits: Limits) -> Cell {
+        let low = limits.low;
+        let high = limits.high;
+        if high == 0.0 {
+            return Cell::Empty;
+        }
+        if low == high {
+            Cell::Exact(low)
+        } else {
+            Cell::Band(low, high)
+        }
     }
 }
 
 // One mass: it is above 0.
-#[tactic(auto, unfolding(crate::specs::Cells::exact_masses))]
-fn exact_masses(m: Option<u64>) -> Option<(u64, u64)>
-    ensures { result ≡ exact_masses m }
+fn exact_masses(m: f64) -> Result<Masses, Refusal>
+    ensures { Taken (λ v. (v.low, v.high)) cell_refusal (exact_masses (whole_of m)) result }
 {
-    let n = m?;
-    if 0 < n { Some((n, n)) } else { None }
+    let n = WholeMass::try_from(m)?.milligrams;
+    if 0 < n {
+        Ok(Masses { low: n, high: n })
+    } else {
+        Err(cell_refusal())
+    }
 }
 
 // A low and a high: the low is below the high.
-#[tactic(auto, unfolding(crate::specs::Cells::band_masses))]
-fn band_masses(low: Option<u64>, high: Option<u64>) -> Option<(u64, u64)>
-    ensures { result ≡ band_masses low high }
+fn band_masses(l: f64, h: f64) -> Result<Masses, Refusal>
+    ensures { Taken (λ v. (v.low, v.high)) cell_refusal (band_masses (whole_of l) (whole_of h)) result }
 {
-    let l = low?;
-    let h = high?;
-    if l < h { Some((l, h)) } else { None }
+    let low = WholeMass::try_from(l)?.milligrams;
+    let high = WholeMass::try_from(h)?.milligrams;
+    if low < high {
+        Ok(Masses { low, high })
+    } else {
+        Err(cell_refusal())
+    }
 }
 
 // A cell handed in, taken apart: its low and high, where it is one of the three kinds.
-pub fn masses_of(c: Cell) -> Option<(u64, u64)>
-    ensures { result ≡ masses_of c }
-{
-    match c {
-        Cell::Empty => Some((0, 0)),
-        Cell::Exact(m) => exact_masses(whole_of(m)),
-        Cell::Band(l, h) => band_masses(whole_of(l), whole_of(h)),
+impl TryFrom<Cell> for Masses {
+    type Error = Refusal;
+
+    ghost try_from_gives = { λ c r. Taken (λ v. (v.low, v.high)) cell_refusal (masses_of c) r };
+
+    fn try_from(c: Cell) -> Result<Masses, Refusal> {
+        match c {
+            Cell::Empty => Ok(Masses { low: 0, high: 0 }),
+            Cell::Exact(m) => exact_masses(m),
+            Cell::Band(l, h) => band_masses(l, h),
+        }
     }
 }

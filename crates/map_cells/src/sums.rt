@@ -1,45 +1,36 @@
 // The sum of two cells.
-ghost use Rattle.std.specs.Prelude.{◌≡◌, ◌≤◌, Some};
-ghost use Rattle.map_cells.specs.Doubles.{mass_limit};
+ghost use Rattle.std.specs.Prelude.{◌≡◌, Some};
 ghost use Rattle.map_cells.specs.Sums.{masses_sum, cell_sum};
 ghost use Rattle.map_cells.specs.Promise.{SumPromise};
 
-use crate::Cell;
-use crate::doubles::{MASS_LIMIT, add_whole};
-use crate::kinds::{cell_between, masses_of};
-use refusals::{Refusal, Rule};
+use crate::doubles::{MASS_LIMIT, WholeMass, add_whole};
+use crate::kinds::{Limits, Masses};
+use crate::{Cell, cell_refusal};
+use refusals::Refusal;
 
 // Lows and highs, added as doubles.
-fn add_masses(low: u64, high: u64, low2: u64, high2: u64) -> Result<Cell, Refusal>
-    requires { (low ≤ high) × (high ≤ mass_limit) × (low2 ≤ high2) × (high2 ≤ mass_limit) }
-    ensures { result ≡ masses_sum (Some (low, high)) (Some (low2, high2)) }
+fn add_masses(a: Masses, b: Masses) -> Result<Cell, Refusal>
+    ensures { result ≡ masses_sum (Some (a.low, a.high)) (Some (b.low, b.high)) }
 {
-    if MASS_LIMIT < high + high2 {
-        return Err(Refusal {
-            rule: Rule::Cell,
-            place: 0,
-        });
+    if MASS_LIMIT < a.high + b.high {
+        return Err(cell_refusal());
     }
-    Ok(cell_between(add_whole(low, low2), add_whole(high, high2)))
+    let low = add_whole(
+        WholeMass { milligrams: a.low },
+        WholeMass { milligrams: b.low },
+    );
+    let high = add_whole(
+        WholeMass { milligrams: a.high },
+        WholeMass { milligrams: b.high },
+    );
+    Ok(Cell::from(Limits { low, high }))
 }
 
 // The sum of two cells handed in, or a refusal.
 pub fn add_cells(a: Cell, b: Cell) -> Result<Cell, Refusal>
     ensures { (result ≡ cell_sum a b) × SumPromise a b result }
 {
-    let first = masses_of(a);
-    let Some((low, high)) = first else {
-        return Err(Refusal {
-            rule: Rule::Cell,
-            place: 0,
-        });
-    };
-    let second = masses_of(b);
-    let Some((low2, high2)) = second else {
-        return Err(Refusal {
-            rule: Rule::Cell,
-            place: 0,
-        });
-    };
-    add_masses(low, high, low2, high2)
+    let first = Masses::try_from(a)?;
+    let second = Masses::try_from(b)?;
+    add_masses(first, second)
 }

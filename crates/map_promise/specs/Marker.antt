@@ -9,11 +9,11 @@ use Rattle.inventory.specs.ReportCall.{ReportCall}
 use Rattle.map_cells.specs.declared.Cell.{Cell}
 use Rattle.map_cells.specs.Values.{InCell}
 use Rattle.map_shares.specs.declared.Words.{Words}
-use Rattle.map_shares.specs.declared.Road.{Road}
+use Rattle.map_shares.specs.Kinds.{Road}
 use Rattle.map_shares.specs.declared.Travel.{Travel}
 use Rattle.map_shares.specs.Roads.{urban_road, rural_road, highway_road}
 use Rattle.map_shares.specs.ExactShares.{ExactMasses, exact_sum}
-use Rattle.map_rows.specs.declared.RowCells.{RowCells}
+use Rattle.map_rows.specs.Kinds.{RowCells}
 use Rattle.map_rows.specs.Rows.{row_cells_answer}
 
 -- "From a row's report words": the six of row i, as they stand in the buffer

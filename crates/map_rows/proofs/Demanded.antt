@@ -7,7 +7,7 @@ use Rattle.map_cells.specs.Doubles.{mass_limit}
 use Rattle.map_shares.specs.declared.Travel.{Travel}
 use Rattle.map_shares.specs.declared.Span.{Span}
 use Rattle.map_shares.specs.declared.Words.{Words}
-use Rattle.map_shares.specs.declared.RowShares.{RowShares}
+use Rattle.map_shares.specs.Kinds.{RowShares}
 use Rattle.map_shares.specs.Demands.{travel_limit, Driven, TravelIn, SpanIn, WordsIn}
 use Rattle.map_shares.specs.Shares.{total}
 use Rattle.map_rows.specs.Rows.{amiss, travel_wrong, span_wrong, words_wrong, over}

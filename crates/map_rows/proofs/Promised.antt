@@ -10,14 +10,14 @@ use Rattle.map_cells.proofs.Enclosed.{in_cell}
 use Rattle.map_cells.proofs.Signs.{cell-no-minus}
 use Rattle.map_shares.specs.declared.Travel.{Travel}
 use Rattle.map_shares.specs.declared.Words.{Words}
-use Rattle.map_shares.specs.declared.Road.{Road}
+use Rattle.map_shares.specs.Kinds.{Road}
 use Rattle.map_shares.specs.Demands.{TravelIn, WordsIn}
 use Rattle.map_shares.specs.Roads.{urban_road, rural_road, highway_road}
 use Rattle.map_shares.specs.Shares.{low_shares, high_shares, total, road_shares, row_shares}
 use Rattle.map_shares.specs.Range.{RoadIn}
 use Rattle.map_shares.proofs.Ranges.{shares-in, urban-in, rural-in, highway-in}
 use Rattle.map_shares.proofs.Enclosure.{sum-above, sum_below}
-use Rattle.map_rows.specs.declared.RowCells.{RowCells}
+use Rattle.map_rows.specs.Kinds.{RowCells}
 use Rattle.refusals.specs.declared.Rule.{Rule}
 use Rattle.refusals.specs.declared.Refusal.{Refusal}
 use Rattle.refusals.specs.Rule.{number}

@@ -1,4 +1,6 @@
+pub mod Kinds
 pub mod Digits
+pub mod Rounded
 pub mod Rows
 pub mod Promise
 pub mod Limits

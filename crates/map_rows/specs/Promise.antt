@@ -6,13 +6,12 @@ use Rattle.map_cells.specs.declared.Cell.{Cell}
 use Rattle.map_cells.specs.Values.{InCell, NoMinus}
 use Rattle.map_shares.specs.declared.Travel.{Travel}
 use Rattle.map_shares.specs.declared.Words.{Words}
-use Rattle.map_shares.specs.declared.Road.{Road}
-use Rattle.map_shares.specs.declared.RowShares.{RowShares}
+use Rattle.map_shares.specs.Kinds.{Road, RowShares}
 use Rattle.map_shares.specs.Demands.{TravelIn, WordsIn}
 use Rattle.map_shares.specs.Roads.{urban_road, rural_road, highway_road}
 use Rattle.map_shares.specs.Shares.{total, row_shares}
 use Rattle.map_shares.specs.ExactShares.{ExactMasses, InWords, exact_sum}
-use Rattle.map_rows.specs.declared.RowCells.{RowCells}
+use Rattle.map_rows.specs.Kinds.{RowCells}
 use Rattle.map_rows.specs.Rows.{RowCellsAnswer}
 
 -- no cell's high is above 2⁵³

@@ -11,10 +11,10 @@ use Rattle.map_shares.specs.declared.Travel.{Travel}
 use Rattle.map_shares.specs.declared.Span.{Span}
 use Rattle.map_shares.specs.declared.Words.{Words}
 use Rattle.map_shares.specs.declared.RoadShares.{RoadShares}
-use Rattle.map_shares.specs.declared.RowShares.{RowShares}
+use Rattle.map_shares.specs.Kinds.{RowShares}
 use Rattle.map_shares.specs.Demands.{travel_limit}
 use Rattle.map_shares.specs.Shares.{total, row_shares}
-use Rattle.map_rows.specs.declared.RowCells.{RowCells}
+use Rattle.map_rows.specs.Kinds.{RowCells}
 
 -- what the call answers: three cells, or a refusal, which has no cell
 abbrev pub RowCellsAnswer : Type 0

@@ -3,59 +3,43 @@
 
 ghost use Rattle.std.specs.Prelude.{◌≡◌};
 ghost use Rattle.map_rows.specs.Promise.{RowCellsPromise};
-ghost use Rattle.map_rows.specs.Rows.{row_cells_answer};
+ghost use Rattle.map_rows.specs.Rows.{travel_refusal, row_cells_answer};
 
 use crate::shares::row_shares;
-use checks::{travel_wrong, words_wrong};
+use checks::{CheckedTravel, CheckedWords};
 use map_cells::Cell;
-use map_shares::{Travel, Words};
+use map_cells::kinds::Limits;
+use map_shares::{Roads, Travel, Words};
 use refusals::{Refusal, Rule};
 use sums::share_out;
 
-mod checks;
+pub mod checks;
 pub mod roads;
 mod shares;
 mod split;
 mod sums;
 
-// The low and the high of one road kind, as doubles.
-#[derive(Clone, Copy)]
-pub struct Limits {
-    pub low: f64,
-    pub high: f64,
-}
-
-// The lows and highs of the three road kinds of one row.
-#[derive(Clone, Copy)]
-pub struct RoadLimits {
-    pub urban: Limits,
-    pub rural: Limits,
-    pub highway: Limits,
-}
+// The lows and highs of the three road kinds of one row, as doubles.
+pub type RoadLimits = Roads<Limits>;
 
 // The three cells of one row.
-#[derive(Clone, Copy)]
-pub struct RowCells {
-    pub urban: Cell,
-    pub rural: Cell,
-    pub highway: Cell,
+pub type RowCells = Roads<Cell>;
+
+// Why a row is refused for where its vehicles drive.
+pub fn travel_refusal() -> Refusal
+    ensures { result ≡ travel_refusal }
+{
+    Refusal {
+        rule: Rule::Travel,
+        place: 0,
+    }
 }
 
 // The cells of a row, or a refusal: 28 before 27.
 pub fn cells_of_row(w: Words, t: Travel) -> Result<RowCells, Refusal>
     ensures { (result ≡ row_cells_answer w t) × RowCellsPromise w t result }
 {
-    if travel_wrong(t) {
-        return Err(Refusal {
-            rule: Rule::Travel,
-            place: 0,
-        });
-    }
-    if words_wrong(w) {
-        return Err(Refusal {
-            rule: Rule::Cell,
-            place: 0,
-        });
-    }
-    share_out(row_shares(w, t))
+    let travel = CheckedTravel::try_from(t)?;
+    let words = CheckedWords::try_from(w)?;
+    share_out(row_shares(words, travel))
 }

@@ -1,12 +1,14 @@
 // A row's shares in whole milligrams, computed in 64 bits.
 ghost use Rattle.std.specs.Prelude.{◌≡◌};
-ghost use Rattle.map_shares.specs.Demands.{TravelIn, SpanIn, WordsIn};
+ghost use Rattle.map_shares.specs.Demands.{SpanIn};
 ghost use Rattle.map_shares.specs.Range.{PartIn, RoadIn, SharesIn, RowIn};
 ghost use Rattle.map_shares.specs.Shares.{share_down, share_up, road_shares, row_shares};
 
+use crate::checks::{CheckedTravel, CheckedWords};
 use crate::roads::{highway_road, rural_road, urban_road};
-use crate::split::{share_down, share_up};
-use map_shares::{Part, Road, RoadShares, RowShares, Shares, Span, Travel, Words};
+use crate::split::{Rounding, share};
+use map_cells::doubles::WholeMass;
+use map_shares::{Part, Road, RoadShares, RowShares, Shares, Span};
 
 // A mechanism's share: of its low, cut down, and of its high, cut up.
 fn span_share(s: Span, p: Part) -> Span
@@ -14,18 +16,18 @@ fn span_share(s: Span, p: Part) -> Span
     ensures { result ≡ record { low = share_down s.low p; high = share_up s.high p } }
 {
     Span {
-        low: share_down(s.low, p),
-        high: share_up(s.high, p),
+        low: share(WholeMass { milligrams: s.low }, p, Rounding::Down),
+        high: share(WholeMass { milligrams: s.high }, p, Rounding::Up),
     }
 }
 
-fn road_shares(w: Words, k: Road) -> RoadShares
-    requires { WordsIn w × RoadIn k }
-    ensures { (result ≡ road_shares w k) × SharesIn result }
+fn road_shares(w: CheckedWords, k: Road) -> RoadShares
+    requires { RoadIn k }
+    ensures { (result ≡ road_shares w.words k) × SharesIn result }
 {
-    let diurnal = span_share(w.diurnal, k.diurnal);
-    let soak = span_share(w.soak, k.soak);
-    let running = span_share(w.running, k.running);
+    let diurnal = span_share(w.words.diurnal, k.diurnal);
+    let soak = span_share(w.words.soak, k.soak);
+    let running = span_share(w.words.running, k.running);
     RoadShares {
         low: Shares {
             diurnal: diurnal.low,
@@ -41,9 +43,8 @@ fn road_shares(w: Words, k: Road) -> RoadShares
 }
 
 // The shares of a row whose words and travel are as they must be.
-pub fn row_shares(w: Words, t: Travel) -> RowShares
-    requires { WordsIn w × TravelIn t }
-    ensures { (result ≡ row_shares w t) × RowIn result }
+pub fn row_shares(w: CheckedWords, t: CheckedTravel) -> RowShares
+    ensures { (result ≡ row_shares w.words t.travel) × RowIn result }
 {
     RowShares {
         urban: road_shares(w, urban_road(t)),

@@ -2,15 +2,17 @@
 ghost use Rattle.std.specs.Prelude.{◌≡◌};
 ghost use Rattle.map_shares.specs.Range.{SharesIn, RowIn};
 ghost use Rattle.map_rows.specs.Rows.{over, shared_out};
-ghost use Rattle.map_rows.specs.Limits.{Fits, limits_of, LimitsIn, cells_within};
+ghost use Rattle.map_rows.specs.Limits.{Fits, LimitsOf, cells_within};
 
-use crate::{Limits, RoadLimits, RowCells};
+use crate::{RoadLimits, RowCells};
 use map_cells::doubles::{MASS_LIMIT, add_three};
-use map_cells::kinds::cell_between;
+use map_cells::kinds::Limits;
+use map_cells::{Cell, cell_refusal};
 use map_shares::{RoadShares, RowShares};
-use refusals::{Refusal, Rule};
+use refusals::Refusal;
 
 // The highs of a road kind pass 2^53. Asked of whole numbers: the double of 2^53 + 1 would not show it.
+#[tactic(auto, unfolding(crate::specs::Rows::over))]
 fn over(s: RoadShares) -> bool
     requires { SharesIn s }
     ensures { result ≡ over s }
@@ -21,7 +23,7 @@ fn over(s: RoadShares) -> bool
 // The low and the high of a road kind, each the sum of its shares.
 fn limits(s: RoadShares) -> Limits
     requires { Fits s }
-    ensures { result ≡ limits_of s }
+    ensures { LimitsOf s result }
 {
     Limits {
         low: add_three(s.low.diurnal, s.low.soak, s.low.running),
@@ -30,14 +32,14 @@ fn limits(s: RoadShares) -> Limits
 }
 
 // The three cells, from the lows and highs of the three road kinds.
+#[tactic(auto, unfolding(crate::specs::Limits::cells_within))]
 fn cells_of(k: RoadLimits) -> RowCells
-    requires { LimitsIn k }
     ensures { result ≡ cells_within k }
 {
     RowCells {
-        urban: cell_between(k.urban.low, k.urban.high),
-        rural: cell_between(k.rural.low, k.rural.high),
-        highway: cell_between(k.highway.low, k.highway.high),
+        urban: Cell::from(k.urban),
+        rural: Cell::from(k.rural),
+        highway: Cell::from(k.highway),
     }
 }
 
@@ -50,10 +52,7 @@ pub fn share_out(s: RowShares) -> Result<RowCells, Refusal>
     let r = s.rural;
     let h = s.highway;
     if over(u) | over(r) | over(h) {
-        return Err(Refusal {
-            rule: Rule::Cell,
-            place: 0,
-        });
+        return Err(cell_refusal());
     }
     let k = RoadLimits {
         urban: limits(u),

@@ -6,7 +6,7 @@ use Rattle.numbers.specs.Fraction.{Fraction, ◌≤ᶠ◌, ◌≈ᶠ◌, ◌+ᶠ
 use Rattle.numbers.proofs.Order.{≤_trans, ≈→≤, ≈→≥, +-mono, times-mono, over-mono, idle}
 use Rattle.map_shares.specs.declared.Part.{Part}
 use Rattle.map_shares.specs.declared.Words.{Words}
-use Rattle.map_shares.specs.declared.Road.{Road}
+use Rattle.map_shares.specs.Kinds.{Road}
 use Rattle.map_shares.specs.Shares.{share_down, share_up, low_shares, high_shares, total}
 use Rattle.map_shares.specs.ExactShares.{ExactMasses, InWords, exact_share, exact_sum}
 use Rattle.map_shares.specs.Range.{PartIn, RoadIn}

@@ -7,7 +7,7 @@ use Rattle.map_cells.specs.Doubles.{mass_limit}
 use Rattle.map_shares.specs.declared.Travel.{Travel}
 use Rattle.map_shares.specs.declared.Part.{Part}
 use Rattle.map_shares.specs.declared.Words.{Words}
-use Rattle.map_shares.specs.declared.Road.{Road}
+use Rattle.map_shares.specs.Kinds.{Road}
 use Rattle.map_shares.specs.Demands.{TravelIn, WordsIn}
 use Rattle.map_shares.specs.Roads.{rural_time, highway_time, both_times, rest_parts, all_mileage, urban_road, rural_road, highway_road}
 use Rattle.map_shares.specs.Shares.{share_down, share_up, low_shares, high_shares, road_shares}

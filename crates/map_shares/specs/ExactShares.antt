@@ -3,7 +3,7 @@ use Rattle.numbers.specs.Fraction.{Fraction, ◌≤ᶠ◌, ◌+ᶠ◌, whole, �
 use Rattle.map_shares.specs.declared.Span.{Span}
 use Rattle.map_shares.specs.declared.Part.{Part}
 use Rattle.map_shares.specs.declared.Words.{Words}
-use Rattle.map_shares.specs.declared.Road.{Road}
+use Rattle.map_shares.specs.Kinds.{Road}
 
 -- an exact mass, in milligrams, lies in a mechanism's two words
 pub record InSpan (s : Span) (x : Fraction) : Type 0 where

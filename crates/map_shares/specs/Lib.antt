@@ -1,3 +1,4 @@
+pub mod Kinds
 pub mod Demands
 pub mod Roads
 pub mod Shares

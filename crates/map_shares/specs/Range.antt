@@ -2,9 +2,8 @@
 use Rattle.std.specs.Prelude.{ℕ, ◌≤◌, ◌<◌}
 use Rattle.map_cells.specs.Doubles.{mass_limit}
 use Rattle.map_shares.specs.declared.Part.{Part}
-use Rattle.map_shares.specs.declared.Road.{Road}
+use Rattle.map_shares.specs.Kinds.{Road, RowShares}
 use Rattle.map_shares.specs.declared.RoadShares.{RoadShares}
-use Rattle.map_shares.specs.declared.RowShares.{RowShares}
 use Rattle.map_shares.specs.Shares.{total}
 
 -- twelve times two times of 10¹² at most

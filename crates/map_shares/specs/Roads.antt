@@ -2,7 +2,7 @@
 -- other rows. Definitions only.
 use Rattle.std.specs.Prelude.{cond, ℕ, ◌+◌, ◌*◌}
 use Rattle.map_shares.specs.declared.Travel.{Travel}
-use Rattle.map_shares.specs.declared.Road.{Road}
+use Rattle.map_shares.specs.Kinds.{Road}
 
 -- "rural mileage times highway speed": the time on rural roads, times both speeds
 abbrev pub rural_time : Travel → ℕ

@@ -3,10 +3,8 @@ use Rattle.std.specs.Prelude.{ℕ, ◌+◌, ◌*◌, ◌-◌, ◌/◌}
 use Rattle.map_shares.specs.declared.Travel.{Travel}
 use Rattle.map_shares.specs.declared.Part.{Part}
 use Rattle.map_shares.specs.declared.Words.{Words}
-use Rattle.map_shares.specs.declared.Road.{Road}
-use Rattle.map_shares.specs.declared.Shares.{Shares}
+use Rattle.map_shares.specs.Kinds.{Road, Shares, RowShares}
 use Rattle.map_shares.specs.declared.RoadShares.{RoadShares}
-use Rattle.map_shares.specs.declared.RowShares.{RowShares}
 use Rattle.map_shares.specs.Roads.{urban_road, rural_road, highway_road}
 
 -- "Each share's low is rounded down and its high up to whole milligrams, before the cell is summed."

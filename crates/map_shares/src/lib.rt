@@ -51,21 +51,27 @@ pub struct Part {
     pub all: u64,
 }
 
-// What part of each mechanism's mass falls on one road kind.
+// One of each of the three mechanisms.
 #[derive(Clone, Copy)]
-pub struct Road {
-    pub diurnal: Part,
-    pub soak: Part,
-    pub running: Part,
+pub struct Mechanisms<T> {
+    pub diurnal: T,
+    pub soak: T,
+    pub running: T,
 }
 
-// A road kind's shares of the three mechanisms, in milligrams.
+// One for each of the three road kinds of one row.
 #[derive(Clone, Copy)]
-pub struct Shares {
-    pub diurnal: u64,
-    pub soak: u64,
-    pub running: u64,
+pub struct Roads<T> {
+    pub urban: T,
+    pub rural: T,
+    pub highway: T,
 }
+
+// What part of each mechanism's mass falls on one road kind.
+pub type Road = Mechanisms<Part>;
+
+// A road kind's shares of the three mechanisms, in milligrams.
+pub type Shares = Mechanisms<u64>;
 
 // The shares of the lows, cut down, and those of the highs, cut up.
 #[derive(Clone, Copy)]
@@ -75,9 +81,4 @@ pub struct RoadShares {
 }
 
 // Those of the three road kinds of one row.
-#[derive(Clone, Copy)]
-pub struct RowShares {
-    pub urban: RoadShares,
-    pub rural: RoadShares,
-    pub highway: RoadShares,
-}
+pub type RowShares = Roads<RoadShares>;

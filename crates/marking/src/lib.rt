@@ -7,7 +7,7 @@ ghost use Rattle.marking.specs.Verdicts.{compared, verdict};
 ghost use Rattle.marking.specs.Meaning.{Marked};
 
 // The unit that a mass is filed in.
-#[derive(Clone, Copy)]
+#[derive(Clone, Copy, Debug, PartialEq, Eq)]
 pub enum Unit {
     Milligram,
     Gram,
@@ -24,7 +24,7 @@ pub struct Filed {
 }
 
 // What a band says of a filed figure.
-#[derive(Clone, Copy)]
+#[derive(Clone, Copy, Debug, PartialEq, Eq)]
 pub enum Verdict {
     // Every mass of the band rounds to the figure, both ends of the rounding included.
     Agrees,
@@ -44,6 +44,7 @@ const PLACES_LIMIT: u64 = 6;
 const POWER_LIMIT: u64 = 18;
 
 // A unit as a power of ten of milligrams.
+#[tactic(auto, unfolding(crate::specs::Figure::exponent))]
 fn exponent_of(unit: Unit) -> u64
     ensures { (result ≡ exponent unit) × (result ≤ 9) }
 {

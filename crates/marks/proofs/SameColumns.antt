@@ -5,8 +5,8 @@ use mathlib.Core.Path.{◌≡◌, ◌∙◌, ap}
 use Prim.Native.Nat.{ℕ, ◌+◌, ◌*◌, ◌-◌, ◌/◌, ◌%◌, ◌^◌, ◌<◌}
 use native.Mathlib.Nat.{mod-lt}
 use native.Mathlib.Omega.{arith}
-use Rattle.numbers.specs.Lists.{tab, at, AllAtMost}
-use Rattle.numbers.proofs.Lists.{tab-ext, get_d-tab, tab-at-most}
+use Rattle.numbers.specs.Lists.{tab, at}
+use Rattle.numbers.proofs.Lists.{tab-ext, get_d-tab}
 use Rattle.bounds.specs.Weights.{apart}
 use Rattle.bounds.specs.Ahead.{ahead}
 use Rattle.bounds.proofs.Laws.{apart-most}
@@ -30,9 +30,27 @@ few-at season {warmths} {few} e f k h =
     = rw e (get_d-tab (mark_warmth season) 48 (ahead (apart k)) (omega arith)) in
     first ∙ second ∙ warmth-alike season k h
 
--- and is in range
-pub few-most : {bound : ℕ} {warmths few : List ℕ} → AllAtMost bound warmths → few ≡ tab (λ (d : ℕ). at warmths (ahead d)) 25 → AllAtMost bound few
-few-most m f = tab-at-most _ 25 f (λ d _. m.at_most (ahead d))
+-- by distance it is that of the mark so far before 14:00
+pub few-are : (season : Season) {warmths few : List ℕ} → warmths ≡ tab (mark_warmth season) 48 → few ≡ tab (λ (d : ℕ). at warmths (ahead d)) 25
+    → few ≡ tab (λ (d : ℕ). mark_warmth season (ahead d)) 25
+few-are season e f = f ∙ tab-ext 25 (λ d _. rw e (get_d-tab (mark_warmth season) 48 (ahead d) (omega arith)))
+
+-- and so are the values that are computed at it
+module _ (θ : ℕ → ℕ) {few : List ℕ} (there : few ≡ tab (λ (d : ℕ). θ (ahead d)) 25) where
+  few-at-distance : (d : ℕ) → d < 25 → at few d ≡ θ (ahead d)
+  few-at-distance d h = rw there (get_d-tab (λ (d : ℕ). θ (ahead d)) 25 d h)
+
+  -- permeation per hour, each temperature raised by r
+  pub rates-by-distance : (m vp r : ℕ) → m ≡ pressure_factor vp
+      → tab (λ (d : ℕ). m * bracket_units (at few d + r) / 2 ^ 40) 25 ≡ tab (λ (d : ℕ). rate vp (θ (ahead d) + r)) 25
+  unfolding rate
+  rates-by-distance m vp r f = tab-ext 25 (λ d h. rw (f, few-at-distance d h))
+
+  -- the rises when each temperature is raised by r
+  pub raises-by-distance : {heats : List ℕ} → heats ≡ tab (λ (d : ℕ). heat (at few d)) 25 → (r : ℕ)
+      → tab (λ (d : ℕ). heat (at few d + r) - (at heats d + raised_error)) 25 ≡ tab (λ (d : ℕ). raise r (θ (ahead d))) 25
+  unfolding raise
+  raises-by-distance g r = tab-ext 25 (λ d h. rw (g, get_d-tab (λ (d : ℕ). heat (at few d)) 25 d h, few-at-distance d h))
 
 module _ (θ : ℕ → ℕ) (few : List ℕ) (there : (k : ℕ) → k < 48 → at few (apart k) ≡ θ k) where
   -- permeation per hour, each temperature raised by r
@@ -61,9 +79,3 @@ module _ (θ : ℕ → ℕ) (few : List ℕ) (there : (k : ℕ) → k < 48 → a
       where
         heat-of : (k : ℕ) → k < 48 → at all k ≡ heat (θ k)
         heat-of k h = rw (e, get_d-tab (λ (i : ℕ). at heats (apart i)) 48 k h) (heat-at k h)
-
-    -- the rises when each temperature is raised by r
-    pub raises-are : (r : ℕ)
-        → tab (λ (i : ℕ). heat (at few (apart i) + r) - (at heats (apart i) + raised_error)) 48 ≡ tab (λ (i : ℕ). raise r (θ i)) 48
-    unfolding raise
-    raises-are r = tab-ext 48 (λ k h. rw (heat-at k h, there k h))

@@ -1,6 +1,7 @@
 -- Need not be believed: what the computed values of a season at its day marks are.
 use Rattle.std.specs.Prelude.{◌≡◌, ℕ, ◌+◌}
 use Rattle.numbers.specs.Lists.{tab}
+use Rattle.bounds.specs.Ahead.{ahead}
 use Rattle.exact.specs.declared.Season.{Season}
 use Rattle.marks.specs.declared.Marks.{Marks}
 use Rattle.marks.specs.declared.MarkValues.{MarkValues}
@@ -20,17 +21,18 @@ pub record MarksOf (season : Season) (m : Marks) : Type 0 where
   pub temperature-is : m.temperature ≡ tab (mark_warmth season) 48
   pub exponential-is : m.exponential ≡ tab (λ (i : ℕ). heat (mark_warmth season i)) 48
 
--- each list is that of its value at marks 0 to 47
+-- each list is that of its value at marks 0 to 47, or by distance from 14:00 that of the mark so far before it
 pub record AtMarks (season : Season) (m : MarkValues) : Type 0 where
   pub marks-of : MarksOf season m.marks
+  pub warmths-are : m.warmths.by_distance ≡ tab (λ (d : ℕ). mark_warmth season (ahead d)) 25
   pub step_is : m.step ≡ tab (step_at (mark_warmth season)) 48
   pub rate-is : m.rate ≡ tab (λ (i : ℕ). rate season.vp (mark_warmth season i)) 48
-  pub soak-is : m.soak ≡ tab (rates_at season 110) 48
-  pub run_is : m.run ≡ tab (rates_at season 150) 48
-  pub raise10-is : m.raise10 ≡ tab (raises_by season 10) 48
-  pub raise15-is : m.raise15 ≡ tab (raises_by season 15) 48
-  pub raise25-is : m.raise25 ≡ tab (raises_by season 25) 48
-  pub raise35-is : m.raise35 ≡ tab (raises_by season 35) 48
-  pub raise45-is : m.raise45 ≡ tab (raises_by season 45) 48
-  pub raise50-is : m.raise50 ≡ tab (raises_by season 50) 48
-  pub raise60-is : m.raise60 ≡ tab (raises_by season 60) 48
+  pub soak-is : m.soak ≡ tab (λ (d : ℕ). rates_at season 110 (ahead d)) 25
+  pub run_is : m.run ≡ tab (λ (d : ℕ). rates_at season 150 (ahead d)) 25
+  pub raise10-is : m.raise10 ≡ tab (λ (d : ℕ). raises_by season 10 (ahead d)) 25
+  pub raise15-is : m.raise15 ≡ tab (λ (d : ℕ). raises_by season 15 (ahead d)) 25
+  pub raise25-is : m.raise25 ≡ tab (λ (d : ℕ). raises_by season 25 (ahead d)) 25
+  pub raise35-is : m.raise35 ≡ tab (λ (d : ℕ). raises_by season 35 (ahead d)) 25
+  pub raise45-is : m.raise45 ≡ tab (λ (d : ℕ). raises_by season 45 (ahead d)) 25
+  pub raise50-is : m.raise50 ≡ tab (λ (d : ℕ). raises_by season 50 (ahead d)) 25
+  pub raise60-is : m.raise60 ≡ tab (λ (d : ℕ). raises_by season 60 (ahead d)) 25

@@ -1,18 +1,14 @@
 // One vehicle's loss on one day, in units of 10^-12 g: shares in percent, trips in hundredths, factors in micrograms.
 ghost use Rattle.std.specs.Prelude.{◌≡◌, ◌*◌, ◌^◌, ◌<◌, ◌≤◌};
-ghost use Rattle.sheet.specs.Range.{RowInRange};
-ghost use Rattle.parking.specs.Grid.{cells_in};
-ghost use Rattle.breakthrough.specs.Curves.{KeptOf};
-ghost use Rattle.row_factors.specs.Season.{Lent, ListFor};
+ghost use Rattle.row_factors.specs.Season.{RowReady};
 ghost use Rattle.masses.specs.Figures.{blended};
 ghost use Rattle.masses.specs.Day.{UnitsInRange, MicrogramsInRange, UseInRange, trip_limit};
 ghost use Rattle.masses.specs.Day.{three_figures, six_figures, day_figures};
 
-use bounds::exp::ExpTables;
+use breakthrough::loads::LoadedRow;
 use exact::Row;
 use row_factors::micrograms::{high_micrograms, low_micrograms};
-use row_factors::season::AtSeason;
-use row_factors::units::row_units;
+use row_factors::rows::SeasonRows;
 
 // Units of 10^-12 g in a microgram.
 const MICROGRAM: u64 = 1000000;
@@ -50,17 +46,9 @@ pub fn six_figures(units: [u64; 7], row: Row) -> [u64; 6]
 }
 
 // A row in a season: what one of its vehicles loses on one day.
-pub fn row_figures(
-    tables: &ExpTables,
-    grid: &[u64; 627],
-    list: &[u64; 1732],
-    at: AtSeason,
-    row: Row,
-    kept: u64,
-) -> [u64; 6]
-    requires { Lent tables.now grid.now at × RowInRange at.season row × UseInRange row
-        × ListFor grid.now list.now at.season row × KeptOf row kept }
-    ensures { result ≡ day_figures (cells_in grid.now) at.season row }
+pub fn row_figures(rows: &SeasonRows, row: LoadedRow) -> [u64; 6]
+    requires { RowReady rows.now.grid.now.cells.counts rows.now.list.now rows.now.at.season row.row × UseInRange row.row }
+    ensures { result ≡ day_figures rows.now.grid.now.cells.counts rows.now.at.season row.row }
 {
-    six_figures(row_units(tables, grid, list, at, row, kept), row)
+    six_figures(rows.units(row), row.row)
 }

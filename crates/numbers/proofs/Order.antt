@@ -19,7 +19,7 @@ pub ruleset ring = (mul_comm, mul_assoc, mul_left_comm, mul-add, add-mul, add_co
 pub via : {a b a' b' : ℕ} → a' ≤ b' → a ≡ a' → b ≡ b' → a ≤ b
 via h e f = omega arith
 
--- (m − n)·k = m·k − n·k
+-- (m − n)·k = m·k − n·k: std's `mul-sub` has the factor on the left, and `simp` needs it on the right.
 pub sub-mul : (m n k : ℕ) → (m - n) * k ≡ m * k - n * k
 sub-mul m n k = rw (mul_comm (m - n) k, mul-sub, mul_comm k m, mul_comm k n)
 

@@ -1,14 +1,15 @@
--- Stores one after another, from a place on: what stands in them, before them and past them.
+-- Stores one after another, from a place on: what stands in them, before them and past them. std's `sets-eq` says the same of stores within
+-- the list alone; only what stands in them asks for that here.
 -- Assumes nothing.
-use mathlib.Core.List.{List, [], ◌∷◌, ◌++◌}
+use mathlib.Core.List.{List, [], ◌∷◌, ◌++◌, append_assoc}
 use mathlib.Core.Path.{◌≡◌, refl, sym, ◌∙◌, ap}
 use Prim.Native.Nat.{ℕ, suc, zero, ◌+◌, ◌≤◌, ◌<◌}
 use native.Mathlib.Numerals.{add-one}
 use native.Mathlib.Omega.{arith}
-use lib.ListN.{length, get_or, set, drop, length-set}
-use lib.Seq.{sets, drop-set-lt, get_or-set_same, get_or-set_other}
+use lib.ListN.{length, get_or, set, take, drop, get_or-append}
+use lib.Seq.{sets, sets-eq, drop-set-lt, get_or-set_other, length-take-le}
 use Rattle.numbers.specs.Lists.{tab}
-use Rattle.numbers.proofs.Lists.{tab-length}
+use Rattle.numbers.proofs.Lists.{tab-length, past}
 
 -- a store past the others
 pub sets_more : (l : List ℕ) (i : ℕ) (vs : List ℕ) (v : ℕ) → set (sets l i vs) (i + length vs) v ≡ sets l i (vs ++ (v ∷ []))
@@ -24,13 +25,10 @@ sets-before l i (a ∷ vs) j h = sets-before (set l i a) (suc i) vs j (omega ari
 
 -- in them,
 pub sets-in : (l : List ℕ) (i : ℕ) (vs : List ℕ) (m : ℕ) → m < length vs → i + length vs ≤ length l → get_or (sets l i vs) (i + m) 0 ≡ get_or vs m 0
-sets-in l i [] m h g = absurd (omega arith)
-sets-in l i (a ∷ vs) zero h g =
-    let e : i + 0 ≡ i = omega arith in
-    rw e (sets-before (set l i a) (suc i) vs i (omega arith) ∙ get_or-set_same l i a 0 (omega arith))
-sets-in l i (a ∷ vs) (suc m) h g =
-    let e : i + suc m ≡ suc i + m = omega arith in
-    rw e (sets-in (set l i a) (suc i) vs m (omega arith) (omega (arith, length-set l i a)))
+sets-in l i vs m h g =
+    rw (sets-eq vs l i g, append_assoc)
+    (past (take i l) (vs ++ drop (i + length vs) l) i m (i + m) (length-take-le i l (omega arith)) refl ∙
+    get_or-append vs (drop (i + length vs) l) 0 m h)
 
 -- and past them
 pub sets-beyond : (l : List ℕ) (i : ℕ) (vs : List ℕ) (j : ℕ) → i + length vs ≤ j → get_or (sets l i vs) j 0 ≡ get_or l j 0

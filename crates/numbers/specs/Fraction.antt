@@ -2,7 +2,7 @@
 -- and two are compared by multiplying crosswise." Definitions only.
 use Rattle.std.specs.Prelude.{Bool, ◌≡◌, ℕ, suc, zero, ◌+◌, ◌*◌, ◌-◌, ◌^◌, ◌≤◌, ◌<◌, max, leb}
 use Rattle.std.proofs.Common.{arith, mul-pos}
-use Rattle.std.proofs.Math.Nat.{le-max_left}
+use Rattle.std.proofs.Math.Nat.{le-max_left, one-le-pow, zero-lt-suc}
 
 -- (up - down) / den: the signed whole numerator is written as a difference of two natural numbers
 pub record Fraction : Type 0 where
@@ -68,8 +68,7 @@ x ^ᶠ zero = whole 1
 x ^ᶠ suc i = x ^ᶠ i *ᶠ x
 
 pub ten-pos : (places : ℕ) → 0 < 10 ^ places
-ten-pos zero = omega arith
-ten-pos (suc places) = omega (arith, ten-pos places)
+ten-pos places = one-le-pow places 10 (zero-lt-suc 9)
 
 -- a decimal number: 0.0716 is 716 /10^ 4
 infix 8 ◌/10^◌

@@ -2,16 +2,16 @@
 -- Assumes nothing.
 use mathlib.Core.Bool.{false}
 use mathlib.Core.List.{List}
-use mathlib.Core.Path.{◌≡◌, refl, sym, ◌∙◌, ap}
+use mathlib.Core.Path.{◌≡◌, refl, sym, ◌∙◌}
 use Prim.Native.Nat.{ℕ, ◌*◌, ◌≤◌, ◌<◌, zero-le}
 use native.Mathlib.Decide.{ℕ_discrete}
 use native.Mathlib.Omega.{arith}
 use borrow.Author.Tests.{eq-eqb, ne_eqb}
 use Rattle.numbers.specs.Lists.{tab, at, AllAtMost}
 use Rattle.numbers.proofs.Lists.{sum-ext, get_d-tab, tab-at-most}
-use Rattle.parking.specs.Grid.{cells_in, apart_of}
+use Rattle.parking.specs.Grid.{apart_of}
 use Rattle.parking.specs.SeasonList.{counted_rise, ListReady}
-use Rattle.parking.proofs.Tally.{cell-is}
+use Rattle.parking.specs.declared.season_list.SeasonList.{SeasonList}
 
 -- the rises of all cells as the list has them
 unfoldable pub counted_rises : List ℕ → List ℕ → List ℕ
@@ -24,10 +24,9 @@ unfolding counted_rises
 counted_rises-at cells rises cell h = get_d-tab (λ (k : ℕ). counted_rise (at cells k) (at rises k)) 576 cell h
 
 -- as the program has it
-pub rise-counted : (grid rises : List ℕ) (cell : ℕ) → cell < 576 → {rise : ℕ} → rise ≡ counted_rise (at grid cell) (at rises cell)
-    → rise ≡ at (counted_rises (cells_in grid) rises) cell
-rise-counted grid rises cell h e =
-    e ∙ ap (λ (x : ℕ). counted_rise x (at rises cell)) (cell-is grid cell h) ∙ sym (counted_rises-at (cells_in grid) rises cell h)
+pub rise-counted : (cells rises : List ℕ) (cell : ℕ) → cell < 576 → {rise : ℕ} → rise ≡ counted_rise (at cells cell) (at rises cell)
+    → rise ≡ at (counted_rises cells rises) cell
+rise-counted cells rises cell h e = e ∙ sym (counted_rises-at cells rises cell h)
 
 -- none is above the cell's own rise
 counted_rise-most : (count rise : ℕ) → counted_rise count rise ≤ rise
@@ -52,7 +51,7 @@ counted_rise-times count rise f =
     ]
 
 -- a list of these rises is one of the season's rises
-pub counted_ready : {cells rises list : List ℕ} → ListReady cells (counted_rises cells rises) list → ListReady cells rises list
+pub counted_ready : {cells rises : List ℕ} {list : SeasonList} → ListReady cells (counted_rises cells rises) list → ListReady cells rises list
 counted_ready {cells} {rises} {list} r = record {
   fits = λ bound h. r.fits bound (counted_rises-most cells rises bound h);
   sum_is = λ f z.

@@ -3,7 +3,6 @@ pub mod Products
 pub mod Tally
 pub mod Weighted
 pub mod Passed
-pub mod Parts
 pub mod Walked
 pub mod Carried
 pub mod Counted

@@ -1,19 +1,19 @@
 -- How much each place counts: the tally of the cells by place, and sums taken by place instead of by cell.
 use mathlib.Core.Bool.{Bool, true, false}
-use mathlib.Core.Path.{◌≡◌, refl, sym, ◌∙◌}
+use mathlib.Core.Path.{◌≡◌, refl, ◌∙◌}
 use mathlib.Core.List.{List}
 use Prim.Native.Nat.{ℕ, zero, suc, ◌+◌, ◌*◌, ◌≤◌, ◌<◌}
 use native.Mathlib.Numerals.{add-one}
 use native.Mathlib.Omega.{arith}
 use native.Mathlib.Decide.{ℕ_discrete}
 use lib.ListN.{length, set, replicate, length-set, length-replicate}
-use lib.Seq.{get_or-set_same, get_or-set_other, get_or-take}
+use lib.Seq.{get_or-set_same, get_or-set_other}
 use Rattle.numbers.specs.Lists.{at, sum}
 use Rattle.numbers.proofs.Lists.{sum-none, sum-le}
 use Rattle.bounds.proofs.Laws.{apart-most}
 use Rattle.exact.specs.Day.{start_mark}
 use Rattle.factors.specs.Units.{start_of, end_of}
-use Rattle.parking.specs.Grid.{mark_of, apart_of, tally, cells_in}
+use Rattle.parking.specs.Grid.{mark_of, apart_of, tally}
 use Rattle.parking.proofs.Sums.{sum-next, sum-but-one}
 
 -- a mark is below 48
@@ -29,10 +29,6 @@ mark_of-below false cell = start_mark-below _ _
 -- and at most 12 hours from 14:00
 pub apart_of-below : (ends : Bool) (cell : ℕ) → apart_of ends cell < 25
 apart_of-below ends cell = omega (arith, apart-most (mark_of ends cell))
-
--- the first 576 numbers of the array are the counts
-pub cell-is : (grid : List ℕ) (cell : ℕ) → cell < 576 → at grid cell ≡ at (cells_in grid) cell
-cell-is grid cell h = sym (get_or-take 576 grid cell 0 h)
 
 -- a store at a place takes the old value's part away and adds the new one's
 sum-set : (g : ℕ → ℕ) (xs : List ℕ) (a v n : ℕ) → a < length xs → a < n

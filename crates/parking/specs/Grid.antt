@@ -1,5 +1,5 @@
--- Need not be believed: the counts of a sheet's parking cells as one array, and the sums over them that the program uses.
-use Rattle.std.specs.Prelude.{◌≡◌, Bool, true, false, List, ℕ, zero, suc, ◌+◌, ◌^◌, ◌≤◌, ◌<◌, length, set, replicate, take}
+-- Need not be believed: the counts of a sheet's parking cells, and the sums over them that the program uses.
+use Rattle.std.specs.Prelude.{◌≡◌, Bool, true, false, List, ℕ, zero, suc, ◌+◌, ◌^◌, ◌≤◌, length, set, replicate}
 use Rattle.numbers.specs.Lists.{at}
 use Rattle.bounds.specs.Weights.{apart}
 use Rattle.exact.specs.Factors.{total, end_hour, duration}
@@ -33,23 +33,6 @@ unfoldable pub tally : ℕ → (ℕ → ℕ) → List ℕ → ℕ → List ℕ
 tally places place cells zero = replicate places 0
 tally places place cells (suc n) =
     set (tally places place cells n) (place n) (at (tally places place cells n) (place n) + at cells n)
-
--- In the array stand the 576 counts, how much each distance from 14:00 counts at the start of a parking, at the end of one, and the sum
--- of the counts.
-abbrev pub cells_in : List ℕ → List ℕ
-cells_in grid = take 576 grid
-
-abbrev pub apart_place : Bool → ℕ
-apart_place false = 576
-apart_place true = 601
-
-abbrev pub sum_place : ℕ
-sum_place = 626
-
-pub record GridReady (grid : List ℕ) : Type 0 where
-  pub cells-in : CellsInRange (cells_in grid)
-  pub apart-are : (ends : Bool) (d : ℕ) → d < 25 → at grid (apart_place ends + d) ≡ at (tally 25 (apart_of ends) (cells_in grid) 576) d
-  pub sum_is : at grid sum_place ≡ total (cells_in grid)
 
 -- what passed in a cell's parking, of values by mark: an end hour adds one value for each of its 24 half-hours
 unfoldable pub passed_in : List ℕ → ℕ → ℕ

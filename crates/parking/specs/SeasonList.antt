@@ -1,7 +1,9 @@
 -- Need not be believed: the list of a season's parkings that the program adds up for a row with a canister.
-use Rattle.std.specs.Prelude.{false, cond, List, ◌≡◌, ℕ, ◌+◌, ◌*◌, ◌^◌, ◌≤◌, ◌<◌, eqb}
+use Rattle.std.specs.Prelude.{false, cond, List, ◌≡◌, ℕ, ◌*◌, ◌^◌, ◌≤◌, ◌<◌, eqb, get_or}
 use Rattle.numbers.specs.Lists.{at, sum, AllAtMost}
 use Rattle.parking.specs.Grid.{apart_of}
+use Rattle.parking.specs.declared.season_list.Entry.{Entry}
+use Rattle.parking.specs.declared.season_list.SeasonList.{SeasonList}
 
 -- what the first n cells give, of a value by the start's distance from 14:00 and by the rise
 abbrev pub by_cell : List ℕ → List ℕ → (ℕ → ℕ → ℕ) → ℕ → ℕ
@@ -11,22 +13,29 @@ by_cell cells rises f n = sum (λ (cell : ℕ). at cells cell * f (apart_of fals
 abbrev pub counted_rise : ℕ → ℕ → ℕ
 counted_rise count rise = cond (eqb count 0) 0 rise
 
--- In the array stand 577 starts, by their distance from 14:00, as many rises and counts, and how many of them are entries.
-abbrev pub entry_count : List ℕ → ℕ
-entry_count list = at list 1731
+-- an entry, and the one that stands for none
+abbrev pub none : Entry
+none = record { kind = record { start = 0; rise = 0 }; count = 0 }
 
--- what its entries give
-abbrev pub by_entry : List ℕ → (ℕ → ℕ → ℕ) → ℕ
-by_entry list f = sum (λ (k : ℕ). at list (1154 + k) * f (at list k) (at list (577 + k))) (entry_count list)
+abbrev pub entry_at : List Entry → ℕ → Entry
+entry_at entries k = get_or entries k none
+
+-- what an entry gives
+abbrev pub part : (ℕ → ℕ → ℕ) → List Entry → ℕ → ℕ
+part f entries k = (entry_at entries k).count * f (entry_at entries k).kind.start (entry_at entries k).kind.rise
+
+-- what those of a list give
+abbrev pub by_entry : SeasonList → (ℕ → ℕ → ℕ) → ℕ
+by_entry list f = sum (part f list.entries) list.length
 
 -- how large its values are
-pub record ListFits (bound : ℕ) (list : List ℕ) : Type 0 where
-  pub entries-most : entry_count list ≤ 576
-  pub starts-below : (k : ℕ) → k < 577 → at list k < 25
-  pub rises-most : (k : ℕ) → k < 577 → at list (577 + k) ≤ bound
-  pub counts-most : sum (λ (k : ℕ). at list (1154 + k)) (entry_count list) ≤ 10 ^ 6
+pub record ListFits (bound : ℕ) (list : SeasonList) : Type 0 where
+  pub length-most : list.length ≤ 576
+  pub starts-below : (k : ℕ) → k < 577 → (entry_at list.entries k).kind.start < 25
+  pub rises-most : (k : ℕ) → k < 577 → (entry_at list.entries k).kind.rise ≤ bound
+  pub counts-most : sum (λ (k : ℕ). (entry_at list.entries k).count) list.length ≤ 10 ^ 6
 
 -- For every value by start and rise that is 0 where the rise is, the entries give what the cells give.
-pub record ListReady (cells rises list : List ℕ) : Type 0 where
+pub record ListReady (cells rises : List ℕ) (list : SeasonList) : Type 0 where
   pub fits : (bound : ℕ) → AllAtMost bound rises → ListFits bound list
   pub sum_is : (f : ℕ → ℕ → ℕ) → ((start : ℕ) → start < 25 → f start 0 ≡ 0) → by_entry list f ≡ by_cell cells rises f 576

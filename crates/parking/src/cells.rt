@@ -1,8 +1,9 @@
 // The cells of the grid, end hour 1 first, its 24 durations in a row: what they hold, and at which marks their parkings start and end.
+// They are one flat array since a sheet has them in this order.
 ghost use Rattle.std.specs.Prelude.{◌≡◌, ◌<◌, ◌≤◌, length};
 ghost use Rattle.exact.specs.Day.{start_mark};
 ghost use Rattle.exact.specs.Factors.{total, products};
-ghost use Rattle.parking.specs.Grid.{mark_of, is_end, apart_of};
+ghost use Rattle.parking.specs.Grid.{CellsInRange, mark_of, is_end, apart_of, tally};
 
 use bounds::hours::apart;
 
@@ -51,4 +52,37 @@ pub fn apart_of(cell: usize, moment: Moment) -> usize
     ensures { (result ≡ apart_of (is_end moment) cell) × (result ≤ 24) }
 {
     apart(mark_of(cell, moment))
+}
+
+// The counts of the 576 cells: some parking is counted, and at most a million.
+#[derive(Clone, Copy)]
+pub struct Cells {
+    pub counts: [u64; 576],
+    ghost in_range: { CellsInRange counts },
+}
+
+// The loops go over ranges: with iterators over the arrays a report took 10 kB more stack.
+impl Cells {
+    // The sum of the counts.
+    pub fn total(&self) -> u64
+        ensures { result ≡ total self.now.counts }
+    {
+        let mut sum: u64 = 0;
+        for cell in 0..576 {
+            sum += self.counts[cell];
+        }
+        sum
+    }
+
+    // How much each distance from 14:00 counts at the start, or the end, of a parking.
+    pub fn by_distance(&self, moment: Moment) -> [u64; 25]
+        ensures { result ≡ tally 25 (apart_of (is_end moment)) self.now.counts 576 }
+    {
+        let mut out = [0u64; 25];
+        for cell in 0..576 {
+            let d = apart_of(cell, moment);
+            out[d] += self.counts[cell];
+        }
+        out
+    }
 }

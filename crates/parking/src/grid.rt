@@ -1,79 +1,79 @@
-// The grid of a sheet as one array, made once: its cells, how much each distance from 14:00 counts at the start and at the end of a
-// parking, and the sum of the counts.
-ghost use Rattle.std.specs.Prelude.{[], ◌∷◌, ◌++◌, ◌≡◌, ◌<◌, length};
-ghost use Rattle.numbers.specs.Lists.{at};
+// The grid of a sheet, made once: its cells, how much each distance from 14:00 counts at the start and at the end of a parking, and the sum
+// of the counts. Weighted means over it are in units of 2^-28 g: of values by cell, and of values that depend on the temperature of one
+// moment, which stand by that moment's distance from 14:00.
+ghost use Rattle.std.specs.Prelude.{false, true, ◌≡◌, ℕ, ◌*◌, ◌/◌, ◌^◌, ◌<◌};
+ghost use Rattle.numbers.specs.Lists.{at, sum, AllAtMost};
 ghost use Rattle.exact.specs.Factors.{total};
-ghost use Rattle.parking.specs.Grid.{CellsInRange, is_end, apart_of, tally, cells_in, GridReady};
+ghost use Rattle.factors.specs.Means.{mean_units};
+ghost use Rattle.parking.specs.Grid.{is_end, apart_of, tally};
 
-use crate::cells::{Moment, apart_of};
+use crate::cells::{Cells, Moment};
 
-// The loops of this file go over ranges: with iterators over the arrays a report took 10 kB more stack.
+// From units of 2^-40 g, the values', to units of 2^-28 g.
+const CUT: u64 = 4096;
 
-// Where the distances stand of starts, where those of ends, and where the sum stands.
-pub const STARTS: usize = 576;
+#[derive(Clone, Copy)]
+pub struct Grid {
+    pub cells: Cells,
+    pub starts: [u64; 25],
+    pub ends: [u64; 25],
+    pub sum: u64,
+    ghost starts_are: { starts ≡ tally 25 (apart_of false) cells.counts 576 },
+    ghost ends_are: { ends ≡ tally 25 (apart_of true) cells.counts 576 },
+    ghost sum_is: { sum ≡ total cells.counts },
+}
 
-pub const ENDS: usize = 601;
-
-pub const SUM: usize = 626;
-
-// The sum of the counts.
-fn total(cells: &[u64; 576]) -> u64
-    requires { CellsInRange cells.now }
-    ensures { result ≡ total cells.now }
+// Each value, in units of 2^-28 g, as often as it counts, summed.
+fn weighted<const N: usize>(counts: &[u64; N], values: &[u64; N]) -> u64
+    requires { sum (λ (k : ℕ). at counts.now k * (at values.now k / 2 ^ 12)) N < 2 ^ 64 }
+    ensures { result ≡ sum (λ (k : ℕ). at counts.now k * (at values.now k / 2 ^ 12)) N }
 {
     let mut sum: u64 = 0;
-    for cell in 0..576 {
-        sum += cells[cell];
+    for k in 0..N {
+        sum += counts[k] * (values[k] / CUT);
     }
     sum
 }
 
-// How much each distance from 14:00 counts at the start, or the end, of a parking.
-fn apart_counts(cells: &[u64; 576], moment: Moment) -> [u64; 25]
-    requires { CellsInRange cells.now }
-    ensures { result ≡ tally 25 (apart_of (is_end moment)) cells.now 576 }
-{
-    let mut out = [0u64; 25];
-    for cell in 0..576 {
-        let d = apart_of(cell, moment);
-        out[d] += cells[cell];
+impl Grid {
+    // The grid of the cells.
+    pub fn new(cells: Cells) -> Grid
+        ensures { result.cells.counts ≡ cells.counts }
+    {
+        let starts = cells.by_distance(Moment::Start);
+        let ends = cells.by_distance(Moment::End);
+        let sum = cells.total();
+        Grid {
+            cells,
+            starts,
+            ends,
+            sum,
+        }
     }
-    out
-}
 
-// What stands at a place of the grid.
-fn part(cells: &[u64; 576], starts: [u64; 25], ends: [u64; 25], sum: u64, k: usize) -> u64
-    requires { (length cells.now ≡ 576) × (length starts ≡ 25) × (length ends ≡ 25) × (k < 627) }
-    ensures { result ≡ at (cells.now ++ (starts ++ (ends ++ (sum ∷ [])))) k }
-{
-    if k < STARTS {
-        return cells[k];
+    // How much each distance from 14:00 counts at the start, or the end, of a parking.
+    pub fn by_distance(&self, moment: Moment) -> &[u64; 25]
+        ensures { result.now ≡ tally 25 (apart_of (is_end moment)) self.now.cells.counts 576 }
+    {
+        match moment {
+            Moment::Start => &self.starts,
+            Moment::End => &self.ends,
+        }
     }
-    if k < ENDS {
-        return starts[k - STARTS];
-    }
-    if k < SUM { ends[k - ENDS] } else { sum }
-}
 
-// The parts one after another.
-fn joined(cells: &[u64; 576], starts: [u64; 25], ends: [u64; 25], sum: u64) -> [u64; 627]
-    requires { (length cells.now ≡ 576) × (length starts ≡ 25) × (length ends ≡ 25) }
-    ensures { result ≡ cells.now ++ (starts ++ (ends ++ (sum ∷ []))) }
-{
-    let mut out = [0u64; 627];
-    for k in 0..627 {
-        out[k] = part(cells, starts, ends, sum, k);
+    // The mean of values by cell.
+    pub fn mean_by_cell(&self, values: &[u64; 576]) -> u64
+        requires { AllAtMost (2 ^ 54) values.now }
+        ensures { result ≡ mean_units self.now.cells.counts (at values.now) }
+    {
+        weighted(&self.cells.counts, values) / self.sum
     }
-    out
-}
 
-// The grid of the cells.
-pub fn grid_of(cells: [u64; 576]) -> [u64; 627]
-    requires { CellsInRange cells }
-    ensures { GridReady result × (cells_in result ≡ cells) }
-{
-    let starts = apart_counts(&cells, Moment::Start);
-    let ends = apart_counts(&cells, Moment::End);
-    let sum = total(&cells);
-    joined(&cells, starts, ends, sum)
+    // The mean of values by distance from 14:00, taken at the start, or the end, of each parking.
+    pub fn mean_by_distance(&self, moment: Moment, values: &[u64; 25]) -> u64
+        requires { AllAtMost (2 ^ 54) values.now }
+        ensures { result ≡ mean_units self.now.cells.counts (λ (cell : ℕ). at values.now (apart_of (is_end moment) cell)) }
+    {
+        weighted(self.by_distance(moment), values) / self.sum
+    }
 }

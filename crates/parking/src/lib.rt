@@ -3,6 +3,5 @@
 
 pub mod cells;
 pub mod grid;
-pub mod means;
 pub mod season_list;
 pub mod walk;

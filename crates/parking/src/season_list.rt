@@ -1,30 +1,41 @@
 // The parkings that breathe, as a list made once a season: cells that start at one temperature and have one rise are one entry, and cells
 // without rise or with a count of 0 are none.
-ghost use Rattle.std.specs.Prelude.{cond, ◌&&◌, [], ◌∷◌, ◌++◌, ◌≡◌, suc, ◌+◌, ◌<◌, ◌≤◌, eqb, length};
-ghost use Rattle.numbers.specs.Lists.{at};
-ghost use Rattle.parking.specs.Grid.{cells_in, GridReady};
+ghost use Rattle.std.specs.Prelude.{cond, ◌≡◌, suc, ◌<◌, ◌≤◌, eqb};
 ghost use Rattle.parking.specs.SeasonList.{counted_rise, ListReady};
 
 use crate::cells::{Moment, mark_of};
+use crate::grid::Grid;
 use bounds::hours::apart;
 
-// In the array stand the starts of the entries, by their distance from 14:00, the rises and the counts, and how many entries there are.
-pub const RISES: usize = 577;
+// What the cells of an entry have in common: how far from 14:00 their parkings start, in half-hours, and their rise.
+#[derive(Clone, Copy, PartialEq, Eq)]
+pub struct Kind {
+    pub start: usize,
+    pub rise: u64,
+}
 
-pub const COUNTS: usize = 1154;
+// Cells of one kind, and how much they count together.
+#[derive(Clone, Copy)]
+pub struct Entry {
+    pub kind: Kind,
+    pub count: u64,
+}
 
-pub const LENGTH: usize = 1731;
+// The entries of a season, of which the first `length` count.
+#[derive(Clone, Copy)]
+pub struct SeasonList {
+    pub entries: [Entry; 577],
+    pub length: usize,
+}
+
+// No cell.
+const NONE: Entry = Entry {
+    kind: Kind { start: 0, rise: 0 },
+    count: 0,
+};
 
 // Where cells that are no entries are counted: no entry stands there.
 const ASIDE: usize = 576;
-
-// The entry has this start and this rise.
-fn same(starts: &[u64; 577], rises: &[u64; 577], entry: usize, start: usize, rise: u64) -> bool
-    requires { (entry < 577) × (start ≤ 24) }
-    ensures { result ≡ (eqb (at starts.now entry) start && eqb (at rises.now entry) rise) }
-{
-    (starts[entry] == start as u64) & (rises[entry] == rise)
-}
 
 // The rise of a cell as the list has it: 0 where the cell counts nothing, so that the cell is no entry.
 fn counted_rise(count: u64, rise: u64) -> u64
@@ -51,54 +62,37 @@ fn grown(place: usize, len: usize) -> usize
     if place == len { len + 1 } else { len }
 }
 
-// Three lists and a number are written one after another.
-pub fn join(first: &[u64], second: &[u64], third: &[u64], last: u64, out: &mut [u64])
-    requires { length out.old ≡ length first.now + length second.now + length third.now + 1 }
-    ensures { out.new ≡ first.now ++ (second.now ++ (third.now ++ (last ∷ []))) }
-{
-    let seconds = first.len();
-    let thirds = seconds + second.len();
-    let end = thirds + third.len();
-    out[..seconds].copy_from_slice(first);
-    out[seconds..thirds].copy_from_slice(second);
-    out[thirds..end].copy_from_slice(third);
-    out[end] = last;
-}
+impl SeasonList {
+    // A list without an entry, for where none is read.
+    pub const EMPTY: SeasonList = SeasonList {
+        entries: [NONE; 577],
+        length: 0,
+    };
 
-// The list of a season, from the grid and the rises of its parkings, is written where it is wanted. `last` says where to look for an
-// entry; nothing has to be known of it.
-pub fn write_list(grid: &[u64; 627], rises: &[u64; 576], out: &mut [u64; 1732])
-    requires { GridReady grid.now }
-    ensures { ListReady (cells_in grid.now) rises.now out.new }
-{
-    let mut starts = [0u64; 577];
-    let mut values = [0u64; 577];
-    let mut counts = [0u64; 577];
-    let mut last = [0usize; 48];
-    let mut len: usize = 0;
-    for (cell, &rise) in rises.iter().enumerate() {
-        let mark = mark_of(cell, Moment::Start);
-        let start = apart(mark);
-        let count = grid[cell];
-        let rise = counted_rise(count, rise);
-        let entry = last[mark];
-        let found = same(&starts, &values, entry, start, rise);
-        let place = slot(rise, found, entry, len);
-        starts[place] = start as u64;
-        values[place] = rise;
-        counts[place] += count;
-        last[mark] = place;
-        len = grown(place, len);
+    // The list of a season, from the grid and the rises of its parkings. `last` says where to look for an entry; nothing has to be known of it.
+    // Not inlined, so that its arrays take stack only while it runs.
+    #[inline(never)]
+    pub fn new(grid: &Grid, rises: &[u64; 576]) -> SeasonList
+        ensures { ListReady grid.now.cells.counts rises.now result }
+    {
+        let mut entries = [NONE; 577];
+        let mut last = [0usize; 48];
+        let mut length: usize = 0;
+        for (cell, &rise) in rises.iter().enumerate() {
+            let mark = mark_of(cell, Moment::Start);
+            let count = grid.cells.counts[cell];
+            let kind = Kind {
+                start: apart(mark),
+                rise: counted_rise(count, rise),
+            };
+            let entry = last[mark];
+            let found = entries[entry].kind == kind;
+            let place = slot(kind.rise, found, entry, length);
+            let sum = entries[place].count + count;
+            entries[place] = Entry { kind, count: sum };
+            last[mark] = place;
+            length = grown(place, length);
+        }
+        SeasonList { entries, length }
     }
-    join(&starts, &values, &counts, len as u64, out);
-}
-
-// The same list as a value.
-pub fn list_of(grid: &[u64; 627], rises: &[u64; 576]) -> [u64; 1732]
-    requires { GridReady grid.now }
-    ensures { ListReady (cells_in grid.now) rises.now result }
-{
-    let mut out = [0u64; 1732];
-    write_list(grid, rises, &mut out);
-    out
 }

@@ -1,12 +1,13 @@
 // What passes in each parking, end hour by end hour: a half-hour further back adds its mark's value to what is carried along, so that
 // an end hour takes 24 steps for its 24 parkings.
-ghost use Rattle.std.specs.Prelude.{◌≡◌, ℕ, ◌+◌, ◌*◌, ◌-◌, ◌/◌, ◌^◌, ◌<◌, ◌≤◌, length};
-ghost use Rattle.numbers.specs.Lists.{tab, at, AllAtMost};
+ghost use Rattle.std.specs.Prelude.{◌≡◌, ℕ, ◌+◌, ◌*◌, ◌-◌, ◌^◌, ◌<◌, ◌≤◌, length};
+ghost use Rattle.numbers.specs.Lists.{tab, AllAtMost};
 ghost use Rattle.marks.specs.Marks.{rise_error};
 ghost use Rattle.parking.specs.Grid.{passed_in};
 ghost use Rattle.parking.specs.Walk.{steps_most, steps_back, walked};
 
 use crate::cells::start_mark;
+use std::array;
 
 // How many end hours there are, and how many durations each has.
 const HOURS: usize = 24;
@@ -73,33 +74,13 @@ pub fn walk(values: &[u64; 48]) -> Walked
     Walked { passed, steps }
 }
 
-// Each less the error of the rises.
-fn lowered(values: &[u64; 576]) -> [u64; 576]
-    ensures { result ≡ tab (λ (cell : ℕ). at values.now cell - rise_error) 576 }
-{
-    let mut out = [0u64; 576];
-    for (cell, lower) in out.iter_mut().enumerate() {
-        *lower = values[cell].saturating_sub(RISE_ERROR);
-    }
-    out
-}
-
-// The rise in every cell's parking, from below, of the rises from each mark to the next.
+// The rise in every cell's parking, from below, of the rises from each mark to the next. Not inlined, so that its arrays take stack only
+// while it runs.
+#[inline(never)]
 pub fn rises(steps: &[u64; 48]) -> [u64; 576]
     requires { AllAtMost (2 ^ 50) steps.now }
     ensures { result ≡ tab (λ (cell : ℕ). passed_in steps.now cell - rise_error) 576 }
 {
     let all = walk(steps);
-    lowered(&all.passed)
-}
-
-// Half of each.
-pub fn halved(values: &[u64; 576]) -> [u64; 576]
-    ensures { result ≡ tab (λ (cell : ℕ). at values.now cell / 2) 576 }
-{
-    let mut out = [0u64; 576];
-    for (cell, half) in out.iter_mut().enumerate() {
-        *half = values[cell] / 2;
-    }
-    out
+    array::from_fn(|cell| all.passed[cell].saturating_sub(RISE_ERROR))
 }

@@ -1,10 +1,16 @@
-// The program `pool`: what it does is crates/pool_run, which returns its exit status.
+// The program `pool`: what it does is crates/pool_run, which returns its exit status. The three programs have a `main` each,
+// since what differs is all that they are: which sheets, by which name, and which function.
 #![tactic(auto)]
 
+use program::Streams;
 use program::sources::TwoSheets;
 use std::process::ExitCode;
 
 fn main(rt: HostRuntime) -> ExitCode {
     let sheets = TwoSheets::new(&rt, "pool");
-    ExitCode::from(pool_run::evp_run(&sheets, &mut rt.stdout(), &mut rt.stderr()))
+    let mut streams = Streams {
+        out: rt.stdout(),
+        err: rt.stderr(),
+    };
+    ExitCode::from(pool_run::evp_run(&sheets, &mut streams))
 }

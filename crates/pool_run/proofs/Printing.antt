@@ -2,48 +2,42 @@
 -- the longest sheet has.
 -- Assumes nothing.
 use Rattle.std.proofs.Common.{◌≡◌, ℕ, ◌<◌, Bool, true, false, leb, List, [], Option, None, Some, IfSome, Ok, Err}
-use Rattle.std.proofs.Common.{refl, ap, sym, ◌∙◌, length, take, take_all, arith, subst}
+use Rattle.std.proofs.Common.{◌≢◌, refl, ap, sym, ◌∙◌, length, take, take_all, arith, subst, inl, inr}
 use Rattle.std.specs.Io.KnownBytes.{Keeps}
 use Rattle.std.proofs.KnownBytes.{Keeps-refl, Keeps-trans}
 use Rattle.std.proofs.lemmas.Bool.{leb-true, leb-false}
-use Rattle.refusals.specs.Check.{Check, Pass, Refused}
+use Rattle.refusals.specs.Check.{Check, Pass}
 use Rattle.sheet.specs.Limits.{longest}
 use Rattle.sheet.specs.Sheet.{sheet_check}
 use Rattle.sheet.proofs.Checks.{then-pass}
+use Rattle.pooling.specs.declared.PoolRefusal.{PoolRefusal}
 use Rattle.pooling.specs.Pool.{pool, region_check, pair_check}
-use Rattle.pooling.specs.PoolCall.{PoolAnswer, Accepted, pool_answered, pool_answer}
-use Rattle.program.specs.Printed.{Wrote}
+use Rattle.pooling.specs.PoolCall.{Accepted, pool_answered, pool_answer}
+use Rattle.program.specs.Printed.{Wrote, AnswerPrinted}
 use Rattle.program.proofs.Overlong.{BothRefused, overlong}
 use Rattle.pool_run.specs.Refusal.{refusal_text, status_of}
 use Rattle.pool_run.specs.Ran.{RefusalPrinted, refusal-printed, refusal-cut}
+use Rattle.pool_run.proofs.Refusing.{refused-status}
 use Rattle.pool_run.specs.Ran.{PoolPrinted, pool-printed, pool-cut, refused-printed, none-printed, PoolPrints}
 
--- ---- after a write
+-- ---- after an answer
 
--- of another name for the text, and of whether all of it was taken
-wrote-as : (old new : Option (List ℕ)) (text text' : List ℕ) (all all' : Bool) → text ≡ text' → all ≡ all' → Wrote old new text all
-    → Wrote old new text' all'
-wrote-as old new text text' all all' t e w = subst (λ x. Wrote old new x all') t (subst (λ x. Wrote old new text x) e w)
+module _ {a b : List ℕ} {out out' err err' : Option (List ℕ)} {status : ℕ} where
+  -- the pooled sheet: nothing on standard error, but where not all of it was taken
+  pub pool-answered : pool_answer a b longest ≡ Accepted → AnswerPrinted 0 (pool a b) out out' status → (status ≢ 2 → Keeps err err')
+      → PoolPrinted a b out out' err err' status
+  pool-answered e (inl (s, w)) k = subst (PoolPrinted a b out out' err err') (sym s) (pool-printed e w (k (omega (arith, s))))
+  pool-answered e (inr (s, w)) k = subst (PoolPrinted a b out out' err err') (sym s) (pool-cut e w)
 
-module _ (a b text : List ℕ) (old new : Option (List ℕ)) (all : Bool) (w : Wrote old new text all) where
-  module _ (asked : (pool_answer a b longest ≡ Accepted) × (text ≡ pool a b)) where
-    pub pool-whole : (err : Option (List ℕ)) → all ≡ true → PoolPrinted a b old new err err 0
-    pool-whole err e = pool-printed asked.0 (wrote-as old new text (pool a b) all true asked.1 e w) (Keeps-refl err)
+module _ {a b : List ℕ} {err err' : Option (List ℕ)} {status : ℕ} {refusal : PoolRefusal} (e : pool_answer a b longest ≡ Err refusal) where
+  refusal-written : AnswerPrinted 1 (refusal_text (Err refusal)) err err' status → RefusalPrinted a b err err' status
+  refusal-written (inl (s, w)) = subst (RefusalPrinted a b err err') (sym s) (refusal-printed (refused-status e) (rw e w))
+  refusal-written (inr (s, w)) = subst (RefusalPrinted a b err err') (sym s) (refusal-cut (refused-status e) (rw e w))
 
-    pub pool-part : (err err' : Option (List ℕ)) → all ≡ false → PoolPrinted a b old new err err' 2
-    pool-part err err' e = pool-cut asked.0 (wrote-as old new text (pool a b) all false asked.1 e w)
-
-  module _ (asked : (status_of (pool_answer a b longest) ≡ 1) × (text ≡ refusal_text (pool_answer a b longest))) where
-    pub refusal-whole : all ≡ true → RefusalPrinted a b old new 1
-    refusal-whole e = refusal-printed asked.0 (wrote-as old new text _ all true asked.1 e w)
-
-    pub refusal-part : all ≡ false → RefusalPrinted a b old new 2
-    refusal-part e = refusal-cut asked.0 (wrote-as old new text _ all false asked.1 e w)
-
--- nothing on standard output
-pub refused_only : {a b : List ℕ} {err err' : Option (List ℕ)} {status : ℕ} (out : Option (List ℕ)) → RefusalPrinted a b err err' status
-    → PoolPrinted a b out out err err' status
-refused_only out r = refused-printed _ (Keeps-refl out) r
+  -- the refusal: nothing on standard output
+  pub refusal-answered : (out : Option (List ℕ)) → AnswerPrinted 1 (refusal_text (Err refusal)) err err' status
+      → PoolPrinted a b out out err err' status
+  refusal-answered out p = refused-printed status (Keeps-refl out) (refusal-written p)
 
 -- ---- of a writer that kept its bytes before
 

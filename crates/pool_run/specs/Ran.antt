@@ -1,24 +1,18 @@
 -- How the program `pool` ends. Definitions only.
-use Rattle.std.specs.Prelude.{true, false, List, ◌≡◌, ℕ, take, Option, IfSome}
+use Rattle.std.specs.Prelude.{true, false, List, ◌≡◌, ℕ, Option, IfSome}
 use Rattle.std.specs.Io.KnownBytes.{Keeps}
 use Rattle.program.specs.Reads.{Taken, Unread}
 use Rattle.program.specs.Writes.{standard_output, standard_error, Written, Unwritten}
 use Rattle.program.specs.Printed.{Wrote}
 use Rattle.sheet.specs.Limits.{longest}
 use Rattle.pooling.specs.Pool.{pool}
-use Rattle.pooling.specs.PoolCall.{PoolAnswer, Accepted, pool_answer}
+use Rattle.pooling.specs.PoolCall.{Accepted, pool_answer}
 use Rattle.pool_run.specs.Refusal.{refusal_text, status_of}
 
 -- Two sheets were read, all of each: the first from argument 1, the second from argument 2.
 pub record Sheets (a b : List ℕ) : Type 0 where
-  pub n : ℕ
-  pub first : List ℕ
-  pub first_taken : Taken 1 n first
-  pub first-is : a ≡ take n first
-  pub m : ℕ
-  pub second : List ℕ
-  pub second-taken : Taken 2 m second
-  pub second_is : b ≡ take m second
+  pub first-taken : Taken 1 a
+  pub second-taken : Taken 2 b
 
 -- The exit status, and what was written: 0 the pooled sheet of the two that were read, 1 their refusal, and 2 where a sheet could not be
 -- read, or not all of the answer could be written. There is no other end.

@@ -1,6 +1,6 @@
 -- What the program `pool` says of two sheets that it does not pool. Definitions only.
 use Rattle.refusals.specs.Rule.{number}
-use Rattle.pooling.specs.PoolCall.{PoolAnswer, Accepted}
+use Rattle.pooling.specs.PoolCall.{PoolAnswer}
 use Rattle.std.specs.Prelude.{List, [], ℕ, Ok, Err}
 use Rattle.text.specs.Ascii.{bytes}
 use Rattle.text.specs.Lines.{pair_line}

@@ -4,159 +4,100 @@
 // status is 0 for a pooled sheet, 1 for a refusal and 2 for neither.
 #![tactic(auto)]
 
-ghost use Rattle.std.specs.Prelude.{◌≡◌, ◌≤◌, length, take};
-ghost use Rattle.program.specs.Reads.{Taken};
-ghost use Rattle.sheet.specs.Limits.{longest};
+ghost use Rattle.std.specs.Prelude.{◌≡◌, ◌≤◌, length, take, Err};
+ghost use Rattle.program.specs.Printed.{AnswerPrinted};
+ghost use Rattle.program.specs.Status.{status_number};
+ghost use Rattle.program.specs.Writes.{standard_error, AnswerWritten};
 ghost use Rattle.text.specs.Ascii.{bytes};
 ghost use Rattle.text.specs.Lines.{pair_line};
 ghost use Rattle.refusals.specs.Rule.{number};
-ghost use Rattle.pooling.specs.Pool.{pool};
-ghost use Rattle.pooling.specs.PoolCall.{PoolAnswer, Accepted, pool_answer};
-ghost use Rattle.pool_run.specs.Refusal.{refusal_text, status_of};
-ghost use Rattle.pool_run.specs.Ran.{PoolRan, RefusalPrinted, PoolPrinted, PoolPrints};
+ghost use Rattle.pool_run.specs.Refusal.{refusal_text};
+ghost use Rattle.pool_run.specs.Ran.{PoolRan, PoolPrinted, PoolPrints};
 
 use pooling::PoolRefusal;
 use pooling_calls::length::pool_length;
-use program::sources::Sources;
-use program::{LONGEST, NEITHER, ROOM};
+use program::sources::{Input, Sources};
+use program::{LONGEST, ROOM, STANDARD_ERROR, Status, Streams};
 use refusals::Refusal;
 use std::io::Write;
-use text::lines::put_pair;
+use text::writer::Writer;
 
 // The bytes of the longest line of a refusal: 22 + 20 + 4 + 20 + 1.
 const LINE: usize = 67;
 
-// Writes what `requires` says and nothing else: the pooled sheet of two that were read and pool.
-fn write_pool<W: Write, E: Write>(
-    first: &[u8],
-    n: usize,
-    second: &[u8],
-    m: usize,
-    bytes: &[u8],
-    out: &mut W,
-    err: &mut E,
-) -> u8
-    requires taken { Taken 1 n first.now × Taken 2 m second.now }
-    requires longest_value { (pool_answer (take n first.now) (take m second.now) longest ≡ Accepted)
-        × (bytes.now ≡ pool (take n first.now) (take m second.now)) }
-    ensures ran { PoolRan result }
-    ensures printed { PoolPrinted (take n first.now) (take m second.now) (W.contents out.old) (W.contents out.new)
-        (E.contents err.old) (E.contents err.new) result }
-{
-    if program::write_out(out, bytes) {
-        return 0;
-    }
-    program::say(err, "pool", ": cannot write standard output\n");
-    NEITHER
-}
-
-// Writes what `requires` says and nothing else: the refusal of two sheets that were read and do not pool.
-fn write_refusal<E: Write>(
-    first: &[u8],
-    n: usize,
-    second: &[u8],
-    m: usize,
-    text: &[u8],
-    err: &mut E,
-) -> u8
-    requires taken { Taken 1 n first.now × Taken 2 m second.now }
-    requires longest_value { (status_of (pool_answer (take n first.now) (take m second.now) longest) ≡ 1)
-        × (text.now ≡ refusal_text (pool_answer (take n first.now) (take m second.now) longest)) }
-    ensures ran { PoolRan result }
-    ensures printed { RefusalPrinted (take n first.now) (take m second.now) (E.contents err.old) (E.contents err.new) result }
-{
-    if program::write_error(err, text) {
-        return 1;
-    }
-    NEITHER
-}
-
-// The line of a refusal: which sheet is refused, and behind it the number and the place.
+// The line of a refusal: which sheet is refused, and behind it the number and the place. It is no `Display`: the writer is proved to put
+// just the bytes of `pair_line`, and a `Display`, which can stand in the crate pooling alone, would have to prove them once more.
 fn put_refusal(line: &mut [u8], named: &[u8], refusal: Refusal) -> usize
     requires { (67 ≤ length line.old) × (length named.now ≤ 22) }
     ensures { (take result line.new ≡ pair_line named.now (number refusal.rule) (bytes " at ") refusal.place) × (result ≤ 67) }
 {
     let number = refusal.rule.number();
     let place = refusal.place;
-    put_pair(line, named, number, b" at ", place)
+    let mut writer = Writer::new(line);
+    writer.pair(named, number, b" at ", place);
+    writer.place()
 }
 
-// The line of a refusal at the front of a buffer; of two sheets that pool there is none.
-fn put_answer(line: &mut [u8], answer: Result<(), PoolRefusal>) -> usize
+// The line of a refusal at the front of a buffer.
+#[tactic(auto, unfolding(crate::specs::Refusal::refusal_text))]
+fn put_line(line: &mut [u8], refusal: PoolRefusal) -> &[u8]
     requires { 67 ≤ length line.old }
-    ensures { (take result line.new ≡ refusal_text answer) × (result ≤ 67) }
+    ensures { result.now ≡ refusal_text (Err refusal) }
 {
-    match answer {
-        Ok(()) => 0,
-        Err(PoolRefusal::First(refusal)) => put_refusal(line, b"first sheet: refused ", refusal),
-        Err(PoolRefusal::Second(refusal)) => put_refusal(line, b"second sheet: refused ", refusal),
-        Err(PoolRefusal::Pooled(refusal)) => put_refusal(line, b"pooled sheet: refused ", refusal),
-    }
+    let end = match refusal {
+        PoolRefusal::First(refusal) => put_refusal(line, b"first sheet: refused ", refusal),
+        PoolRefusal::Second(refusal) => put_refusal(line, b"second sheet: refused ", refusal),
+        PoolRefusal::Pooled(refusal) => put_refusal(line, b"pooled sheet: refused ", refusal),
+    };
+    &line[..end]
 }
 
-// Refuses the two sheets that were read, with the answer of pooling them.
-fn refuse<E: Write>(
-    first: &[u8],
-    n: usize,
-    second: &[u8],
-    m: usize,
-    answer: Result<(), PoolRefusal>,
-    err: &mut E,
-) -> u8
-    requires taken { Taken 1 n first.now × Taken 2 m second.now }
-    requires answer_value { (answer ≡ pool_answer (take n first.now) (take m second.now) longest) × (status_of answer ≡ 1) }
-    ensures ran { PoolRan result }
-    ensures printed { RefusalPrinted (take n first.now) (take m second.now) (E.contents err.old) (E.contents err.new) result }
+// Writes the refusal of two sheets to standard error and returns its status.
+fn write_refusal<E: Write>(refusal: PoolRefusal, err: &mut E) -> Status
+    ensures written { AnswerWritten standard_error (refusal_text (Err refusal)) 1 (status_number result) }
+    ensures printed { AnswerPrinted 1 (refusal_text (Err refusal)) (E.contents err.old) (E.contents err.new) (status_number result) }
 {
     let mut line = [0u8; LINE];
-    let end = put_answer(&mut line, answer);
-    write_refusal(first, n, second, m, &line[..end], err)
+    if program::write_text::<STANDARD_ERROR, E>(err, put_line(&mut line, refusal)) {
+        return Status::Refused;
+    }
+    Status::Neither
 }
 
 // Pools the two sheets that were read and writes the pool, or the refusal.
-fn answer<W: Write, E: Write>(
-    first: &[u8],
-    n: usize,
-    second: &[u8],
-    m: usize,
-    out: &mut W,
-    err: &mut E,
-) -> u8
-    requires { Taken 1 n first.now × Taken 2 m second.now }
-    ensures ran { PoolRan result }
-    ensures printed { PoolPrinted (take n first.now) (take m second.now) (W.contents out.old) (W.contents out.new)
-        (E.contents err.old) (E.contents err.new) result }
+fn answer<W: Write, E: Write>(first: &Input, second: &Input, streams: &mut Streams<W, E>) -> Status
+    requires { (first.now.source ≡ 1) × (second.now.source ≡ 2) }
+    ensures ran { PoolRan (status_number result) }
+    ensures printed { PoolPrinted first.now.bytes.now second.now.bytes.now
+        (W.contents streams.old.out) (W.contents streams.new.out)
+        (E.contents streams.old.err) (E.contents streams.new.err) (status_number result) }
 {
-    let mut bytes = [0u8; LONGEST];
-    let a = &first[..n];
-    let b = &second[..m];
-    let reply = pooling_calls::pool(a, b, &mut bytes);
-    match reply {
+    let mut pooled = [0u8; LONGEST];
+    let a = first.bytes;
+    let b = second.bytes;
+    match pooling_calls::pool(a, b, &mut pooled) {
         Ok(()) => {
             let end = pool_length(a, b);
-            write_pool(first, n, second, m, &bytes[..end], out, err)
+            program::write_answer("pool", Status::Accepted, &pooled[..end], streams)
         }
-        Err(_) => refuse(first, n, second, m, reply, err),
+        Err(refusal) => write_refusal(refusal, &mut streams.err),
     }
 }
 
 // The whole program; what it returns is the exit status.
-pub fn evp_run<S: Sources, W: Write, E: Write>(sheets: &S, out: &mut W, err: &mut E) -> u8
-    ensures ran { PoolRan result }
-    ensures prints { PoolPrints (S.bytes sheets.now 1) (S.bytes sheets.now 2) (W.contents out.old) (W.contents out.new)
-        (E.contents err.old) (E.contents err.new) result }
+pub fn evp_run<S: Sources, W: Write, E: Write>(sheets: &S, streams: &mut Streams<W, E>) -> Status
+    ensures ran { PoolRan (status_number result) }
+    ensures prints { PoolPrints (S.bytes sheets.now 1) (S.bytes sheets.now 2)
+        (W.contents streams.old.out) (W.contents streams.new.out)
+        (E.contents streams.old.err) (E.contents streams.new.err) (status_number result) }
 {
-    let mut first = [0u8; ROOM];
-    let mut second = [0u8; ROOM];
-    let a = sheets.read(1, &mut first, err);
-    if !a.read {
-        return NEITHER;
-    }
-    let b = sheets.read(2, &mut second, err);
-    if !b.read {
-        return NEITHER;
-    }
-    let n = a.count;
-    let m = b.count;
-    answer(&first, n, &second, m, out, err)
+    let mut bytes = [0u8; ROOM];
+    let Ok(first) = sheets.read(1, &mut bytes, &mut streams.err) else {
+        return Status::Neither;
+    };
+    let mut bytes = [0u8; ROOM];
+    let Ok(second) = sheets.read(2, &mut bytes, &mut streams.err) else {
+        return Status::Neither;
+    };
+    answer(&first, &second, streams)
 }

@@ -1,10 +1,10 @@
 -- What pooling answers: the first sheet's checks, then the second's, then those of the two together, each with its number and place; and what
 -- is known where they pass.
 -- Assumes nothing.
-use Rattle.std.proofs.Common.{Ok, Err}
+use Rattle.std.proofs.Common.{Ok, Err, MatchResult, IsErrAnd}
 use mathlib.Core.Bool.{Bool, true, false}
 use mathlib.Core.List.{List}
-use mathlib.Core.Path.{◌≡◌, refl, sym}
+use mathlib.Core.Path.{◌≡◌, refl, sym, ap, ◌∙◌}
 use Prim.Native.Nat.{ℕ, suc, zero, ◌+◌, ◌*◌, ◌≤◌, ◌<◌}
 use native.Mathlib.Omega.{arith}
 use lib.Dec.{ltb}
@@ -19,9 +19,11 @@ use Rattle.sheet.specs.Sheet.{sheet_check}
 use Rattle.sheet.proofs.Checks.{Tests, Judges, then-pass, below_suc, tests-as, ||-tests, not-tests, eqb-shows}
 use Rattle.sheet.proofs.Checks.{ltb-tests, true-is-not-false, judges-refuse, judges-then, ◌⊳◌}
 use Rattle.sheet.proofs.Conditions.{mark-judged, sheet-judged, met-accepted}
+use Rattle.pooling.specs.declared.PoolRefusal.{PoolRefusal}
 use Rattle.pooling.specs.declared.PoolRefusal.TheVariants.{First, Second, Pooled}
 use Rattle.pooling.specs.Pool.{pool, region_check, shared_bytes, some_differs, differ, pair_check, pool_check}
-use Rattle.pooling.specs.PoolCall.{Accepted, pool_answered, pool_answer, refusal_of, check_of, region_demands, Agree, pair_demands, PoolSays}
+use Rattle.pooling.specs.PoolCall.{PoolAnswer, Accepted, pool_answered, pool_answer, refusal_of}
+use Rattle.pooling.specs.PoolCall.{check_of, region_demands, Agree, pair_demands, PoolSays}
 use Rattle.pooling.specs.Late.{late_check}
 use Rattle.pooling.proofs.PoolBytes.{Region, Pair, pool-long}
 use Rattle.pooling.proofs.PoolChecks.{pooled-check}
@@ -61,25 +63,40 @@ pub answer-check : (a b : List ℕ) (room : ℕ) → check_of (pool_answer a b r
 unfolding pool_answer pool_check
 answer-check a b room = answered-check _ _ _
 
--- Each outcome of the checks is the answer.
-module _ (a b : List ℕ) (room : ℕ) {refusal : Refusal} where
-  pub first-is : region_check a ≡ Err refusal → Err (First refusal) ≡ pool_answer a b room
-  unfolding pool_answer pool_answered
-  first-is p = rw p
+-- Three checks one after another, each with its name for a refusal: the first that refuses is the answer.
+unfoldable pub named : (Refusal → PoolRefusal) → Check → PoolAnswer
+named f (Ok _) = Accepted
+named f (Err refusal) = Err (f refusal)
 
-  pub second_is : region_check a ≡ Pass → region_check b ≡ Err refusal → Err (Second refusal) ≡ pool_answer a b room
-  unfolding pool_answer pool_answered
-  second_is p q = rw (p, q)
+pub named-is : (f : Refusal → PoolRefusal) (c : Check) (r : PoolAnswer) → MatchResult c (λ x. r ≡ Ok x) (λ e. IsErrAnd r (λ y. y ≡ f e))
+    → r ≡ named f c
+unfolding named
+named-is f (Ok _) r h = h
+named-is f (Err refusal) (Ok _) h = absurd h
+named-is f (Err refusal) (Err y) h = ap Err h
 
-  pub pooled-is : region_check a ≡ Pass → region_check b ≡ Pass → pair_check a b room ≡ Err refusal
-      → Err (Pooled refusal) ≡ pool_answer a b room
-  unfolding pool_answer pool_answered
-  pooled-is p q r = rw (p, q, r)
+unfoldable pub in-turn : PoolAnswer → PoolAnswer → PoolAnswer → PoolAnswer
+in-turn (Err x) second together = Err x
+in-turn (Ok _) (Err x) together = Err x
+in-turn (Ok _) (Ok _) together = together
 
-pub accepted-is : (a b : List ℕ) (room : ℕ) → region_check a ≡ Pass → region_check b ≡ Pass → pair_check a b room ≡ Pass
-    → Accepted ≡ pool_answer a b room
-unfolding pool_answer pool_answered
-accepted-is a b room p q r = rw (p, q, r)
+answered-in-turn : (c d e : Check) → pool_answered c d e ≡ in-turn (named First c) (named Second d) (named Pooled e)
+unfolding pool_answered named in-turn
+answered-in-turn (Err refusal) d e = refl
+answered-in-turn (Ok _) (Err refusal) e = refl
+answered-in-turn (Ok _) (Ok _) (Err refusal) = refl
+answered-in-turn (Ok _) (Ok _) (Ok _) = refl
+
+pub answer-in-turn : (a b : List ℕ) (room : ℕ) {first second together : PoolAnswer} → first ≡ named First (region_check a)
+    → second ≡ named Second (region_check b) → together ≡ named Pooled (pair_check a b room) → in-turn first second together ≡ pool_answer a b room
+unfolding pool_answer
+answer-in-turn a b room e f g = rw (e, f, g) (sym (answered-in-turn (region_check a) (region_check b) (pair_check a b room)))
+
+-- a check that is named so has passed
+pub named-passes : (f : Refusal → PoolRefusal) (c : Check) {r : PoolAnswer} → r ≡ named f c → r ≡ Accepted → c ≡ Pass
+unfolding named
+named-passes f (Ok _) e h = refl
+named-passes f (Err refusal) e h = absurd (let wrong : ◌≡◌ {A = PoolAnswer} (Err (f refusal)) Accepted = sym e ∙ h in cc wrong)
 
 -- and it says of which sheet
 told : (a b : List ℕ) (room : ℕ) (c d e : Check) → region_check a ≡ c → region_check b ≡ d → pair_check a b room ≡ e

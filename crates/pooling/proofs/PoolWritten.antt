@@ -1,24 +1,58 @@
 -- What the buffer holds after the pool call: the pooled sheet, and beyond it what stood there; after a refusal what stood there.
 -- Assumes nothing.
-use mathlib.Core.List.{List, ◌++◌}
-use mathlib.Core.Path.{◌≡◌, sym, ap, ◌∙◌}
-use Prim.Native.Nat.{ℕ, ◌≤◌}
-use lib.ListN.{length, take, drop}
-use lib.Seq.{take-append_seam}
+use Rattle.std.proofs.Common.{append_assoc, length-drop}
+use Rattle.std.proofs.lemmas.List.{drop-drop, length-append, set-append_left}
+use mathlib.Core.List.{List, [], ◌∷◌, ◌++◌}
+use mathlib.Core.Path.{◌≡◌, refl, sym, ap, ◌∙◌}
+use Prim.Native.Nat.{ℕ, ◌+◌, ◌/◌, ◌%◌, ◌≤◌}
+use native.Mathlib.Omega.{arith}
+use lib.ListN.{length, take, drop, set, length-set}
+use lib.Seq.{sets, sets-eq, length-sets, take-append_seam, drop-append-add}
 use Rattle.refusals.specs.Check.{Pass}
-use Rattle.sheet.specs.Integers.{u8_at}
-use Rattle.report_words.specs.Years.{filled}
-use Rattle.report_words.proofs.Filled.{tab-get_d}
+use Rattle.sheet.specs.Bytes.{row_place}
 use Rattle.inventory.specs.ReportCall.{written}
-use Rattle.pooling.specs.Pool.{pool, pool_check}
+use Rattle.pooling.specs.Pool.{rows_together, pool, pool_check}
 use Rattle.pooling.specs.Late.{Regions}
 use Rattle.pooling.specs.PoolCall.{PoolAnswer, Accepted, pool_answer, check_of, PoolCall}
 use Rattle.pooling.proofs.PoolAnswers.{answer-check, answer-says, regions, poolable}
 
--- all bytes of the pooled sheet, one after another
-pub filled-pool : (a b old : List ℕ) {n : ℕ} → n ≡ length (pool a b) → filled (u8_at (pool a b)) n old ≡ written Pass (pool a b) old
-unfolding written
-filled-pool a b old e = rw e (ap (λ (r : List ℕ). r ++ drop (length (pool a b)) old) (tab-get_d (pool a b)))
+-- The first sheet, two bytes of it for the row count of both, and behind it the rows of the second: what a buffer holds then.
+module _ (a old rows : List ℕ) (low high : ℕ) (head : 8 ≤ length a) (room : length a + length rows ≤ length old) where
+  abbrev rest : List ℕ
+  rest = drop (length a) old
+
+  abbrev counted : List ℕ
+  counted = sets a 6 (low ∷ high ∷ [])
+
+  sheet-laid : sets old 0 a ≡ a ++ rest
+  sheet-laid = let none : 0 + length a ≡ length a = omega arith in rw (sets-eq a old 0 (omega arith), none) refl
+
+  count-laid : sets (a ++ rest) 6 (low ∷ high ∷ []) ≡ counted ++ rest
+  count-laid = rw (set-append_left a rest 6 low (omega arith), set-append_left (set a 6 low) rest 7 high (omega (arith, length-set a 6 low))) refl
+
+  long : length counted ≡ length a
+  long = length-sets a 6 (low ∷ high ∷ [])
+
+  rows-laid : sets (counted ++ rest) (length a) rows ≡ (counted ++ rows) ++ drop (length (counted ++ rows)) old
+  rows-laid =
+      let inside : length a + length rows ≤ length (counted ++ rest) = omega (arith, length-append counted rest, long, length-drop (length a) old) in
+      let before : take (length a) (counted ++ rest) ≡ counted = rw long at (take-append_seam counted rest) in
+      let n = length rows in
+      let behind : drop (length a + n) (counted ++ rest) ≡ drop n rest = rw long at (drop-append-add counted rest n) in
+      let whole : length (counted ++ rows) ≡ length a + length rows = omega (arith, length-append counted rows, long) in
+      sets-eq rows (counted ++ rest) (length a) inside ∙
+      rw (before, behind, drop-drop (length rows) (length a) old, whole, append_assoc) refl
+
+  pub laid : sets (sets (sets old 0 a) 6 (low ∷ high ∷ [])) (length a) rows ≡ (counted ++ rows) ++ drop (length (counted ++ rows)) old
+  laid = rw (sheet-laid, count-laid) rows-laid
+
+pub pool-laid : (a b old : List ℕ) {count rows out : List ℕ} → 8 ≤ length a → length a + length rows ≤ length old
+    → count ≡ rows_together a b % 256 ∷ rows_together a b / 256 ∷ [] → rows ≡ drop (row_place b 0) b
+    → out ≡ sets (sets (sets old 0 a) 6 count) (length a) rows → out ≡ written Pass (pool a b) old
+unfolding written pool
+pool-laid a b old {rows = rows} head room e f h =
+    let stored = rw e at h in
+    rw (← f) (stored ∙ laid a old rows (rows_together a b % 256) (rows_together a b / 256) head room)
 
 -- what holds after the call
 pub pool-reply : {a b old out : List ℕ} {r : PoolAnswer} → r ≡ pool_answer a b (length old)

@@ -15,6 +15,7 @@ use Rattle.sheet.specs.Demands.{FirstUnmet}
 use Rattle.sheet.proofs.Checks.{Judges, judges-refuse, judges-then, judges-each, ltb-tests, met-passes, says, ◌⊳◌}
 use Rattle.sheet.proofs.Stages.{go}
 use Rattle.sheet.proofs.Accepted.{accepted}
+use Rattle.sheet.proofs.Fleet.{vehicles-rise}
 use Rattle.pooling.specs.Pool.{region_check, pair_check, pool_check}
 use Rattle.pooling.specs.PooledReport.{late_demands, left_demands, OnlyTheorem}
 use Rattle.pooling.specs.Late.{fleet_check, late_check}
@@ -53,12 +54,6 @@ refused-only a b room p q =
 
 -- The other order.
 
--- more rows have no fewer vehicles
-vehicles-grow : (s : List ℕ) (m k : ℕ) → vehicles_before s m ≤ vehicles_before s (m + k)
-unfolding vehicles_before
-vehicles-grow s m zero = let e : m + 0 ≡ m = omega arith in rw e (omega arith)
-vehicles-grow s m (suc k) = let e : m + suc k ≡ suc (m + k) = omega arith in rw e (omega (arith, vehicles-grow s m k))
-
 -- what passes in one order passes in the other: the sums are the same
 pub passes-exchanged : (a b : List ℕ) (room : ℕ) → pool_check a b room ≡ Pass → pool_check b a room ≡ Pass
 passes-exchanged a b room h =
@@ -74,8 +69,7 @@ passes-exchanged a b room h =
         (
           omega arith,
           (λ i l.
-              let (k, f) = le_dest l in
-              let fewer : vehicles_before a (suc i) ≤ vehicles_before a (rows_of a) = rw f at (vehicles-grow a (suc i) k) in
+              let fewer : vehicles_before a (suc i) ≤ vehicles_before a (rows_of a) = vehicles-rise a (suc i) (rows_of a) l in
               omega arith),
         ),
         omega (arith, agree.0, length-is both.first, length-is both.second),

@@ -2,4 +2,3 @@ mod Fronts
 pub mod Overlong
 pub mod Printing
 mod Taking
-pub mod Tested

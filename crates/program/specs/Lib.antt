@@ -1,4 +1,5 @@
 pub mod Ends
 pub mod Printed
 pub mod Reads
+pub mod Status
 pub mod Writes

@@ -22,7 +22,7 @@ Written stream text = text ≡ text
 pub Unwritten : ℕ → List ℕ → Type 0
 Unwritten stream text = text ≡ text
 
--- For the functions `write_out` and `write_error` of this crate, which no other may cite (`python3 -m tools.check calls`).
+-- For the function `write_text` of this crate, which no other may cite (`python3 -m tools.check calls`).
 pub wrote : (stream : ℕ) (text : List ℕ) → Written stream text
 unfolding Written
 wrote stream text = λ _. text
@@ -35,3 +35,8 @@ stopped stream text = λ _. text
 pub record Writes (stream : ℕ) (text : List ℕ) (all : Bool) : Type 0 where
   pub whole : all ≡ true → Written stream text
   pub part : all ≡ false → Unwritten stream text
+
+-- How a program ends after an answer was handed over: all of it was taken, and the exit status is that of the answer; or not all, and it is 2.
+pub data AnswerWritten (stream : ℕ) (text : List ℕ) (status : ℕ) : ℕ → Type 0 where
+  all-written : Written stream text → AnswerWritten stream text status status
+  part-written : Unwritten stream text → AnswerWritten stream text status 2

@@ -3,18 +3,20 @@
 // messages.
 #![tactic(auto)]
 
-ghost use Rattle.std.specs.Prelude.{◌≡◌, ◌≢◌, ◌≤◌, length, take, IfOk, OnErr, IfSome};
+ghost use Rattle.std.specs.Prelude.{◌≡◌, ◌≢◌, ◌≤◌, length, take, IfOk, OnOk, OnErr, IfSome};
 ghost use Rattle.std.specs.Io.KnownBytes.{Keeps};
-ghost use Rattle.program.specs.Ends.{check_status, sheet_status, Answered};
-ghost use Rattle.program.specs.Printed.{Wrote, SheetPrinted};
-ghost use Rattle.program.specs.Writes.{standard_output, standard_error, Writes};
+ghost use Rattle.std.specs.Process.{exit_status};
+ghost use Rattle.program.specs.Ends.{check_status};
+ghost use Rattle.program.specs.Printed.{Wrote, AnswerPrinted};
+ghost use Rattle.program.specs.Status.{status_number};
+ghost use Rattle.program.specs.Writes.{standard_output, Writes, AnswerWritten};
 
 pub mod one_sheet;
 pub mod sources;
 
-use inventory::check::report_check;
 use refusals::Check;
 use std::io::Write;
+use std::process::ExitCode;
 
 // The bytes of the longest sheet, of 12 seasons and 1,000 rows: 1,160 + 8 · 12 + 24 · 1,000.
 pub const LONGEST: usize = 25256;
@@ -25,14 +27,59 @@ pub const ROOM: usize = 25257;
 // The words of its report, 6 · 1,000 + 26.
 pub const WORDS: usize = 6026;
 
-// The exit status where a sheet could not be read, or not all of an answer could be written.
-pub const NEITHER: u8 = 2;
+// The two streams of a program by their numbers: its answer goes to the first, what it cannot do to the second.
+pub const STANDARD_OUTPUT: usize = 1;
 
-// Whether the whole input was read, and how many bytes of it stand at the start of the buffer.
-#[derive(Clone, Copy)]
-pub struct Input {
-    pub read: bool,
-    pub count: usize,
+pub const STANDARD_ERROR: usize = 2;
+
+// How a program ends: with an answer, with a refusal, or with neither, where a sheet could not be read, or not all of an
+// answer could be written.
+#[derive(Clone, Copy, PartialEq, Eq)]
+pub enum Status {
+    Accepted,
+    Refused,
+    Neither,
+}
+
+impl Status {
+    // The exit status.
+    pub fn number(self) -> u8
+        ensures { result ≡ status_number self }
+    {
+        match self {
+            Status::Accepted => 0,
+            Status::Refused => 1,
+            Status::Neither => 2,
+        }
+    }
+}
+
+impl From<Status> for ExitCode {
+    ghost from_gives = { λ status code. exit_status code ≡ status_number status };
+
+    fn from(status: Status) -> ExitCode {
+        ExitCode::from(status.number())
+    }
+}
+
+// What a check of a sheet answers, as a status.
+impl From<Check> for Status {
+    ghost from_gives = { λ check status. status_number status ≡ check_status check };
+
+    #[tactic(auto, unfolding(crate::specs::Ends::check_status))]
+    fn from(check: Check) -> Status {
+        match check {
+            Ok(()) => Status::Accepted,
+            Err(_) => Status::Refused,
+        }
+    }
+}
+
+// Where a program writes: the writers that `main` hands over for standard output and for standard error.
+#[derive(Drop)]
+pub struct Streams<W, E> {
+    pub out: W,
+    pub err: E,
 }
 
 // Says what a program cannot do.
@@ -40,9 +87,12 @@ pub fn say<E: Write>(err: &mut E, name: &str, what: &str) {
     let _ = write!(err, "{name}{what}");
 }
 
-// Writes a text, up to the end or to the first write that takes nothing or fails, and says whether all of it was taken.
-fn write_all<W: Write>(out: &mut W, text: &[u8]) -> bool
-    ensures { Wrote (W.contents out.old) (W.contents out.new) text.now result }
+// Writes a text to the writer of a stream, up to the end or to the first write that takes nothing or fails, and says
+// whether all of it was taken.
+#[tactic(auto, using(crate::proofs::Taking::written))]
+pub fn write_text<const STREAM: usize, W: Write>(out: &mut W, text: &[u8]) -> bool
+    ensures writes { Writes STREAM text.now result }
+    ensures wrote { Wrote (W.contents out.old) (W.contents out.new) text.now result }
 {
     let mut done: usize = 0;
     // No count: each write takes as much as it will, and std's `write_all` says too little of a part that was taken.
@@ -56,56 +106,22 @@ fn write_all<W: Write>(out: &mut W, text: &[u8]) -> bool
     out.flush().is_ok()
 }
 
-// Writes a program's answer to the writer that `main` hands over for standard output, and says whether all of it was taken.
-pub fn write_out<W: Write>(out: &mut W, text: &[u8]) -> bool
-    ensures writes { Writes standard_output text.now result }
-    ensures wrote { Wrote (W.contents out.old) (W.contents out.new) text.now result }
-{
-    write_all(out, text)
-}
-
-// The same for an answer that goes to the writer for standard error.
-pub fn write_error<E: Write>(err: &mut E, text: &[u8]) -> bool
-    ensures writes { Writes standard_error text.now result }
-    ensures wrote { Wrote (E.contents err.old) (E.contents err.new) text.now result }
-{
-    write_all(err, text)
-}
-
-// The exit status of an answer.
-#[tactic(auto, unfolding(crate::specs::Ends::check_status))]
-fn check_status(check: Check) -> u8
-    ensures { result ≡ check_status check }
-{
-    match check {
-        Ok(()) => 0,
-        Err(_) => 1,
-    }
-}
-
-// The exit status of a sheet that was answered: 0 where it is accepted, 1 where it is refused.
-fn sheet_status(s: &[u8]) -> u8
-    ensures { result ≡ sheet_status s.now }
-{
-    check_status(report_check(s, WORDS))
-}
-
-// Writes the text of a sheet to standard output, in one piece, and returns the exit status. Where not all of it is taken
-// that is said on standard error, where else nothing is written.
+// Writes an answer to standard output, in one piece, and returns its status. Where not all of it is taken that is said on
+// standard error, where else nothing is written.
 pub fn write_answer<W: Write, E: Write>(
     name: &str,
-    s: &[u8],
+    status: Status,
     text: &[u8],
-    out: &mut W,
-    err: &mut E,
-) -> u8
-    ensures answered { Answered s.now text.now result }
-    ensures printed { SheetPrinted s.now text.now (W.contents out.old) (W.contents out.new) result }
-    ensures silent { result ≢ 2 → Keeps (E.contents err.old) (E.contents err.new) }
+    streams: &mut Streams<W, E>,
+) -> Status
+    ensures written { AnswerWritten standard_output text.now (status_number status) (status_number result) }
+    ensures printed { AnswerPrinted (status_number status) text.now
+        (W.contents streams.old.out) (W.contents streams.new.out) (status_number result) }
+    ensures silent { status_number result ≢ 2 → Keeps (E.contents streams.old.err) (E.contents streams.new.err) }
 {
-    if write_out(out, text) {
-        return sheet_status(s);
+    if write_text::<STANDARD_OUTPUT, W>(&mut streams.out, text) {
+        return status;
     }
-    say(err, name, ": cannot write standard output\n");
-    NEITHER
+    say(&mut streams.err, name, ": cannot write standard output\n");
+    Status::Neither
 }

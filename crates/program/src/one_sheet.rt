@@ -1,12 +1,13 @@
 // A program that answers one sheet: it reads the sheet, makes its text and writes it, or says on standard error why it cannot.
 ghost use Rattle.std.specs.Prelude.{List, ◌≡◌, ℕ, ◌≤◌, ◌≢◌, length, take};
 ghost use Rattle.std.specs.Io.KnownBytes.{Keeps};
-ghost use Rattle.program.specs.Ends.{Ends};
+ghost use Rattle.program.specs.Ends.{Ends, sheet_status};
 ghost use Rattle.program.specs.Printed.{SheetPrinted, PrintsRead};
-ghost use Rattle.program.specs.Reads.{Taken};
+ghost use Rattle.program.specs.Status.{status_number};
 
-use crate::sources::Sources;
-use crate::{NEITHER, ROOM, WORDS, write_answer};
+use crate::sources::{Input, NotRead, Sources};
+use crate::{ROOM, Status, Streams, WORDS, write_answer};
+use inventory::check::report_check;
 use std::io::Write;
 
 // What a program makes of a sheet.
@@ -26,25 +27,31 @@ pub trait SheetText {
         ensures put { take result text.new ≡ text_of s.now };
 }
 
+// How a sheet is answered: it is accepted or refused.
+#[tactic(auto, unfolding(crate::specs::Ends::sheet_status))]
+fn status_of(s: &[u8]) -> Status
+    ensures { status_number result ≡ sheet_status s.now }
+{
+    Status::from(report_check(s, WORDS))
+}
+
 // Makes the text of the sheet that was read into a buffer and writes it, in one piece.
 fn answer<T: SheetText, W: Write, E: Write>(
     made: &T,
-    bytes: &[u8],
-    count: usize,
+    input: &Input,
     text: &mut [u8],
-    out: &mut W,
-    err: &mut E,
-) -> u8
-    requires { Taken 1 count bytes.now × (T.most ≤ length text.old) }
-    ensures ran { Ends T.text_of result }
-    ensures printed { SheetPrinted (take count bytes.now) (T.text_of (take count bytes.now))
-        (W.contents out.old) (W.contents out.new) result }
-    ensures silent { result ≢ 2 → Keeps (E.contents err.old) (E.contents err.new) }
+    streams: &mut Streams<W, E>,
+) -> Status
+    requires { (input.now.source ≡ 1) × (T.most ≤ length text.old) }
+    ensures ran { Ends T.text_of (status_number result) }
+    ensures printed { SheetPrinted input.now.bytes.now (T.text_of input.now.bytes.now)
+        (W.contents streams.old.out) (W.contents streams.new.out) (status_number result) }
+    ensures silent { status_number result ≢ 2 → Keeps (E.contents streams.old.err) (E.contents streams.new.err) }
 {
     let mut words = [0u64; WORDS];
-    let sheet = &bytes[..count];
+    let sheet = input.bytes;
     let end = made.put(sheet, &mut words, text);
-    write_answer(T::NAME, sheet, &text[..end], out, err)
+    write_answer(T::NAME, status_of(sheet), &text[..end], streams)
 }
 
 // The whole program, with a buffer for its text; what it returns is the exit status.
@@ -52,19 +59,17 @@ pub fn print_sheet<T: SheetText, S: Sources, W: Write, E: Write>(
     made: &T,
     sheets: &S,
     text: &mut [u8],
-    out: &mut W,
-    err: &mut E,
-) -> u8
+    streams: &mut Streams<W, E>,
+) -> Status
     requires { T.most ≤ length text.old }
-    ensures ran { Ends T.text_of result }
-    ensures prints { PrintsRead T.text_of (S.bytes sheets.now 1) (W.contents out.old) (W.contents out.new) result }
-    ensures silent { result ≢ 2 → Keeps (E.contents err.old) (E.contents err.new) }
+    ensures ran { Ends T.text_of (status_number result) }
+    ensures prints { PrintsRead T.text_of (S.bytes sheets.now 1)
+        (W.contents streams.old.out) (W.contents streams.new.out) (status_number result) }
+    ensures silent { status_number result ≢ 2 → Keeps (E.contents streams.old.err) (E.contents streams.new.err) }
 {
     let mut bytes = [0u8; ROOM];
-    let input = sheets.read(1, &mut bytes, err);
-    if !input.read {
-        return NEITHER;
+    match sheets.read(1, &mut bytes, &mut streams.err) {
+        Ok(input) => answer(made, &input, text, streams),
+        Err(NotRead) => Status::Neither,
     }
-    let n = input.count;
-    answer(made, &bytes, n, text, out, err)
 }

@@ -1,12 +1,13 @@
 // The sheets of a program: which they are, and how their bytes are read.
-ghost use Rattle.std.specs.Prelude.{◌≡◌, ℕ, ◌≤◌, false, true, List, Option, length, take, None, IfOk, OnErr, IfSome};
+ghost use Rattle.std.specs.Prelude.{◌≡◌, ℕ, ◌≤◌, List, Option, length, take, None, IfOk, OnOk, OnErr, IfSome};
 ghost use Rattle.std.specs.Io.KnownBytes.{Keeps};
-ghost use Rattle.program.specs.Reads.{Taken, Unread, Reads};
+ghost use Rattle.program.specs.Reads.{Taken, taken-once, Unread};
 ghost use Rattle.program.specs.Printed.{Takes};
 
-use crate::{Input, say};
+use crate::say;
 use std::alloc::{AllocError, Allocator};
 use std::env::{Env, FillError};
+use std::fmt::Display;
 use std::fs::{File, Files};
 use std::io;
 use std::io::{Read, Write};
@@ -14,11 +15,17 @@ use std::io::{Read, Write};
 // The longest name of a file, with one byte more.
 const PATH: usize = 4096;
 
-// Nothing was read.
-const NOTHING: Input = Input {
-    read: false,
-    count: 0,
-};
+// What was read of a source: the number of the source, and its bytes.
+#[derive(Clone, Copy)]
+pub struct Input<'a> {
+    pub source: usize,
+    pub bytes: &'a [u8],
+    pub ghost is_taken: { Taken source bytes.now } by { taken-once source bytes.now },
+}
+
+// A source could not be read, which has been said on standard error.
+#[derive(Clone, Copy, PartialEq, Eq)]
+pub struct NotRead;
 
 // Where a program has its sheets from. Source i is the file that argument i names; standard input, in place of argument 1,
 // is source 1.
@@ -29,29 +36,37 @@ pub trait Sources {
     // Reads source i until the buffer is full or the input ends, or says on standard error why it cannot. An input longer
     // than the buffer counts as read: the buffer has one byte more than the longest sheet, so that what is in it is
     // refused by its length, as the input would be whole.
-    fn read<E: Write>(&self, i: usize, buffer: &mut [u8], err: &mut E) -> Input
-        ensures reads { Reads i buffer.new result }
-        ensures known { result.read ≡ true
-            → IfSome (bytes self.now i) (λ xs. Takes xs buffer.old buffer.new result.count) }
-        ensures silent { result.read ≡ true → Keeps (E.contents err.old) (E.contents err.new) };
+    fn read<'b, E: Write>(
+        &self,
+        i: usize,
+        buffer: &'b mut [u8],
+        err: &mut E,
+    ) -> Result<Input<'b>, NotRead>
+        ensures source { IfOk result (λ input. input.source ≡ i) }
+        ensures unread { OnErr result (Unread i) }
+        ensures known { IfOk result (λ input. IfSome (bytes self.now i) (λ xs. Takes xs (length buffer.old) input.bytes.now)) }
+        ensures silent { OnOk result (Keeps (E.contents err.old) (E.contents err.new)) };
 }
 
-// Reads source i until the buffer is full or the input ends, and returns how many bytes the buffer then begins with.
-fn read<R: Read>(source: &mut R, i: usize, buffer: &mut [u8]) -> io::Result<usize>
-    ensures taken { IfOk result (λ n. Taken i n buffer.new) }
-    ensures unread { OnErr result (Unread i) }
-    ensures known { IfOk result (λ n. IfSome (R.remaining source.old) (λ xs. Takes xs buffer.old buffer.new n)) }
+// Reads source i until the buffer is full or the input ends. `read_full` of vectors is a second one: with this one, whose promise none of
+// them needs, all programs of vectors would stand on the crates of the report.
+fn read<'b, R: Read>(from: &mut R, i: usize, buffer: &'b mut [u8]) -> io::Result<Input<'b>>
+    ensures source { IfOk result (λ input. input.source ≡ i) }
+    ensures known { IfOk result (λ input. IfSome (R.remaining from.old) (λ xs. Takes xs (length buffer.old) input.bytes.now)) }
 {
     let mut done: usize = 0;
     // No count: each read gives as much as there is, and std's reads to the end want a buffer that grows.
     while done < buffer.len() {
-        let n = source.read(&mut buffer[done..])?;
+        let n = from.read(&mut buffer[done..])?;
         if n == 0 {
             break;
         }
         done += n;
     }
-    Ok(done)
+    Ok(Input {
+        source: i,
+        bytes: &buffer[..done],
+    })
 }
 
 // The system's reason for an error, without the number that std puts behind it.
@@ -63,144 +78,171 @@ fn reason<A: Allocator>(alloc: A, error: &io::Error) -> Result<String<A>, AllocE
     Ok(text)
 }
 
+// Says on standard error why source i is not read.
+fn fail<D: Display + Drop, E: Write>(i: usize, why: D, err: &mut E) -> NotRead
+    ensures { Unread i }
+{
+    let _ = write!(err, "{why}");
+    NotRead
+}
+
 // A program: its runtime, and its name for what it says on standard error.
 #[derive(Drop)]
-struct Program<'a, R> {
-    rt: &'a R,
-    name: &'a str,
+pub struct Program<'a, R> {
+    pub rt: &'a R,
+    pub name: &'a str,
 }
 
 impl<R: Env> Program<'_, R> {
-    // Whether there is an argument i; argument 0 is the program's own name.
+    // Argument i, at the front of a buffer; argument 0 is the program's own name.
+    fn argument<'b>(&self, i: usize, text: &'b mut [u8]) -> Result<&'b [u8], FillError> {
+        let n = self.rt.arg(i, text)?;
+        Ok(&text[..n])
+    }
+
+    // Whether there is an argument i.
     fn has_argument(&self, i: usize) -> bool {
         let mut text = [0u8; PATH];
-        match self.rt.arg(i, &mut text) {
-            Err(FillError::NotPresent) => false,
-            _ => true,
-        }
+        !matches!(self.argument(i, &mut text), Err(FillError::NotPresent))
     }
 
     // Whether argument i starts with -: there are no options, so that --help and the like are answered with the usage,
     // and such a file is named with its folder, as ./-x.
     fn is_option(&self, i: usize) -> bool {
         let mut text = [0u8; PATH];
-        match self.rt.arg(i, &mut text) {
-            Ok(n) => (0 < n) & (text[0] == b'-'),
-            Err(_) => false,
+        matches!(self.argument(i, &mut text), Ok([b'-', ..]))
+    }
+
+    // Source i is not read where the arguments are not two, as `pool` wants them: the usage is said.
+    pub fn two_named<E: Write>(&self, i: usize, err: &mut E) -> Result<(), NotRead>
+        ensures unread { OnErr result (Unread i) }
+        ensures silent { OnOk result (Keeps (E.contents err.old) (E.contents err.new)) }
+    {
+        if self.has_argument(2) & !self.has_argument(3) {
+            return Ok(());
         }
+        let name = self.name;
+        let usage = format_args!("usage: {name} FIRST SECOND\n");
+        Err(fail(i, usage, err))
     }
 }
 
 impl<R: Alloc> Program<'_, R> {
-    // Says what cannot be done with a file, and the system's reason.
-    fn say_why<E: Write>(&self, what: &str, path: &str, error: &io::Error, err: &mut E) {
+    // Says what cannot be done with the file of source i, and the system's reason.
+    fn cannot<E: Write>(
+        &self,
+        i: usize,
+        what: &str,
+        path: &str,
+        error: &io::Error,
+        err: &mut E,
+    ) -> NotRead
+        ensures { Unread i }
+    {
         let name = self.name;
-        let _ = match reason(self.rt.alloc(), error) {
-            Ok(reason) => writeln!(err, "{name}: cannot {what} {path}: {reason}"),
-            Err(_) => writeln!(err, "{name}: cannot {what} {path}"),
-        };
+        match reason(self.rt.alloc(), error) {
+            Ok(reason) => fail(
+                i,
+                format_args!("{name}: cannot {what} {path}: {reason}\n"),
+                err,
+            ),
+            Err(_) => fail(i, format_args!("{name}: cannot {what} {path}\n"), err),
+        }
     }
 }
 
 impl<R: Files + Alloc> Program<'_, R> {
     // The sheet of a file, which argument i names.
-    fn read_file<E: Write>(&self, i: usize, path: &str, buffer: &mut [u8], err: &mut E) -> Input
-        ensures reads { Reads i buffer.new result }
-        ensures silent { result.read ≡ true → Keeps (E.contents err.old) (E.contents err.new) }
+    fn read_file<'b, E: Write>(
+        &self,
+        i: usize,
+        path: &str,
+        buffer: &'b mut [u8],
+        err: &mut E,
+    ) -> Result<Input<'b>, NotRead>
+        ensures source { IfOk result (λ input. input.source ≡ i) }
+        ensures unread { OnErr result (Unread i) }
+        ensures silent { OnOk result (Keeps (E.contents err.old) (E.contents err.new)) }
     {
         let mut file = match File::open(self.rt, path) {
             Ok(file) => file,
-            Err(e) => {
-                self.say_why("open", path, &e, err);
-                return NOTHING;
-            }
+            Err(e) => return Err(self.cannot(i, "open", path, &e, err)),
         };
         match read(&mut file, i, buffer) {
-            Ok(count) => Input { read: true, count },
-            Err(e) => {
-                self.say_why("read", path, &e, err);
-                NOTHING
-            }
+            Ok(input) => Ok(input),
+            Err(e) => Err(self.cannot(i, "read", path, &e, err)),
         }
     }
 }
 
 impl<R: io::Input> Program<'_, R> {
     // The sheet of standard input, in place of argument 1.
-    fn read_input<E: Write>(&self, buffer: &mut [u8], err: &mut E) -> Input
-        ensures reads { Reads 1 buffer.new result }
-        ensures silent { result.read ≡ true → Keeps (E.contents err.old) (E.contents err.new) }
+    fn read_input<'b, E: Write>(
+        &self,
+        buffer: &'b mut [u8],
+        err: &mut E,
+    ) -> Result<Input<'b>, NotRead>
+        ensures source { IfOk result (λ input. input.source ≡ 1) }
+        ensures unread { OnErr result (Unread 1) }
+        ensures silent { OnOk result (Keeps (E.contents err.old) (E.contents err.new)) }
     {
+        let name = self.name;
         match read(&mut self.rt.reader(), 1, buffer) {
-            Ok(count) => Input { read: true, count },
-            Err(_) => {
-                say(err, self.name, ": cannot read standard input\n");
-                NOTHING
-            }
+            Ok(input) => Ok(input),
+            Err(_) => Err(fail(1, format_args!("{name}: cannot read standard input\n"), err)),
         }
     }
 }
 
-// The sheet of the file that argument i names, for a program of this name.
-pub fn read_argument<R: Env + Files + Alloc, E: Write>(
-    rt: &R,
-    name: &str,
-    i: usize,
-    bytes: &mut [u8],
-    err: &mut E,
-) -> Input
-    ensures reads { Reads i bytes.new result }
-    ensures silent { result.read ≡ true → Keeps (E.contents err.old) (E.contents err.new) }
-{
-    let mut text = [0u8; PATH];
-    let Ok(n) = rt.arg(i, &mut text) else {
-        say(err, name, ": argument: File name too long\n");
-        return NOTHING;
-    };
-    match std::str::from_utf8(&text[..n]) {
-        Ok(path) => Program { rt, name }.read_file(i, path, bytes, err),
-        Err(_) => {
-            say(err, name, ": argument: not UTF-8\n");
-            NOTHING
+impl<R: Env + Files + Alloc> Program<'_, R> {
+    // The sheet of the file that argument i names.
+    pub fn read_argument<'b, E: Write>(
+        &self,
+        i: usize,
+        buffer: &'b mut [u8],
+        err: &mut E,
+    ) -> Result<Input<'b>, NotRead>
+        ensures source { IfOk result (λ input. input.source ≡ i) }
+        ensures unread { OnErr result (Unread i) }
+        ensures silent { OnOk result (Keeps (E.contents err.old) (E.contents err.new)) }
+    {
+        let name = self.name;
+        let mut text = [0u8; PATH];
+        let Ok(argument) = self.argument(i, &mut text) else {
+            let why = format_args!("{name}: argument: File name too long\n");
+            return Err(fail(i, why, err));
+        };
+        let Ok(path) = std::str::from_utf8(argument) else {
+            let why = format_args!("{name}: argument: not UTF-8\n");
+            return Err(fail(i, why, err));
+        };
+        self.read_file(i, path, buffer, err)
+    }
+}
+
+impl<R: Env + Files + io::Input + Alloc> Program<'_, R> {
+    // The one sheet of a program: of the file that its argument names, or of standard input where it has none.
+    pub fn read_sheet<'b, E: Write>(
+        &self,
+        buffer: &'b mut [u8],
+        err: &mut E,
+    ) -> Result<Input<'b>, NotRead>
+        ensures source { IfOk result (λ input. input.source ≡ 1) }
+        ensures unread { OnErr result (Unread 1) }
+        ensures silent { OnOk result (Keeps (E.contents err.old) (E.contents err.new)) }
+    {
+        if !self.has_argument(1) {
+            return self.read_input(buffer, err);
         }
+        if self.has_argument(2) | self.is_option(1) {
+            let name = self.name;
+            let usage = format_args!(
+                "usage: {name} [FILE]   without FILE the sheet is read from standard input\n"
+            );
+            return Err(fail(1, usage, err));
+        }
+        self.read_argument(1, buffer, err)
     }
-}
-
-// The one sheet of a program: of the file that its argument names, or of standard input where it has none.
-pub fn read_sheet<R: Env + Files + io::Input + Alloc, E: Write>(
-    rt: &R,
-    name: &str,
-    bytes: &mut [u8],
-    err: &mut E,
-) -> Input
-    ensures reads { Reads 1 bytes.new result }
-    ensures silent { result.read ≡ true → Keeps (E.contents err.old) (E.contents err.new) }
-{
-    let program = Program { rt, name };
-    if !program.has_argument(1) {
-        return program.read_input(bytes, err);
-    }
-    if program.has_argument(2) | program.is_option(1) {
-        let _ = writeln!(
-            err,
-            "usage: {name} [FILE]   without FILE the sheet is read from standard input"
-        );
-        return NOTHING;
-    }
-    read_argument(rt, name, 1, bytes, err)
-}
-
-// Whether the arguments are two, as `pool` wants them; else the usage is said.
-pub fn two_named<R: Env, E: Write>(rt: &R, name: &str, err: &mut E) -> bool
-    ensures unread { result ≡ false → Unread 1 }
-    ensures silent { result ≡ true → Keeps (E.contents err.old) (E.contents err.new) }
-{
-    let program = Program { rt, name };
-    if program.has_argument(2) & !program.has_argument(3) {
-        return true;
-    }
-    let _ = writeln!(err, "usage: {name} FIRST SECOND");
-    false
 }
 
 // The one sheet of a program: of the file that its argument names, or of standard input where it has none. It and `TwoSheets` are apart:
@@ -215,11 +257,16 @@ impl<'a, R> OneSheet<'a, R> {
 }
 
 impl<R: Env + Files + io::Input + Alloc> Sources for OneSheet<'_, R> {
-    fn read<E: Write>(&self, i: usize, buffer: &mut [u8], err: &mut E) -> Input {
+    fn read<'b, E: Write>(
+        &self,
+        i: usize,
+        buffer: &'b mut [u8],
+        err: &mut E,
+    ) -> Result<Input<'b>, NotRead> {
         if i == 1 {
-            return read_sheet(self.0.rt, self.0.name, buffer, err);
+            return self.0.read_sheet(buffer, err);
         }
-        read_argument(self.0.rt, self.0.name, i, buffer, err)
+        self.0.read_argument(i, buffer, err)
     }
 }
 
@@ -234,10 +281,13 @@ impl<'a, R> TwoSheets<'a, R> {
 }
 
 impl<R: Env + Files + Alloc> Sources for TwoSheets<'_, R> {
-    fn read<E: Write>(&self, i: usize, buffer: &mut [u8], err: &mut E) -> Input {
-        if !two_named(self.0.rt, self.0.name, err) {
-            return NOTHING;
-        }
-        read_argument(self.0.rt, self.0.name, i, buffer, err)
+    fn read<'b, E: Write>(
+        &self,
+        i: usize,
+        buffer: &'b mut [u8],
+        err: &mut E,
+    ) -> Result<Input<'b>, NotRead> {
+        self.0.two_named(i, err)?;
+        self.0.read_argument(i, buffer, err)
     }
 }

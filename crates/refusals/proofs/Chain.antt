@@ -1,6 +1,6 @@
 -- Checks one after another, as `?` makes them: one that refuses is the answer, and one that passes hands on.
 -- Assumes nothing.
-use Rattle.std.proofs.Common.{◌≡◌, Bool, false, ℕ, suc, zero, ◌<◌, ◌≤◌, Ok, Err, refl, arith}
+use Rattle.std.proofs.Common.{◌≡◌, Bool, false, ℕ, suc, zero, ◌<◌, Err, refl, arith}
 use native.Mathlib.Decide.{dec_le}
 use Rattle.refusals.specs.declared.Refusal.{Refusal}
 use Rattle.refusals.specs.declared.Rule.{Rule}

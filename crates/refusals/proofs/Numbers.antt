@@ -1,6 +1,6 @@
 -- The numbers of the conditions are their places in the declaration, from 1 on, and none is 0.
 -- Assumes nothing.
-use Rattle.std.proofs.Common.{◌≡◌, ℕ, ◌+◌, ◌<◌, refl, ap, sym, arith, Ok, Err}
+use Rattle.std.proofs.Common.{◌≡◌, ℕ, ◌+◌, ◌<◌, refl, ap, arith, Ok, Err}
 use Rattle.refusals.specs.declared.Rule.{Rule}
 use Rattle.refusals.specs.declared.Rule.TheVariants as rule
 use Rattle.refusals.specs.declared.Refusal.{Refusal}

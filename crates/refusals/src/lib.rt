@@ -93,7 +93,8 @@ pub struct Refusal {
 // A check passes, or says why what is checked is refused.
 pub type Check = Result<(), Refusal>;
 
-// A rule applies where its condition holds.
+// A rule applies where its condition holds. The condition is an argument, so that a table of rules is a line for each, with `?`: an `if`
+// for each would be no plainer.
 #[tactic(auto, unfolding(crate::specs::Check::refuse))]
 pub fn refuse(applies: bool, rule: Rule, place: u64) -> Check
     ensures { result ≡ refuse applies rule place }

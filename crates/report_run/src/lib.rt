@@ -6,11 +6,13 @@
 ghost use Rattle.std.specs.Prelude.{◌≢◌};
 ghost use Rattle.std.specs.Io.KnownBytes.{Keeps};
 ghost use Rattle.report_text.specs.Text.{report_text};
+ghost use Rattle.program.specs.Status.{status_number};
 ghost use Rattle.report_run.specs.Ran.{ReportRan, ReportPrints};
 
 use program::one_sheet::SheetText;
 use program::sources::Sources;
-use report_text::report_text;
+use program::{Status, Streams};
+use report_text::{length_of, report_text};
 use std::io::Write;
 
 // The bytes of the longest text: 151 · 1,000 + 622.
@@ -28,16 +30,17 @@ impl SheetText for Report {
     ghost most = { 151622 };
 
     fn put(&self, s: &[u8], words: &mut [u64], text: &mut [u8]) -> usize {
-        report_text(s, words, text)
+        length_of(report_text(s, words, text))
     }
 }
 
 // The whole program; what it returns is the exit status.
-pub fn evp_run<S: Sources, W: Write, E: Write>(sheets: &S, out: &mut W, err: &mut E) -> u8
-    ensures ran { ReportRan result }
-    ensures prints { ReportPrints (S.bytes sheets.now 1) (W.contents out.old) (W.contents out.new) result }
-    ensures silent { result ≢ 2 → Keeps (E.contents err.old) (E.contents err.new) }
+pub fn evp_run<S: Sources, W: Write, E: Write>(sheets: &S, streams: &mut Streams<W, E>) -> Status
+    ensures ran { ReportRan (status_number result) }
+    ensures prints { ReportPrints (S.bytes sheets.now 1)
+        (W.contents streams.old.out) (W.contents streams.new.out) (status_number result) }
+    ensures silent { status_number result ≢ 2 → Keeps (E.contents streams.old.err) (E.contents streams.new.err) }
 {
     let mut text = [0u8; TEXT];
-    program::one_sheet::print_sheet(&Report, sheets, &mut text, out, err)
+    program::one_sheet::print_sheet(&Report, sheets, &mut text, streams)
 }

@@ -9,7 +9,7 @@ use Rattle.report_words.specs.Report.{words_of, subtotal, grand_total}
 use Rattle.report_words.specs.Categories.{counted, any_class}
 
 -- a word that counts or not
-counted-most : (b : Bool) {word most : ℕ} → word ≤ most → counted b word ≤ most
+pub counted-most : (b : Bool) {word most : ℕ} → word ≤ most → counted b word ≤ most
 unfolding counted
 counted-most true h = h
 counted-most false h = omega arith

@@ -4,49 +4,40 @@ ghost use Rattle.numbers.specs.Lists.{tab};
 ghost use Rattle.refusals.specs.Check.{Pass};
 ghost use Rattle.sheet.specs.Bytes.{seasons_of, rows_of, cells_of, season_at, row_at};
 ghost use Rattle.sheet.specs.Sheet.{sheet_check};
-ghost use Rattle.breakthrough.specs.Curves.{KeptOf};
 ghost use Rattle.masses.specs.Day.{day_figures};
 ghost use Rattle.report_words.specs.Report.{words_of};
-ghost use Rattle.sheet_factors.specs.Lent.{SheetLent};
 ghost use Rattle.report_sums.specs.Renewed.{renewed};
 ghost use Rattle.report_sums.specs.RowYear.{row_year};
 
 use crate::write_sums;
-use bounds::exp::{ExpTables, tables};
-use fields::{row_at, season_at, seasons_of, vehicles_of};
+use breakthrough::loads::LoadedRow;
+use fields::{season_at, seasons_of, vehicles_of};
 use masses::figures::six_figures;
 use report_words::words::{ROW_WORDS, row_word};
 use report_words::year::add_days;
 use sheet_factors::factors_at::units_with;
-use sheet_factors::kept::row_kept;
-use sheet_factors::parkings::sheet_grid;
+use sheet_factors::grid_sheet::GridSheet;
 
 // What one vehicle of row i loses on a day of season j.
-fn day_of(
-    tables: &ExpTables,
-    grid: &[u64; 627],
-    s: &[u8],
-    j: usize,
-    i: usize,
-    kept: u64,
-) -> [u64; 6]
-    requires { SheetLent s.now tables.now grid.now × (j < seasons_of s.now) × (i < rows_of s.now) × KeptOf (row_at s.now i) kept }
-    ensures { result ≡ day_figures (cells_of s.now) (season_at s.now j) (row_at s.now i) }
+fn day_of(sheet: &GridSheet, j: usize, i: usize, row: LoadedRow) -> [u64; 6]
+    requires { (j < seasons_of sheet.now.bytes.now) × (i < rows_of sheet.now.bytes.now) × (row.row ≡ row_at sheet.now.bytes.now i) }
+    ensures { result ≡ day_figures (cells_of sheet.now.bytes.now) (season_at sheet.now.bytes.now j) (row_at sheet.now.bytes.now i) }
 {
-    six_figures(units_with(tables, grid, s, j, i, kept), row_at(s, i))
+    six_figures(units_with(sheet, j, i, row), row.row)
 }
 
 // What one vehicle of row i loses in the year: its figures of a day, for the days of each season.
-fn year_of(tables: &ExpTables, grid: &[u64; 627], s: &[u8], i: usize) -> [u64; 6]
-    requires { SheetLent s.now tables.now grid.now × (i < rows_of s.now) }
-    ensures { result ≡ tab (row_year s.now i (seasons_of s.now)) 6 }
+fn year_of(sheet: &GridSheet, i: usize) -> [u64; 6]
+    requires { i < rows_of sheet.now.bytes.now }
+    ensures { result ≡ tab (row_year sheet.now.bytes.now i (seasons_of sheet.now.bytes.now)) 6 }
 {
-    let kept = row_kept(tables, s, i);
-    let seasons = seasons_of(s);
+    let row = sheet.row(i);
     let mut year = [0u64; 6];
+    let seasons = seasons_of(sheet.bytes);
     for j in 0..seasons {
-        let figures = day_of(tables, grid, s, j, i, kept);
-        add_days(&mut year, 0, season_at(s, j).days, figures);
+        let figures = day_of(sheet, j, i, row);
+        let days = season_at(sheet.bytes, j).days;
+        add_days(&mut year, 0, days, figures);
     }
     year
 }
@@ -56,9 +47,7 @@ fn words_of(s: &[u8], i: usize) -> [u64; 6]
     requires { (sheet_check s.now ≡ Pass) × (i < rows_of s.now) }
     ensures { result ≡ words_of s.now i }
 {
-    let tables = tables();
-    let grid = sheet_grid(s);
-    let year = year_of(&tables, &grid, s, i);
+    let year = year_of(&GridSheet::new(s), i);
     let vehicles = vehicles_of(s, i);
     let mut out = [0u64; 6];
     for (m, word) in out.iter_mut().enumerate() {

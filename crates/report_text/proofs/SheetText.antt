@@ -3,7 +3,7 @@
 use Rattle.std.proofs.Common.{Err}
 use mathlib.Core.List.{List, ◌++◌}
 use mathlib.Core.Path.{◌≡◌, refl, sym, ◌∙◌, ap}
-use Prim.Native.Nat.{ℕ, ◌+◌, ◌*◌, ◌-◌, ◌^◌, ◌≤◌, ◌<◌}
+use Prim.Native.Nat.{ℕ, ◌+◌, ◌*◌, ◌^◌, ◌≤◌, ◌<◌}
 use native.Mathlib.Omega.{arith}
 use lib.ListN.{length, take, drop}
 use lib.Seq.{take_at}
@@ -23,12 +23,11 @@ use Rattle.inventory.specs.ReportAnswers.{report_check}
 use Rattle.inventory.proofs.CallConditions.{report-accepted, report-sheet}
 use Rattle.inventory.proofs.Written.{written-length}
 use Rattle.text.specs.Lines.{report_lines, refusal_line}
-use Rattle.text.specs.Put.{Room, Put}
-use Rattle.text.proofs.Putting.{put_front}
+use Rattle.text.specs.Whole.{printed}
+use Rattle.text.proofs.Printed.{printed-first}
 use Rattle.text.proofs.LineSizes.{Words, words-first, report-most, refusal-most}
 use Rattle.report_text.specs.Reported.{Reported}
 use Rattle.report_text.specs.Text.{text_of, report_text, text_most, TextCall}
-use Rattle.report_text.proofs.Printed.{printed-fits, printed-short, printed-first}
 
 -- The lines of an accepted sheet.
 module _ {s words : List ℕ} (made : Reported s words) where
@@ -37,12 +36,13 @@ module _ {s words : List ℕ} (made : Reported s words) where
 
   -- they are made of its version, its rows and the words at the front
   pub lines-made : {version rows : ℕ} → version ≡ version_of s → rows ≡ rows_of s
-      → report_lines version rows (take (6 * rows + 26 - 0) words) ≡ text_of Pass s
+      → report_lines version rows (take (6 * rows + 26) words) ≡ text_of Pass s
   unfolding text_of report_length
-  lines-made v r =
-      rw (v, r)
-      (ap (λ (n : ℕ). report_lines (version_of s) (rows_of s) (take n words)) {x = 6 * rows_of s + 26 - 0} {y = 6 * rows_of s + 26} (omega arith) ∙
-      ap (report_lines (version_of s) (rows_of s)) made.first)
+  lines-made v r = rw (v, r) (ap (report_lines (version_of s) (rows_of s)) made.first)
+
+  pub words-there : {rows : ℕ} → rows ≡ rows_of s → 6 * rows + 26 ≤ length words
+  unfolding report_length
+  words-there r = omega (arith, made.there, r)
 
   pub lines-most : Words words → length (text_of Pass s) ≤ text_most
   unfolding text_of
@@ -58,21 +58,13 @@ module _ {s words : List ℕ} (made : Reported s words) where
       )
 
 -- The line of a refusal.
-pub refusal_is : (s : List ℕ) {refusal : Refusal} {check : Check} → check ≡ Err refusal
-    → refusal_line (number refusal.rule) refusal.place ≡ text_of check s
+pub refusal_is : (s : List ℕ) (refusal : Refusal) → refusal_line (number refusal.rule) refusal.place ≡ text_of (Err refusal) s
 unfolding text_of
-refusal_is s e = rw e refl
+refusal_is s refusal = refl
 
-pub refusal-short : (number place : ℕ) → number < 2 ^ 64 → place < 2 ^ 64 → length (refusal_line number place) ≤ text_most
-refusal-short number place n p = omega (arith, refusal-most number place n p)
-
--- the end of such a text can be counted
-pub room : {text : List ℕ} → length text ≤ text_most → Room 0 text
-room h = record { fits = omega arith }
-
--- and it is no longer
-pub end-most : {old text new : List ℕ} {end : ℕ} → length text ≤ text_most → Put old 0 text new end → end ≤ text_most
-end-most h a = omega (arith, a.end_is)
+pub refusal-short : (s : List ℕ) (refusal : Refusal) → refusal.place < 2 ^ 64 → length (text_of (Err refusal) s) ≤ text_most
+unfolding text_of
+refusal-short s refusal p = omega (arith, refusal-most refusal p)
 
 -- What the report call leaves is what the lines are made from.
 pub reported : {s old words : List ℕ} {check : Check} → ReportCall s old words check → check ≡ Pass → Reported s words
@@ -87,35 +79,19 @@ reported {s} {old} {words} {check} a passed =
       first = rw left (take_at (report s) (drop (length (report s)) old) (report_length s) (report-length s));
     }
 
--- What holds after the call, where the text was first put into a buffer of no byte.
-module _ {s old words : List ℕ} {check : Check} (a : ReportCall s old words check)
-    {none between : List ℕ} {size : ℕ} (counted : Put none 0 (text_of check s) between size × (size ≤ text_most)) where
-  text-is : text_of check s ≡ report_text s (length old)
-  unfolding report_text
-  text-is = ap (λ (c : Check). text_of c s) a.answer-is
-
-  size_is : size ≡ length (report_text s (length old))
-  size_is = rw (← text-is) (omega (arith, counted.0.end_is))
-
-  -- it does not fit
-  pub text-kept : {before : List ℕ} → length before < size → TextCall s old words before before size
-  text-kept {before} h = record {
-    reported = rw a.answer-is at a;
-    length-is = size_is;
-    text-is = sym (printed-short (report_text s (length old)) before (omega (arith, size_is)));
-    length_most = counted.1;
-  }
-
-  -- it fits
-  pub text-put : {before out : List ℕ} {end : ℕ} → size ≤ length before → Put before 0 (text_of check s) out end → TextCall s old words before out end
-  text-put {before} h put =
-      let short : length (report_text s (length old)) ≤ length before = omega (arith, size_is) in
-      record {
-        reported = rw a.answer-is at a;
-        length-is = rw (← text-is) (omega (arith, put.end_is));
-        text-is = put_front short (rw text-is at put) ∙ sym (printed-fits (report_text s (length old)) before short);
-        length_most = omega (arith, put.end_is, counted.0.end_is, counted.1);
-      }
+-- What holds after the call, where the text of these lines was written whole.
+pub text-call : {s old words before out : List ℕ} {check : Check} {size : ℕ} → ReportCall s old words check
+    → size ≡ length (text_of check s) → length (text_of check s) ≤ text_most → out ≡ printed (text_of check s) before
+    → TextCall s old words before out size
+unfolding report_text
+text-call {s} {old} a size_is most written =
+    let text-is : text_of (report_check s (length old)) s ≡ text_of _ s = ap (λ (c : Check). text_of c s) (sym a.answer-is) in
+    record {
+      reported = rw a.answer-is at a;
+      length-is = rw text-is size_is;
+      text-is = rw text-is written;
+      length_most = omega (arith, size_is, most);
+    }
 
 -- In a buffer that is long enough for any text, as many bytes at the front as the call answers are the text.
 pub text-first : {s old words before out : List ℕ} {r : ℕ} → TextCall s old words before out r → text_most ≤ length before

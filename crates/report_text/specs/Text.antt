@@ -1,5 +1,5 @@
 -- The text that is printed for a sheet, and what the text call leaves. Definitions only.
-use Rattle.std.specs.Prelude.{true, false, List, ◌++◌, ◌≡◌, ℕ, ◌+◌, ◌*◌, ◌≤◌, leb, length, drop, Ok, Err}
+use Rattle.std.specs.Prelude.{List, ◌≡◌, ℕ, ◌+◌, ◌*◌, ◌≤◌, length, Ok, Err}
 use Rattle.refusals.specs.Rule.{number}
 use Rattle.refusals.specs.Check.{Check}
 use Rattle.sheet.specs.Versions.{version_of}
@@ -8,6 +8,7 @@ use Rattle.report_words.specs.Report.{report}
 use Rattle.inventory.specs.ReportCall.{ReportCall}
 use Rattle.inventory.specs.ReportAnswers.{report_check}
 use Rattle.text.specs.Lines.{report_lines, refusal_line}
+use Rattle.text.specs.Whole.{printed}
 
 -- "prints `refused N at P`, or all words as below"
 unfoldable pub text_of : Check → List ℕ → List ℕ
@@ -22,12 +23,8 @@ report_text s room = text_of (report_check s room) s
 abbrev pub text_most : ℕ
 text_most = 151 * 1000 + 622
 
--- the text and behind it what was there; where it does not fit, all as it was
-unfoldable pub printed : List ℕ → List ℕ → List ℕ
-printed text old = elim (leb (length text) (length old)) [ true ↦ text ++ drop (length text) old | false ↦ old ]
-
 -- What holds after the call, with the words and the bytes that stood in the two buffers before it and those that stand there now: the
--- words are those of the report call, and the answer is the length of the text, whether it fits or not.
+-- words are those of the report call, and the length that is answered is that of the text, whether it fits or not.
 pub record TextCall (s old words before out : List ℕ) (r : ℕ) : Type 0 where
   pub reported : ReportCall s old words (report_check s (length old))
   pub length-is : r ≡ length (report_text s (length old))

@@ -1,49 +1,62 @@
 // From the bytes of a sheet to the bytes that are printed for it.
 #![tactic(auto)]
 
-ghost use Rattle.std.specs.Prelude.{◌≡◌, ◌≤◌};
+ghost use Rattle.std.specs.Prelude.{◌≡◌, ◌≤◌, ◌<◌, length, IfOk};
+ghost use Rattle.std.specs.Result.{MatchResult};
 ghost use Rattle.refusals.specs.Check.{Pass};
-ghost use Rattle.text.specs.Put.{Put};
-ghost use Rattle.report_text.specs.Reported.{Reported};
+ghost use Rattle.text.specs.Whole.{length_of, text_or_refusal};
+ghost use Rattle.report_text.specs.Reported.{Reported, LinesThere, lines_text};
 ghost use Rattle.report_text.specs.Text.{text_of, text_most, TextCall};
 
 use fields::{rows_of, version_of};
 use inventory::report;
-use refusals::Check;
-use text::lines::{put_refusal, put_report};
+use refusals::{Check, Refusal};
+pub use text::whole::length_of;
+use text::whole::{Lines, write_whole};
+use text::writer::Writer;
 
-// The lines of an accepted sheet, as far as the buffer reaches.
-fn put_accepted(out: &mut [u8], s: &[u8], words: &[u64]) -> usize
-    requires { Reported s.now words.now }
-    ensures { Put out.old 0 (text_of Pass s.now) out.new result × (result ≤ text_most) }
-{
-    let rows = rows_of(s);
-    let end = 6 * rows + 26;
-    put_report(out, version_of(s), rows, &words[0..end])
+// What the lines of an accepted sheet are made from: its version, its rows and the words of its report.
+#[derive(Clone, Copy, Drop)]
+struct ReportLines<'a> {
+    version: u64,
+    rows: usize,
+    words: &'a [u64],
 }
 
-// The text of a sheet that was checked, as far as the buffer reaches.
-fn put_text(out: &mut [u8], s: &[u8], check: Check, words: &[u64]) -> usize
-    requires { check ≡ Pass → Reported s.now words.now }
-    ensures { Put out.old 0 (text_of check s.now) out.new result × (result ≤ text_most) }
-{
-    match check {
-        Err(refusal) => put_refusal(out, refusal.rule.number(), refusal.place),
-        Ok(()) => put_accepted(out, s, words),
+impl Lines for ReportLines<'_> {
+    ghost are_there = { LinesThere };
+
+    ghost text = { lines_text };
+
+    fn write(&self, writer: &mut Writer<'_>) {
+        writer.report(self.version, self.rows, self.words);
     }
+}
+
+// What the text of a sheet that was checked is made from.
+fn lines_of<'a>(s: &[u8], words: &'a [u64], check: Check) -> Result<ReportLines<'a>, Refusal>
+    requires { check ≡ Pass → Reported s.now words.now }
+    ensures there { IfOk result LinesThere }
+    ensures text { text_or_refusal lines_text result ≡ text_of check s.now }
+    ensures most { length (text_of check s.now) ≤ text_most }
+{
+    check?;
+    let rows = rows_of(s);
+    let end = 6 * rows + 26;
+    Ok(ReportLines {
+        version: version_of(s),
+        rows,
+        words: &words[..end],
+    })
 }
 
 // The text that is printed for a sheet, at the front of a buffer that it fits; the words of the report are left as the report call leaves
-// them. Answers the length of the text. Where this is more than the buffer has, the buffer is left as it is: so the length comes first, from
-// the same code with a buffer of no byte.
-pub fn report_text(s: &[u8], words: &mut [u64], out: &mut [u8]) -> usize
-    ensures { TextCall s.now words.old words.new out.old out.new result }
+// them. The length of the text is returned, as an error where the buffer has less: it is then left as it is. C hands over the sheet and the
+// words as two slices, and one call here takes both: a struct of the two would be made for that call alone.
+pub fn report_text(s: &[u8], words: &mut [u64], out: &mut [u8]) -> Result<usize, usize>
+    ensures call { TextCall s.now words.old words.new out.old out.new (length_of result) }
+    ensures answer { MatchResult result (λ n. n ≤ length out.old) (λ n. length out.old < n) }
 {
     let check = report(s, words);
-    let mut none = [0u8; 0];
-    let length = put_text(&mut none, s, check, words);
-    if out.len() < length {
-        return length;
-    }
-    put_text(out, s, check, words)
+    write_whole(&lines_of(s, words, check), out)
 }

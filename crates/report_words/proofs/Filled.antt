@@ -81,9 +81,3 @@ filled-same f words n e = sym (take-append-drop n words) ∙ ap (λ (r : List �
 -- its word k
 pub first-at : (f : ℕ → ℕ) (words : List ℕ) (n k : ℕ) → take n words ≡ tab f n → k < n → get_or words k 0 ≡ f k
 first-at f words n k e h = sym (get_or-take n words k 0 h) ∙ ap (λ (r : List ℕ). get_or r k 0) e ∙ get_d-tab f n k h
-
--- all elements of a list, one by one
-pub tab-get_d : (xs : List ℕ) → tab (λ (k : ℕ). get_or xs k 0) (length xs) ≡ xs
-tab-get_d xs =
-    ext_get_or 0 (tab (λ (k : ℕ). get_or xs k 0) (length xs)) xs (tab-length _ (length xs))
-    (λ k l. get_d-tab (λ (k : ℕ). get_or xs k 0) (length xs) k (rw (tab-length _ (length xs)) at l))

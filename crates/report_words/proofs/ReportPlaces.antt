@@ -8,8 +8,7 @@ use Prim.Native.Nat.{ℕ, suc, zero, ◌+◌, ◌*◌, ◌≤◌, ◌<◌}
 use native.Mathlib.Nat.{eq-or-lt_of_le}
 use native.Mathlib.Omega.{arith}
 use lib.ListN.{length, get_or, length-append, get_or-append}
-use lib.Seq.{get_or-append-add}
-use Rattle.numbers.proofs.Lists.{tab-length, get_d-tab}
+use Rattle.numbers.proofs.Lists.{tab-length, get_d-tab, past}
 use Rattle.sheet.specs.Bytes.{rows_of}
 use Rattle.masses.specs.Figures.{row_figures}
 use Rattle.report_words.specs.Report.{words_of, row_words}
@@ -32,10 +31,6 @@ subtotals-length s category = tab-length (subtotal s category (rows_of s)) 6
 pub report-length : (s : List ℕ) → length (report s) ≡ report_length s
 unfolding report report_length
 report-length s = simp (length-append, row_words-length, subtotals-length) (omega arith)
-
--- past the first list
-past : (xs ys : List ℕ) (n k m : ℕ) → length xs ≡ n → m ≡ n + k → get_or (xs ++ ys) m 0 ≡ get_or ys k 0
-past xs ys n k m e f = rw (f, ← e) (get_or-append-add xs ys k 0)
 
 -- word j of row i stands at 6·i + j of the rows' words
 rows_at : (s : List ℕ) (n i j : ℕ) → i < n → j < 6 → get_or (row_words s n) (6 * i + j) 0 ≡ get_or (words_of s i) j 0

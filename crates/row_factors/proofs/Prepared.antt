@@ -1,12 +1,11 @@
--- The rises of a season's parkings and its day are those that its rows are given.
+-- The rises of a season's parkings are those that its rows are given.
 -- Assumes nothing.
 use mathlib.Core.List.{List}
 use mathlib.Core.Path.{◌≡◌, ◌∙◌, ap}
-use Prim.Native.Nat.{ℕ, ◌*◌, ◌-◌, ◌^◌}
+use Prim.Native.Nat.{ℕ, ◌-◌, ◌^◌}
 use native.Mathlib.Omega.{arith}
-use Rattle.numbers.specs.Lists.{tab, at, AllAtMost}
-use Rattle.numbers.proofs.Lists.{tab-ext, tab-at-most, get_d-tab}
-use Rattle.bounds.specs.Ahead.{ahead}
+use Rattle.numbers.specs.Lists.{tab, AllAtMost}
+use Rattle.numbers.proofs.Lists.{tab-ext, tab-at-most}
 use Rattle.exact.specs.declared.Season.{Season}
 use Rattle.marks.specs.declared.MarkValues.{MarkValues}
 use Rattle.sheet.specs.Range.{SeasonInRange, mark_warmth}
@@ -30,20 +29,3 @@ pub rises-are : {season : Season} {marks : MarkValues} {rises : List ℕ} → At
 unfolding parking_rise
 rises-are {season} m e =
     e ∙ tab-ext 576 (λ cell _. ap (λ (x : ℕ). x - rise_error) (passed_in-tab (step_at (mark_warmth season)) m.step_is cell))
-
--- Its day, list by list.
-module _ (season : Season) where
-  -- of the values at its marks
-  pub by-distance : (value : ℕ → ℕ) {values by : List ℕ} → values ≡ tab value 48 → by ≡ tab (λ (d : ℕ). at values (ahead d)) 25
-      → by ≡ tab (λ (d : ℕ). value (ahead d)) 25
-  by-distance value e f = f ∙ tab-ext 25 (λ d h. rw e (get_d-tab value 48 (ahead d) (omega arith)))
-
-  -- of the temperatures: of each one what they give
-  pub by-warmth : (g : ℕ → ℕ) {warmths by : List ℕ} → warmths ≡ tab (λ (d : ℕ). mark_warmth season (ahead d)) 25
-      → by ≡ tab (λ (d : ℕ). g (at warmths d)) 25 → by ≡ tab (λ (d : ℕ). g (mark_warmth season (ahead d))) 25
-  by-warmth g e f = f ∙ tab-ext 25 (λ d h. rw e (ap g (get_d-tab (λ (d : ℕ). mark_warmth season (ahead d)) 25 d h)))
-
-  -- no temperature is above 50 °C
-  pub warmths-most : {warmths : List ℕ} → SeasonInRange season → warmths ≡ tab (λ (d : ℕ). mark_warmth season (ahead d)) 25
-      → AllAtMost (80 * 10 ^ 10) warmths
-  warmths-most s e = tab-at-most _ 25 e (λ d h. warmth-most (ahead d) s)

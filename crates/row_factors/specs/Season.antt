@@ -1,8 +1,6 @@
 -- Need not be believed: what the program computes once for all rows of a season.
 use Rattle.std.specs.Prelude.{List, ◌≡◌, ℕ, ◌/◌, ◌<◌}
 use Rattle.numbers.specs.Lists.{tab}
-use Rattle.bounds.specs.Exponential.{entries}
-use Rattle.bounds.specs.Short.{binary}
 use Rattle.bounds.specs.Ahead.{ahead}
 use Rattle.exact.specs.declared.Canister.{Canister}
 use Rattle.exact.specs.declared.Canister.TheVariants.{None, Small, Medium, Large}
@@ -11,12 +9,12 @@ use Rattle.exact.specs.declared.Row.{Row}
 use Rattle.marks.specs.declared.MarkValues.{MarkValues}
 use Rattle.sheet.specs.Range.{SeasonInRange, RowInRange, mark_warmth, halves}
 use Rattle.marks.specs.AtMarks.{MarksOf, AtMarks, raises_by, rates_at}
-use Rattle.factors.specs.Escape.{base, growth}
 use Rattle.factors.specs.Means.{mean_units}
 use Rattle.factors.specs.Units.{start_of, end_of, parking_rise, parking_rates}
-use Rattle.parking.specs.Grid.{cells_in, GridReady}
+use Rattle.parking.specs.declared.season_list.SeasonList.{SeasonList}
 use Rattle.parking.specs.SeasonList.{ListReady}
-use Rattle.breakthrough.specs.Curves.{KeptOf}
+use Rattle.breakthrough.specs.declared.loads.Line.{Line}
+use Rattle.breakthrough.specs.Lines.{line_of_warmth, line_at}
 use Rattle.row_factors.specs.declared.season.Means.{Means}
 use Rattle.row_factors.specs.declared.season.AtSeason.{AtSeason}
 use Rattle.row_factors.specs.declared.season.Day.{Day}
@@ -48,23 +46,19 @@ abbrev pub rises_of : Season → List ℕ
 rises_of season = tab (parking_rise season) 576
 
 -- Its day: what its rows read at its 25 temperatures, by distance from 14:00.
--- a, and 2·b·s of a canister, in units of 2⁻⁴⁴
-abbrev pub day_bases : Season → List ℕ
-day_bases season = tab (λ (d : ℕ). binary (base season.vp (mark_warmth season (ahead d)))) 25
-
-abbrev pub day_growths : Season → Canister → List ℕ
-day_growths season c = tab (λ (d : ℕ). binary (growth c season.vp (mark_warmth season (ahead d)))) 25
-
 -- the rises of E under a raise
 abbrev pub day_raises : Season → ℕ → List ℕ
 day_raises season k = tab (λ (d : ℕ). raises_by season k (ahead d)) 25
 
+-- a and 2·b·s of a canister with 2·s = times
+abbrev pub LinesOf : Season → ℕ → List Line → Type 0
+LinesOf season times lines = (d : ℕ) → d < 25 → line_at lines d ≡ line_of_warmth season.vp times (mark_warmth season (ahead d))
+
 pub record DayReady (season : Season) (day : Day) : Type 0 where
   pub season-in : SeasonInRange season
-  pub base-is : day.base ≡ day_bases season
-  pub large_is : day.large ≡ day_growths season Large
-  pub medium-is : day.medium ≡ day_growths season Medium
-  pub small_is : day.small ≡ day_growths season Small
+  pub large_is : LinesOf season 1 day.large
+  pub medium-is : LinesOf season 2 day.medium
+  pub small_is : LinesOf season 4 day.small
   pub raise10-is : day.raise10 ≡ day_raises season 10
   pub raise15-is : day.raise15 ≡ day_raises season 15
   pub raise25-is : day.raise25 ≡ day_raises season 25
@@ -72,29 +66,21 @@ pub record DayReady (season : Season) (day : Day) : Type 0 where
   pub raise45-is : day.raise45 ≡ day_raises season 45
   pub raise60-is : day.raise60 ≡ day_raises season 60
 
--- 2·b·s of a canister; without one there is none, and nothing asks for it
-unfoldable pub growth_in : Day → Canister → List ℕ
-growth_in day None = day.base
-growth_in day Large = day.large
-growth_in day Medium = day.medium
-growth_in day Small = day.small
+-- those of a canister; without one there are none, and nothing asks for them
+unfoldable pub lines_in : Day → Canister → List Line
+lines_in day None = day.large
+lines_in day Large = day.large
+lines_in day Medium = day.medium
+lines_in day Small = day.small
 
--- what the functions of every row are passed: the tables of E and the grid; and the season with its 48 temperatures and their exponential
--- bounds, its day and its means
-pub record Lent (tables grid : List ℕ) (given : AtSeason) : Type 0 where
-  pub tables-are : tables ≡ entries
-  pub grid-ready : GridReady grid
-  pub marks-of : MarksOf given.season given.marks
-  pub day-ready : DayReady given.season given.day
-  pub means-are : MeansOf given.season (cells_in grid) given.means
+-- what is made once for all rows of a season, from the counts of the cells: its 48 temperatures and their exponential bounds, its day and
+-- its means
+pub record SeasonReady (counts : List ℕ) (made : AtSeason) : Type 0 where
+  pub marks-of : MarksOf made.season made.marks
+  pub day-ready : DayReady made.season made.day
+  pub means-are : MeansOf made.season counts made.means
 
--- the list of a season's parkings, which a row with a canister needs
-pub record ListFor (grid list : List ℕ) (season : Season) (row : Row) : Type 0 where
-  pub ready : 0 < halves row.canister → ListReady (cells_in grid) (rises_of season) list
-
--- with a row in range, and what its canister keeps of its load
-pub record RowLent (tables grid list : List ℕ) (given : AtSeason) (row : Row) (kept : ℕ) : Type 0 where
-  pub lent : Lent tables grid given
-  pub row_in : RowInRange given.season row
-  pub list-for : ListFor grid list given.season row
-  pub kept_of : KeptOf row kept
+-- a row in range, and the list of the season's parkings where it has a canister
+pub record RowReady (counts : List ℕ) (list : SeasonList) (season : Season) (row : Row) : Type 0 where
+  pub row_in : RowInRange season row
+  pub list-ready : 0 < halves row.canister → ListReady counts (rises_of season) list

@@ -1,28 +1,36 @@
 -- Need not be believed: the computed escapes of a row in a season, from which its seven factors are made.
-use Rattle.std.specs.Prelude.{List, [], ◌∷◌, ◌≡◌, ℕ, ◌+◌, ◌*◌, ◌/◌, ◌^◌, ◌<◌}
-use Rattle.numbers.specs.Lists.{at}
+use Rattle.std.specs.Prelude.{List, [], ◌∷◌, ◌≡◌, ℕ, ◌+◌, ◌*◌, ◌/◌, ◌^◌, ◌<◌, ◌≤◌}
 use Rattle.exact.specs.declared.Season.{Season}
 use Rattle.exact.specs.declared.Row.{Row}
 use Rattle.exact.specs.Factors.{F1, F2, F3, F4, F5, F6, F7}
 use Rattle.marks.specs.Marks.{tenths}
 use Rattle.factors.specs.Units.{start_of, end_of, parking_rise, escape_units, escape_over_units, open_units, factor_units}
+use Rattle.parking.specs.declared.season_list.SeasonList.{SeasonList}
 use Rattle.parking.specs.SeasonList.{by_entry}
-use Rattle.breakthrough.specs.declared.curves.Curves.{Curves}
+use Rattle.breakthrough.specs.declared.curve.Curve.{Curve}
 use Rattle.breakthrough.specs.Through.{curve_at, through}
 use Rattle.row_factors.specs.declared.season.Means.{Means}
 use Rattle.row_factors.specs.declared.escapes.Escapes.{Escapes}
 
 -- the mean of what breaks through: in a parking, from the list of a season, for a sum of all counts
-abbrev pub parking_through : List ℕ → ℕ → Curves → ℕ
-parking_through list total c = by_entry list (λ (start : ℕ) (rise : ℕ). through (curve_at c start) rise / 2 ^ 12) / total
+abbrev pub parking_through : SeasonList → ℕ → List Curve → ℕ
+parking_through list total curves = by_entry list (λ (start : ℕ) (rise : ℕ). through (curve_at curves start) rise / 2 ^ 12) / total
 
 -- without canister: the vapour of five mean rises
-pub record VapourOf (gain : ℕ) (rises : List ℕ) (e : Escapes) : Type 0 where
-  pub parking-is : e.parking ≡ gain * at rises 0 / 2 ^ 40
-  pub soak-is : e.soak ≡ gain * at rises 1 / 2 ^ 40
-  pub hotsoak-is : e.hotsoak ≡ gain * at rises 2 / 2 ^ 40
-  pub trip-is : e.trip ≡ gain * at rises 3 / 2 ^ 40
-  pub hottrip-is : e.hottrip ≡ gain * at rises 4 / 2 ^ 40
+pub record VapourOf (gain : ℕ) (rises e : Escapes) : Type 0 where
+  pub parking-is : e.parking ≡ gain * rises.parking / 2 ^ 40
+  pub soak-is : e.soak ≡ gain * rises.soak / 2 ^ 40
+  pub hotsoak-is : e.hotsoak ≡ gain * rises.hotsoak / 2 ^ 40
+  pub trip-is : e.trip ≡ gain * rises.trip / 2 ^ 40
+  pub hottrip-is : e.hottrip ≡ gain * rises.hottrip / 2 ^ 40
+
+-- how large these are
+pub record RisesInRange (rises : Escapes) : Type 0 where
+  pub parking-most : rises.parking ≤ 72 * 2 ^ 40
+  pub soak-most : rises.soak ≤ 72 * 2 ^ 40
+  pub hotsoak-most : rises.hotsoak ≤ 72 * 2 ^ 40
+  pub trip-most : rises.trip ≤ 72 * 2 ^ 40
+  pub hottrip-most : rises.hottrip ≤ 72 * 2 ^ 40
 
 module _ (season : Season) (row : Row) (counts : List ℕ) where
   -- in a parking

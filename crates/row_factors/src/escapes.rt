@@ -1,25 +1,24 @@
-// What escapes on average from a row's tank in a season, with a canister and without, in units of 2^-28 g.
+// What escapes on average from a row's tank in a season, with a canister and without, in units of 2^-28 g. Cars and two-wheelers are two
+// functions each, since the guidebook gives them different raises and a car with canister loses no vapour on a trip.
 ghost use Rattle.std.specs.Prelude.{◌≡◌, ◌*◌, ◌^◌, ◌<◌, ◌≤◌};
-ghost use Rattle.numbers.specs.Lists.{at, AllAtMost};
-ghost use Rattle.bounds.specs.Exponential.{entries};
 ghost use Rattle.sheet.specs.Range.{SeasonInRange, RowInRange, halves};
 ghost use Rattle.factors.specs.Units.{gain};
-ghost use Rattle.parking.specs.Grid.{cells_in, sum_place, GridReady};
 ghost use Rattle.parking.specs.SeasonList.{ListFits};
-ghost use Rattle.breakthrough.specs.Curves.{CurvesOf};
-ghost use Rattle.breakthrough.specs.Through.{CurvesReady};
-ghost use Rattle.row_factors.specs.Season.{growth_in, RowLent};
-ghost use Rattle.row_factors.specs.Seven.{parking_through, VapourOf, CarEscapes, TwoWheelerEscapes};
+ghost use Rattle.breakthrough.specs.Lines.{CurvesOf};
+ghost use Rattle.row_factors.specs.Season.{lines_in, RowReady};
+ghost use Rattle.row_factors.specs.Seven.{parking_through, VapourOf, RisesInRange, CarEscapes, TwoWheelerEscapes};
 
-use crate::season::{AtSeason, Day};
-use bounds::exp::{ExpTables, ZERO, exponential};
+use crate::rows::SeasonRows;
+use crate::season::Day;
+use bounds::exp::{ZERO, exponential};
 use bounds::fixed::mul_shift;
-use breakthrough::curves::{Curves, fit};
+use breakthrough::curves::Curves;
+use breakthrough::fitting::fit;
+use breakthrough::loads::{Line, LoadedRow};
 use breakthrough::losses::{through_list, through_raises};
 use exact::{Canister, Row, Season};
 use fields::classes::halves;
 use parking::cells::Moment;
-use parking::grid::SUM;
 
 // In a parking, over the lesser raise of a soak and of a trip, and over the greater.
 #[derive(Clone, Copy)]
@@ -35,150 +34,129 @@ pub struct Escapes {
 const VAPOUR_EXPONENT: u64 = 205000000000;
 
 // Grams of vapour for a rise of 1 in E(0.0716 T).
-fn gain(tables: &ExpTables, season: Season, row: Row) -> u64
-    requires { (tables.now ≡ entries) × SeasonInRange season × RowInRange season row }
+fn gain(season: Season, row: Row) -> u64
+    requires { SeasonInRange season × RowInRange season row }
     ensures { (result ≡ gain season row) × (result ≤ 36 * 2 ^ 40) }
 {
-    (100 - row.fill) * row.tank * exponential(tables, VAPOUR_EXPONENT * season.vp + ZERO) / 40000
+    (100 - row.fill) * row.tank * exponential(VAPOUR_EXPONENT * season.vp + ZERO) / 40000
 }
 
-// Without canister: vapour grows evenly with the rise, so that of the mean rise is the mean.
-fn open_escapes(gain: u64, rises: [u64; 5]) -> Escapes
-    requires { (gain < 2 ^ 50) × AllAtMost (72 * 2 ^ 40) rises }
+// Without canister, from the mean rises: vapour grows evenly with the rise, so that of the mean rise is the mean.
+fn open_escapes(gain: u64, rises: Escapes) -> Escapes
+    requires { (gain < 2 ^ 50) × RisesInRange rises }
     ensures { VapourOf gain rises result }
 {
     Escapes {
-        parking: mul_shift(gain, rises[0]),
-        soak: mul_shift(gain, rises[1]),
-        hotsoak: mul_shift(gain, rises[2]),
-        trip: mul_shift(gain, rises[3]),
-        hottrip: mul_shift(gain, rises[4]),
+        parking: mul_shift(gain, rises.parking),
+        soak: mul_shift(gain, rises.soak),
+        hotsoak: mul_shift(gain, rises.hotsoak),
+        trip: mul_shift(gain, rises.trip),
+        hottrip: mul_shift(gain, rises.hottrip),
     }
 }
 
-// What breaks through in a parking.
-fn parking_through(tables: &ExpTables, grid: &[u64; 627], list: &[u64; 1732], c: Curves) -> u64
-    requires { (tables.now ≡ entries) × GridReady grid.now × CurvesReady c × ListFits (72 * 2 ^ 40) list.now }
-    ensures { result ≡ parking_through list.now (at grid.now sum_place) c }
-{
-    through_list(tables, list, c) / grid[SUM]
-}
-
-// 2 b s of a canister at the temperatures of the day.
-#[tactic(auto, unfolding(crate::specs::Season::growth_in))]
-fn growth_of(day: Day, canister: Canister) -> [u64; 25]
-    ensures { result ≡ growth_in day canister }
+// a and 2 b s of a canister at the temperatures of the day; no row without one asks for them.
+#[tactic(auto, unfolding(crate::specs::Season::lines_in))]
+fn lines_of(day: &Day, canister: Canister) -> [Line; 25]
+    ensures { result ≡ lines_in day.now canister }
 {
     match canister {
-        Canister::None => day.base,
-        Canister::Large => day.large,
+        Canister::None | Canister::Large => day.large,
         Canister::Medium => day.medium,
         Canister::Small => day.small,
     }
 }
 
-// The row's canister.
-fn fitted(
-    tables: &ExpTables,
-    grid: &[u64; 627],
-    list: &[u64; 1732],
-    at: AtSeason,
-    row: Row,
-    kept: u64,
-) -> Curves
-    requires { RowLent tables.now grid.now list.now at row kept × (0 < halves row.canister) }
-    ensures { CurvesOf at.season row result }
-{
-    let canister = row.canister;
-    let growths = growth_of(at.day, canister);
-    let vapour = gain(tables, at.season, row);
-    fit(tables, &at.day.base, &growths, row, vapour, kept)
-}
-
-// A car with canister, from which nothing escapes on a trip.
-fn canister_car(
-    tables: &ExpTables,
-    grid: &[u64; 627],
-    list: &[u64; 1732],
-    at: AtSeason,
-    row: Row,
-    kept: u64,
-) -> Escapes
-    requires { RowLent tables.now grid.now list.now at row kept × (0 < halves row.canister) }
-    ensures { CarEscapes at.season row (cells_in grid.now) result }
-{
-    let c = fitted(tables, grid, list, at, row, kept);
-    Escapes {
-        parking: parking_through(tables, grid, list, c),
-        soak: through_raises(tables, grid, Moment::Start, &at.day.raise45, c),
-        hotsoak: through_raises(tables, grid, Moment::Start, &at.day.raise60, c),
-        trip: 0,
-        hottrip: 0,
+impl SeasonRows<'_> {
+    // The row's canister.
+    fn fitted(&self, row: LoadedRow) -> Curves
+        requires { RowReady self.now.grid.now.cells.counts self.now.list.now self.now.at.season row.row × (0 < halves row.row.canister) }
+        ensures { CurvesOf self.now.at.season row.row result.by_distance }
+    {
+        let lines = lines_of(&self.at.day, row.row.canister);
+        let vapour = gain(self.at.season, row.row);
+        fit(&lines, row, vapour)
     }
-}
 
-// A two-wheeler with canister.
-fn canister_two_wheeler(
-    tables: &ExpTables,
-    grid: &[u64; 627],
-    list: &[u64; 1732],
-    at: AtSeason,
-    row: Row,
-    kept: u64,
-) -> Escapes
-    requires { RowLent tables.now grid.now list.now at row kept × (0 < halves row.canister) }
-    ensures { TwoWheelerEscapes at.season row (cells_in grid.now) result }
-{
-    let c = fitted(tables, grid, list, at, row, kept);
-    Escapes {
-        parking: parking_through(tables, grid, list, c),
-        soak: through_raises(tables, grid, Moment::Start, &at.day.raise15, c),
-        hotsoak: through_raises(tables, grid, Moment::Start, &at.day.raise35, c),
-        trip: through_raises(tables, grid, Moment::End, &at.day.raise10, c),
-        hottrip: through_raises(tables, grid, Moment::End, &at.day.raise25, c),
+    // What breaks through in a parking.
+    fn parking_through(&self, c: &Curves) -> u64
+        requires { ListFits (72 * 2 ^ 40) self.now.list.now }
+        ensures { result ≡ parking_through self.now.list.now self.now.grid.now.sum c.now.by_distance }
+    {
+        through_list(self.list, c) / self.grid.sum
     }
-}
 
-// A car, with or without canister.
-pub fn car(
-    tables: &ExpTables,
-    grid: &[u64; 627],
-    list: &[u64; 1732],
-    at: AtSeason,
-    row: Row,
-    kept: u64,
-) -> Escapes
-    requires { RowLent tables.now grid.now list.now at row kept }
-    ensures { CarEscapes at.season row (cells_in grid.now) result }
-{
-    let canister = row.canister;
-    if halves(canister) == 0 {
-        let vapour = gain(tables, at.season, row);
-        let m = at.means;
-        open_escapes(vapour, [m.rise, m.start45, m.start60, m.end10, m.end50])
-    } else {
-        canister_car(tables, grid, list, at, row, kept)
+    // A car with canister, from which nothing escapes on a trip.
+    fn canister_car(&self, row: LoadedRow) -> Escapes
+        requires { RowReady self.now.grid.now.cells.counts self.now.list.now self.now.at.season row.row × (0 < halves row.row.canister) }
+        ensures { CarEscapes self.now.at.season row.row self.now.grid.now.cells.counts result }
+    {
+        let c = self.fitted(row);
+        let day = &self.at.day;
+        Escapes {
+            parking: self.parking_through(&c),
+            soak: through_raises(self.grid, Moment::Start, &day.raise45, &c),
+            hotsoak: through_raises(self.grid, Moment::Start, &day.raise60, &c),
+            trip: 0,
+            hottrip: 0,
+        }
     }
-}
 
-// A two-wheeler, with or without canister.
-pub fn two_wheeler(
-    tables: &ExpTables,
-    grid: &[u64; 627],
-    list: &[u64; 1732],
-    at: AtSeason,
-    row: Row,
-    kept: u64,
-) -> Escapes
-    requires { RowLent tables.now grid.now list.now at row kept }
-    ensures { TwoWheelerEscapes at.season row (cells_in grid.now) result }
-{
-    let canister = row.canister;
-    if halves(canister) == 0 {
-        let vapour = gain(tables, at.season, row);
-        let m = at.means;
-        open_escapes(vapour, [m.rise, m.start15, m.start35, m.end10, m.end25])
-    } else {
-        canister_two_wheeler(tables, grid, list, at, row, kept)
+    // A two-wheeler with canister.
+    fn canister_two_wheeler(&self, row: LoadedRow) -> Escapes
+        requires { RowReady self.now.grid.now.cells.counts self.now.list.now self.now.at.season row.row × (0 < halves row.row.canister) }
+        ensures { TwoWheelerEscapes self.now.at.season row.row self.now.grid.now.cells.counts result }
+    {
+        let c = self.fitted(row);
+        let day = &self.at.day;
+        Escapes {
+            parking: self.parking_through(&c),
+            soak: through_raises(self.grid, Moment::Start, &day.raise15, &c),
+            hotsoak: through_raises(self.grid, Moment::Start, &day.raise35, &c),
+            trip: through_raises(self.grid, Moment::End, &day.raise10, &c),
+            hottrip: through_raises(self.grid, Moment::End, &day.raise25, &c),
+        }
+    }
+
+    // A car, with or without canister.
+    pub fn car(&self, row: LoadedRow) -> Escapes
+        requires { RowReady self.now.grid.now.cells.counts self.now.list.now self.now.at.season row.row }
+        ensures { CarEscapes self.now.at.season row.row self.now.grid.now.cells.counts result }
+    {
+        if halves(row.row.canister) == 0 {
+            let vapour = gain(self.at.season, row.row);
+            let m = self.at.means;
+            let rises = Escapes {
+                parking: m.rise,
+                soak: m.start45,
+                hotsoak: m.start60,
+                trip: m.end10,
+                hottrip: m.end50,
+            };
+            open_escapes(vapour, rises)
+        } else {
+            self.canister_car(row)
+        }
+    }
+
+    // A two-wheeler, with or without canister.
+    pub fn two_wheeler(&self, row: LoadedRow) -> Escapes
+        requires { RowReady self.now.grid.now.cells.counts self.now.list.now self.now.at.season row.row }
+        ensures { TwoWheelerEscapes self.now.at.season row.row self.now.grid.now.cells.counts result }
+    {
+        if halves(row.row.canister) == 0 {
+            let vapour = gain(self.at.season, row.row);
+            let m = self.at.means;
+            let rises = Escapes {
+                parking: m.rise,
+                soak: m.start15,
+                hotsoak: m.start35,
+                trip: m.end10,
+                hottrip: m.end25,
+            };
+            open_escapes(vapour, rises)
+        } else {
+            self.canister_two_wheeler(row)
+        }
     }
 }

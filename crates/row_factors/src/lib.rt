@@ -3,5 +3,6 @@
 
 mod escapes;
 pub mod micrograms;
+pub mod rows;
 pub mod season;
 pub mod units;

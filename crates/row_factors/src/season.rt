@@ -1,23 +1,21 @@
-// What a season gives to every row: its day, the list of its parkings, and the means that no row changes.
-ghost use Rattle.std.specs.Prelude.{true, ◌≡◌, ℕ, ◌/◌, ◌^◌};
+// What a season gives to every row: its day, the rises of its parkings, and the means that no row changes.
+ghost use Rattle.std.specs.Prelude.{◌≡◌, ℕ, ◌/◌, ◌^◌};
 ghost use Rattle.numbers.specs.Lists.{AllAtMost};
-ghost use Rattle.bounds.specs.Exponential.{entries};
 ghost use Rattle.sheet.specs.Range.{SeasonInRange};
 ghost use Rattle.factors.specs.Means.{mean_units};
-ghost use Rattle.parking.specs.Grid.{cells_in, GridReady, passed_in};
-ghost use Rattle.parking.specs.SeasonList.{ListReady};
-ghost use Rattle.row_factors.specs.Season.{MeansOf, MarksReady, rises_of, DayReady, Lent};
+ghost use Rattle.parking.specs.Grid.{passed_in};
+ghost use Rattle.row_factors.specs.Season.{MeansOf, MarksReady, rises_of, DayReady, SeasonReady};
 
-use bounds::exp::ExpTables;
-use breakthrough::curves::{bases, growths};
+use breakthrough::fitting::lines;
+use breakthrough::loads::Line;
 use exact::Season;
-use marks::{MarkValues, Marks, at_marks, by_distance};
+use marks::{MarkValues, Marks, at_marks};
 use parking::cells::Moment;
-use parking::means::{mean_by_cell, mean_by_mark};
-use parking::season_list::write_list;
-use parking::walk::{halved, rises, walk};
+use parking::grid::Grid;
+use parking::walk::{rises, walk};
+use std::array;
 
-// Means over the cells, in units of 2^-28.
+// Means over the cells, in units of 2^-28. Each has a name of its own, since a car and a two-wheeler read different ones.
 #[derive(Clone, Copy)]
 pub struct Means {
     // The rise of E(0.0716 T) in a parking.
@@ -36,14 +34,13 @@ pub struct Means {
     pub start60: u64,
 }
 
-// What the rows of a season read at its 25 temperatures, by distance from 14:00.
+// What the rows of a season read at its 25 temperatures, by distance from 14:00. The raises have names, as the means have.
 #[derive(Clone, Copy)]
 pub struct Day {
-    // a, and 2 b s of a large, a medium and a small canister, in units of 2^-44.
-    pub base: [u64; 25],
-    pub large: [u64; 25],
-    pub medium: [u64; 25],
-    pub small: [u64; 25],
+    // a and 2 b s of a large, a medium and a small canister.
+    pub large: [Line; 25],
+    pub medium: [Line; 25],
+    pub small: [Line; 25],
     // The rise of E(0.0716 T) when T is raised by so many tenths of a degree, in units of 2^-40.
     pub raise10: [u64; 25],
     pub raise15: [u64; 25],
@@ -62,107 +59,79 @@ pub struct AtSeason {
     pub means: Means,
 }
 
-// With the list of the season's parkings, which is passed by reference.
+// With the rises of the season's parkings, of which a list is made where a row with a canister is to read it.
 #[derive(Clone, Copy)]
 pub struct Prepared {
-    pub list: [u64; 1732],
+    pub rises: [u64; 576],
     pub at: AtSeason,
 }
 
-// The day of a season that has these values at its marks.
-fn day_of(season: Season, values: MarkValues) -> Day
-    requires { MarksReady season values }
+// The day of a season that has these values at its marks. Not inlined, so that its arrays take stack only while it runs.
+#[inline(never)]
+fn day_of(season: Season, values: &MarkValues) -> Day
+    requires { MarksReady season values.now }
     ensures { DayReady season result }
 {
     let vp = season.vp;
-    let warmths = by_distance(&values.marks.temperature);
     Day {
-        base: bases(&warmths, vp),
-        large: growths(&warmths, vp, 1),
-        medium: growths(&warmths, vp, 2),
-        small: growths(&warmths, vp, 4),
-        raise10: by_distance(&values.raise10),
-        raise15: by_distance(&values.raise15),
-        raise25: by_distance(&values.raise25),
-        raise35: by_distance(&values.raise35),
-        raise45: by_distance(&values.raise45),
-        raise60: by_distance(&values.raise60),
+        large: lines(&values.warmths, vp, 1),
+        medium: lines(&values.warmths, vp, 2),
+        small: lines(&values.warmths, vp, 4),
+        raise10: values.raise10,
+        raise15: values.raise15,
+        raise25: values.raise25,
+        raise35: values.raise35,
+        raise45: values.raise45,
+        raise60: values.raise60,
     }
 }
 
-// The permeation in a parking: half of the hourly rates at its marks.
-fn permeation_mean(grid: &[u64; 627], rates: &[u64; 48]) -> u64
-    requires { GridReady grid.now × AllAtMost (2 ^ 40) rates.now }
-    ensures { result ≡ mean_units (cells_in grid.now) (λ (cell : ℕ). passed_in rates.now cell / 2) }
+// The permeation in a parking: half of the hourly rates at its marks. Not inlined, so that its arrays take stack only while it runs.
+#[inline(never)]
+fn permeation_mean(grid: &Grid, rates: &[u64; 48]) -> u64
+    requires { AllAtMost (2 ^ 40) rates.now }
+    ensures { result ≡ mean_units grid.now.cells.counts (λ (cell : ℕ). passed_in rates.now cell / 2) }
 {
     let all = walk(rates);
-    let halves = halved(&all.passed);
-    mean_by_cell(grid, &halves)
+    let halves = array::from_fn(|cell| all.passed[cell] / 2);
+    grid.mean_by_cell(&halves)
 }
 
 // The means of a season, from the rises of its parkings and its values at the marks.
-fn means_of(grid: &[u64; 627], rises: &[u64; 576], season: Season, values: MarkValues) -> Means
-    requires { GridReady grid.now × MarksReady season values × (rises.now ≡ rises_of season) }
-    ensures { MeansOf season (cells_in grid.now) result }
+fn means_of(grid: &Grid, rises: &[u64; 576], season: Season, values: &MarkValues) -> Means
+    requires { MarksReady season values.now × (rises.now ≡ rises_of season) }
+    ensures { MeansOf season grid.now.cells.counts result }
 {
     Means {
-        rise: mean_by_cell(grid, rises),
+        rise: grid.mean_by_cell(rises),
         permeation: permeation_mean(grid, &values.rate),
-        soak: mean_by_mark(grid, Moment::Start, &values.soak),
-        run: mean_by_mark(grid, Moment::End, &values.run),
-        end10: mean_by_mark(grid, Moment::End, &values.raise10),
-        start15: mean_by_mark(grid, Moment::Start, &values.raise15),
-        end25: mean_by_mark(grid, Moment::End, &values.raise25),
-        start35: mean_by_mark(grid, Moment::Start, &values.raise35),
-        start45: mean_by_mark(grid, Moment::Start, &values.raise45),
-        end50: mean_by_mark(grid, Moment::End, &values.raise50),
-        start60: mean_by_mark(grid, Moment::Start, &values.raise60),
+        soak: grid.mean_by_distance(Moment::Start, &values.soak),
+        run: grid.mean_by_distance(Moment::End, &values.run),
+        end10: grid.mean_by_distance(Moment::End, &values.raise10),
+        start15: grid.mean_by_distance(Moment::Start, &values.raise15),
+        end25: grid.mean_by_distance(Moment::End, &values.raise25),
+        start35: grid.mean_by_distance(Moment::Start, &values.raise35),
+        start45: grid.mean_by_distance(Moment::Start, &values.raise45),
+        end50: grid.mean_by_distance(Moment::End, &values.raise50),
+        start60: grid.mean_by_distance(Moment::Start, &values.raise60),
     }
 }
 
-// The list of a season's parkings where a row with a canister is to read it. Without one nothing does, and none is written.
-fn list_where(grid: &[u64; 627], rises: &[u64; 576], read: bool, list: &mut [u64; 1732])
-    requires { GridReady grid.now }
-    ensures { read ≡ true → ListReady (cells_in grid.now) rises.now list.new }
+// A season as the functions of its rows have it, made once for all of them.
+pub fn prepare(grid: &Grid, season: Season) -> Prepared
+    requires { SeasonInRange season }
+    ensures { (result.at.season ≡ season) × SeasonReady grid.now.cells.counts result.at × (result.rises ≡ rises_of season) }
 {
-    if read {
-        write_list(grid, rises, list);
-    }
-}
-
-// A season as the functions of its rows have it, made once for all of them; the list of its parkings is written where it is wanted.
-pub fn at_season(
-    tables: &ExpTables,
-    grid: &[u64; 627],
-    season: Season,
-    canisters: bool,
-    list: &mut [u64; 1732],
-) -> AtSeason
-    requires { (tables.now ≡ entries) × GridReady grid.now × SeasonInRange season }
-    ensures { (result.season ≡ season) × Lent tables.now grid.now result
-        × (canisters ≡ true → ListReady (cells_in grid.now) (rises_of season) list.new) }
-{
-    let values = at_marks(tables, season);
+    let values = at_marks(season);
     let rises = rises(&values.step);
-    list_where(grid, &rises, canisters, list);
-    let day = day_of(season, values);
-    let means = means_of(grid, &rises, season, values);
+    let day = day_of(season, &values);
+    let means = means_of(grid, &rises, season, &values);
     let marks = values.marks;
-    AtSeason {
+    let at = AtSeason {
         season,
         marks,
         day,
         means,
-    }
-}
-
-// The same with its list as one value.
-pub fn prepare(tables: &ExpTables, grid: &[u64; 627], season: Season, canisters: bool) -> Prepared
-    requires { (tables.now ≡ entries) × GridReady grid.now × SeasonInRange season }
-    ensures { (result.at.season ≡ season) × Lent tables.now grid.now result.at
-        × (canisters ≡ true → ListReady (cells_in grid.now) (rises_of season) result.list) }
-{
-    let mut list = [0u64; 1732];
-    let at = at_season(tables, grid, season, canisters, &mut list);
-    Prepared { list, at }
+    };
+    Prepared { rises, at }
 }

@@ -1,17 +1,15 @@
-// The seven factors of a row in a season, in units of 2^-28 g.
+// The seven factors of a row in a season, in units of 2^-28 g: factor k of the guidebook stands at place k - 1.
 ghost use Rattle.std.specs.Prelude.{◌≡◌, ◌+◌, ◌^◌, ◌<◌};
-ghost use Rattle.sheet.specs.Range.{RowInRange};
-ghost use Rattle.parking.specs.Grid.{cells_in};
-ghost use Rattle.breakthrough.specs.Curves.{KeptOf};
-ghost use Rattle.row_factors.specs.Season.{Lent, ListFor};
+ghost use Rattle.row_factors.specs.Season.{RowReady};
 ghost use Rattle.row_factors.specs.Seven.{CarFits, car_seven, two_wheeler_seven, seven_units};
 
-use crate::escapes::{Escapes, car, two_wheeler};
-use crate::season::{AtSeason, Means};
-use bounds::exp::ExpTables;
-use exact::Row;
+use crate::escapes::Escapes;
+use crate::rows::SeasonRows;
+use crate::season::Means;
+use breakthrough::loads::LoadedRow;
 
-// The factors of a car: permeation in a parking, in a soak and in the minutes of a trip, and the escapes besides.
+// The factors of a car: permeation in a parking, in a soak and in the minutes of a trip, and the escapes besides. Two-wheelers have a
+// function of their own, since a trait of both would hold these two lists of sums and nothing more.
 #[tactic(auto, unfolding(crate::specs::Seven::car_seven))]
 fn car_units(e: Escapes, m: Means, minutes: u64) -> [u64; 7]
     requires { CarFits e m minutes }
@@ -46,25 +44,19 @@ fn two_wheeler_units(e: Escapes, m: Means) -> [u64; 7]
     ]
 }
 
-// The seven factors of a row whose canister keeps so much of its load.
-pub fn row_units(
-    tables: &ExpTables,
-    grid: &[u64; 627],
-    list: &[u64; 1732],
-    at: AtSeason,
-    row: Row,
-    kept: u64,
-) -> [u64; 7]
-    requires { Lent tables.now grid.now at × RowInRange at.season row × ListFor grid.now list.now at.season row
-        × KeptOf row kept }
-    ensures { result ≡ seven_units at.season row (cells_in grid.now) }
-{
-    let means = at.means;
-    if row.class < 5 {
-        let e = car(tables, grid, list, at, row, kept);
-        car_units(e, means, row.minutes)
-    } else {
-        let e = two_wheeler(tables, grid, list, at, row, kept);
-        two_wheeler_units(e, means)
+impl SeasonRows<'_> {
+    // The seven factors of a row.
+    pub fn units(&self, row: LoadedRow) -> [u64; 7]
+        requires { RowReady self.now.grid.now.cells.counts self.now.list.now self.now.at.season row.row }
+        ensures { result ≡ seven_units self.now.at.season row.row self.now.grid.now.cells.counts }
+    {
+        let means = self.at.means;
+        if row.row.class < 5 {
+            let e = self.car(row);
+            car_units(e, means, row.row.minutes)
+        } else {
+            let e = self.two_wheeler(row);
+            two_wheeler_units(e, means)
+        }
     }
 }

@@ -2,12 +2,14 @@
 #![tactic(auto)]
 
 ghost use Rattle.std.specs.Prelude.{◌≡◌, ◌+◌, ◌^◌, ◌<◌, ◌≤◌, length};
-ghost use Rattle.sheet.specs.Bytes.{rows_of, row_place};
+ghost use Rattle.sheet.specs.Integers.{u8_at, u16_at};
+ghost use Rattle.sheet.specs.Bytes.{rows_of, row_place, row_at};
+ghost use Rattle.sheet.specs.Sheet.{no_canister};
 ghost use Rattle.sheet.specs.RunningSums.{vehicles_before};
 ghost use Rattle.checks.specs.Passed.{SeasonsPassed};
-ghost use Rattle.findings.specs.Lines.{each_finding};
+ghost use Rattle.findings.specs.Lines.{site, field, limits, always, line, each_finding};
 ghost use Rattle.findings.specs.Table.{last_technology, class_finding, percent_finding, fleet_finding, use_finding, load_finding};
-ghost use Rattle.findings.specs.Table.{saturation_finding, driven_finding, mileage_finding, row_finding};
+ghost use Rattle.findings.specs.Table.{saturated_site, largest, saturation_finding, driven_finding, mileage_finding, row_finding};
 
 use exact::Row;
 use fields::classes::{BY_CLASS, LAST_CODE, no_canister};
@@ -16,236 +18,252 @@ use fields::limits::{
     VEHICLES_LIMIT,
 };
 use fields::{has_many_rows, has_mileage, row_at, row_place, rows_of, u8_at, u16_at, vehicles_of};
-use finding_lines::{judge, no_finding, or_else};
-use findings::{Field, Finding, Limits, Rule, Site};
-use largest_loads::{largest_of, passing_seasons};
+use finding_lines::{Record, judge};
+use findings::reasons::Reason;
+use findings::spans::{
+    CANISTER_CODE, CARBURETTOR, CLASS, FILL, HOT, LOAD, MILEAGE, MINUTES, SATURATION, TANK,
+    TECHNOLOGY, TRIPS, VEHICLES,
+};
+use findings::{Judged, Limits};
+use largest_loads::{Demand, Seasons};
+use std::ops::Range;
 
 // The classes of the table.
 const CLASSES: u64 = 9;
 
-// The last technology of a class.
+// The last technology of a class. The class is any byte here, since the line of the class stands beside it.
+#[tactic(auto, unfolding(findings::specs::Table::last_technology, findings::specs::Canisters::picked))]
 fn last_technology(class: u64) -> u64
     ensures { result ≡ last_technology class }
 {
-    if class <= 4 {
-        return 5;
+    match class {
+        0..=4 => 5,
+        5..=8 => 3,
+        _ => 2,
     }
-    if class <= 8 { 3 } else { 2 }
 }
 
-// Numbers 13 and 14 of row i, which starts at p.
-fn class_finding(s: &[u8], i: u64, p: usize, row: Row) -> Finding
-    requires { p + 24 ≤ length s.now }
-    ensures { result ≡ class_finding s.now i p row }
-{
-    let place = p as u64;
-    let here = Site(place, i, 0);
-    let class = u8_at(s, p);
-    let technology = Field(place + 1, 1, u8_at(s, p + 1));
-    let code = u8_at(s, p + 2);
-    let a = judge(
-        true,
-        here,
-        Rule(13, 1),
-        Field(place, 1, class),
-        Limits(1, CLASSES),
-    );
-    let b = judge(
-        true,
-        here,
-        Rule(13, 2),
-        technology,
-        Limits(0, last_technology(class)),
-    );
-    let named = code != BY_CLASS;
-    let c = judge(
-        named,
-        here,
-        Rule(14, 1),
-        Field(place + 2, 1, code),
-        Limits(0, LAST_CODE),
-    );
-    or_else(a, or_else(b, c))
+// A row in its sheet: where it starts, which it is, what it says, and the vehicles of the rows before.
+#[derive(Clone, Copy)]
+struct RowAt<'a> {
+    seasons: Seasons<'a>,
+    at: Record,
+    row: Row,
+    before: u64,
+    ghost inside: { at.place + 24 ≤ length seasons.sheet.now },
+    ghost placed: { at.place ≡ row_place seasons.sheet.now at.index },
+    ghost says: { row ≡ row_at seasons.sheet.now at.index },
+    ghost saturation_fits: { row.saturation < 65536 },
+    ghost vehicles_fit: { row.vehicles < 2 ^ 32 },
+    ghost counted: { before ≡ vehicles_before seasons.sheet.now at.index },
+    ghost before_fits: { before < 2 ^ 62 },
 }
 
-// Number 15.
-fn percent_finding(s: &[u8], i: u64, p: usize, row: Row) -> Finding
-    requires { p + 24 ≤ length s.now }
-    ensures { result ≡ percent_finding s.now i p row }
-{
-    let place = p as u64;
-    let here = Site(place, i, 0);
-    let range = Limits(0, PERCENT_LIMIT);
-    let a = judge(
-        true,
-        here,
-        Rule(15, 1),
-        Field(place + 3, 1, row.carburettor),
-        range,
-    );
-    let b = judge(true, here, Rule(15, 2), Field(place + 4, 1, row.hot), range);
-    let c = judge(
-        true,
-        here,
-        Rule(15, 3),
-        Field(place + 5, 1, row.fill),
-        range,
-    );
-    or_else(a, or_else(b, c))
+impl<'a> RowAt<'a> {
+    // Row i.
+    fn of(seasons: Seasons<'a>, i: usize, before: u64) -> RowAt<'a>
+        requires there { row_place seasons.sheet.now i + 24 ≤ length seasons.sheet.now }
+        requires counted { before ≡ vehicles_before seasons.sheet.now i }
+        requires before_fits { before < 2 ^ 62 }
+        ensures sheet { result.seasons.sheet.now ≡ seasons.entry.sheet.now }
+        ensures index { result.at.index ≡ i }
+    {
+        let s = seasons.sheet;
+        RowAt {
+            seasons,
+            at: Record {
+                place: row_place(s, i) as u64,
+                index: i as u64,
+            },
+            row: row_at(s, i),
+            before,
+        }
+    }
+
+    // The number in one of its bytes, and in two.
+    fn u8_at(self, bytes: Range<u16>) -> u64
+        requires { bytes.start < 24 }
+        ensures { result ≡ u8_at self.entry.seasons.sheet.now (self.entry.at.place + bytes.start) }
+    {
+        u8_at(
+            self.seasons.sheet,
+            self.at.place as usize + usize::from(bytes.start),
+        )
+    }
+
+    fn u16_at(self, bytes: Range<u16>) -> u64
+        requires { bytes.start < 23 }
+        ensures { result ≡ u16_at self.entry.seasons.sheet.now (self.entry.at.place + bytes.start) }
+    {
+        u16_at(
+            self.seasons.sheet,
+            self.at.place as usize + usize::from(bytes.start),
+        )
+    }
+
+    // Numbers 13 and 14.
+    #[tactic(auto, using(findings::proofs::Steps::in_order), unfolding(findings::specs::Table::class_finding))]
+    fn class_finding(self) -> Judged
+        ensures { result ≡ class_finding self.entry.seasons.sheet.now self.entry.at.index self.entry.at.place self.entry.row }
+    {
+        let (at, class, technology) = (self.at, self.u8_at(CLASS), self.u8_at(TECHNOLOGY));
+        let (code, last) = (self.u8_at(CANISTER_CODE), last_technology(class));
+        at.judge(Reason::Class, CLASS, class, Limits::between(1, CLASSES))?;
+        at.at_most(Reason::Technology, TECHNOLOGY, technology, last)?;
+        if code == BY_CLASS {
+            return Ok(());
+        }
+        at.at_most(Reason::CanisterCode, CANISTER_CODE, code, LAST_CODE)
+    }
+
+    // Number 15.
+    #[tactic(auto, using(findings::proofs::Steps::in_order), unfolding(findings::specs::Table::percent_finding))]
+    fn percent_finding(self) -> Judged
+        ensures { result ≡ percent_finding self.entry.seasons.sheet.now self.entry.at.index self.entry.at.place self.entry.row }
+    {
+        let (at, row) = (self.at, self.row);
+        let (carburettor, most) = (row.carburettor, PERCENT_LIMIT);
+        at.at_most(Reason::Carburettor, CARBURETTOR, carburettor, most)?;
+        at.at_most(Reason::Hot, HOT, row.hot, most)?;
+        at.at_most(Reason::Fill, FILL, row.fill, most)
+    }
+
+    // Numbers 16 and 26.
+    #[tactic(auto, using(findings::proofs::Steps::in_order), unfolding(findings::specs::Table::fleet_finding))]
+    fn fleet_finding(self) -> Judged
+        ensures { result ≡ fleet_finding self.entry.seasons.sheet.now self.entry.at.index self.entry.at.place self.entry.row self.entry.before }
+    {
+        let (at, own) = (self.at, self.row.vehicles);
+        at.at_most(Reason::Vehicles, VEHICLES, own, VEHICLES_LIMIT)?;
+        if !has_many_rows(self.seasons.sheet) {
+            return Ok(());
+        }
+        at.at_most(Reason::Fleet, VEHICLES, self.before + own, FLEET_LIMIT)
+    }
+
+    // Numbers 17 and 18.
+    #[tactic(auto, using(findings::proofs::Steps::in_order), unfolding(findings::specs::Table::use_finding))]
+    fn use_finding(self) -> Judged
+        ensures { result ≡ use_finding self.entry.seasons.sheet.now self.entry.at.index self.entry.at.place self.entry.row }
+    {
+        let (at, row) = (self.at, self.row);
+        at.at_most(Reason::Tank, TANK, self.u16_at(TANK), TANK_LIMIT)?;
+        at.at_most(Reason::Trips, TRIPS, row.trips, TRIPS_LIMIT)?;
+        at.at_most(Reason::Minutes, MINUTES, row.minutes, MINUTES_LIMIT)
+    }
+
+    // Number 19.
+    #[tactic(auto, using(findings::proofs::Steps::in_order), unfolding(findings::specs::Table::load_finding))]
+    fn load_finding(self) -> Judged
+        ensures { result ≡ load_finding self.entry.seasons.sheet.now self.entry.at.index self.entry.at.place self.entry.row }
+    {
+        let (at, load, m_sat) = (self.at, self.row.load, self.row.saturation);
+        if !no_canister(self.row.canister) {
+            return at.at_most(Reason::LoadAboveSaturation, LOAD, load, m_sat);
+        }
+        at.at_most(Reason::LoadWithoutCanister, LOAD, load, 0)?;
+        at.at_most(Reason::SaturationWithoutCanister, SATURATION, m_sat, 0)
+    }
+
+    // The saturating load is too high: the first season, and the largest that passes in all.
+    #[tactic(auto, using(findings::proofs::Steps::in_order), unfolding(findings::specs::Table::saturated_site, findings::specs::Table::largest))]
+    fn saturated(self, demand: Demand, reason: Reason) -> Judged
+        requires { demand.canister ≡ self.row.canister }
+        ensures { let s = self.entry.seasons.sheet.now in let i = self.entry.at.index in let p = self.entry.at.place in let row = self.entry.row in
+            result ≡ line always (saturated_site s i p row demand.limit) reason (field (p + 18) 2 row.saturation)
+            (limits 0 (largest s i p row demand.limit)) }
+    {
+        let saturation = self.row.saturation;
+        let Some(excess) = self.seasons.excess(demand, saturation) else {
+            return Ok(());
+        };
+        judge(
+            self.at.site(excess.season),
+            reason,
+            self.at.field(SATURATION, saturation),
+            Limits::up_to(excess.most),
+        )
+    }
+
+    // Number 20.
+    #[tactic(auto, unfolding(findings::specs::Table::saturation_finding))]
+    fn saturation_finding(self) -> Judged
+        ensures { result ≡ saturation_finding self.entry.seasons.sheet.now self.entry.at.index self.entry.at.place self.entry.row }
+    {
+        self.saturated(Demand::beside_load(self.row.canister), Reason::Exponent)
+    }
+
+    // The last two reasons of number 25.
+    #[tactic(auto, using(findings::proofs::Steps::in_order), unfolding(findings::specs::Table::driven_finding))]
+    fn driven_finding(self) -> Judged
+        ensures { result ≡ driven_finding self.entry.seasons.sheet.now self.entry.at.index self.entry.at.place self.entry.row }
+    {
+        let (at, row) = (self.at, self.row);
+        let driven = has_mileage(self.seasons.sheet) & (1 <= row.mileage);
+        if !driven {
+            return Ok(());
+        }
+        at.at_most(Reason::LoadBesideMileage, LOAD, row.load, 0)?;
+        self.saturated(
+            Demand::beside_mileage(row.canister),
+            Reason::ExponentBesideMileage,
+        )
+    }
+
+    // The second reason of number 25, of a sheet whose rows have a mileage.
+    #[tactic(auto, using(findings::proofs::Steps::in_order))]
+    fn fitted_finding(self) -> Judged
+        ensures { let p = self.entry.at.place in let row = self.entry.row in
+            result ≡ line (no_canister row.canister) (site p self.entry.at.index 0) Reason.MileageWithoutCanister
+            (field (p + 20) 4 row.mileage) (limits 0 0) }
+    {
+        let (at, mileage) = (self.at, self.row.mileage);
+        if !no_canister(self.row.canister) {
+            return Ok(());
+        }
+        at.at_most(Reason::MileageWithoutCanister, MILEAGE, mileage, 0)
+    }
+
+    // Number 21, or 25 in its place.
+    #[tactic(auto, using(findings::proofs::Steps::in_order), unfolding(findings::specs::Table::mileage_finding))]
+    fn mileage_finding(self) -> Judged
+        ensures { result ≡ mileage_finding self.entry.seasons.sheet.now self.entry.at.index self.entry.at.place self.entry.row }
+    {
+        let (at, mileage) = (self.at, self.row.mileage);
+        if !has_mileage(self.seasons.sheet) {
+            return at.at_most(Reason::RowZeros, MILEAGE, mileage, 0);
+        }
+        at.at_most(Reason::Mileage, MILEAGE, mileage, MILEAGE_LIMIT)?;
+        self.fitted_finding()?;
+        self.driven_finding()
+    }
+
+    // All of them.
+    #[tactic(auto, using(findings::proofs::Steps::in_order), unfolding(findings::specs::Table::row_finding))]
+    fn finding(self) -> Judged
+        ensures { result ≡ row_finding self.entry.seasons.sheet.now self.entry.at.index }
+    {
+        self.class_finding()?;
+        self.percent_finding()?;
+        self.fleet_finding()?;
+        self.use_finding()?;
+        self.load_finding()?;
+        self.saturation_finding()?;
+        self.mileage_finding()
+    }
 }
 
-// Numbers 16 and 26, after so many vehicles in the rows before.
-fn fleet_finding(s: &[u8], i: u64, p: usize, row: Row, before: u64) -> Finding
-    requires { (8 ≤ length s.now) × (p + 24 ≤ length s.now) × (row.vehicles < 2 ^ 32) × (before < 2 ^ 62) }
-    ensures { result ≡ fleet_finding s.now i p row before }
-{
-    let place = p as u64;
-    let here = Site(place, i, 0);
-    let own = Field(place + 8, 4, row.vehicles);
-    let sum = Field(place + 8, 4, before + row.vehicles);
-    let a = judge(true, here, Rule(16, 1), own, Limits(0, VEHICLES_LIMIT));
-    let b = judge(
-        has_many_rows(s),
-        here,
-        Rule(26, 1),
-        sum,
-        Limits(0, FLEET_LIMIT),
-    );
-    or_else(a, b)
-}
-
-// Numbers 17 and 18.
-fn use_finding(s: &[u8], i: u64, p: usize, row: Row) -> Finding
-    requires { p + 24 ≤ length s.now }
-    ensures { result ≡ use_finding s.now i p row }
-{
-    let place = p as u64;
-    let here = Site(place, i, 0);
-    let tank = Field(place + 6, 2, u16_at(s, p + 6));
-    let a = judge(true, here, Rule(17, 1), tank, Limits(0, TANK_LIMIT));
-    let b = judge(
-        true,
-        here,
-        Rule(18, 1),
-        Field(place + 12, 2, row.trips),
-        Limits(0, TRIPS_LIMIT),
-    );
-    let c = judge(
-        true,
-        here,
-        Rule(18, 2),
-        Field(place + 14, 2, row.minutes),
-        Limits(0, MINUTES_LIMIT),
-    );
-    or_else(a, or_else(b, c))
-}
-
-// Number 19.
-fn load_finding(s: &[u8], i: u64, p: usize, row: Row) -> Finding
-    requires { p + 24 ≤ length s.now }
-    ensures { result ≡ load_finding s.now i p row }
-{
-    let place = p as u64;
-    let here = Site(place, i, 0);
-    let canister = row.canister;
-    let none = no_canister(canister);
-    let load = Field(place + 16, 2, row.load);
-    let saturation = Field(place + 18, 2, row.saturation);
-    let a = judge(!none, here, Rule(19, 1), load, Limits(0, row.saturation));
-    let b = judge(none, here, Rule(19, 2), load, Limits(0, 0));
-    let c = judge(none, here, Rule(19, 3), saturation, Limits(0, 0));
-    or_else(a, or_else(b, c))
-}
-
-// Number 20.
-fn saturation_finding(s: &[u8], i: u64, p: usize, row: Row) -> Finding
-    requires { SeasonsPassed s.now × (p + 24 ≤ length s.now) × (row.saturation < 65536) }
-    ensures { result ≡ saturation_finding s.now i p row }
-{
-    let place = p as u64;
-    let canister = row.canister;
-    let here = Site(place, i, passing_seasons(s, 3, canister, row.saturation));
-    let saturation = Field(place + 18, 2, row.saturation);
-    judge(
-        true,
-        here,
-        Rule(20, 1),
-        saturation,
-        Limits(0, largest_of(s, 3, canister)),
-    )
-}
-
-// The last two reasons of number 25.
-fn driven_finding(s: &[u8], i: u64, p: usize, row: Row) -> Finding
-    requires { SeasonsPassed s.now × (8 ≤ length s.now) × (p + 24 ≤ length s.now) × (row.saturation < 65536) }
-    ensures { result ≡ driven_finding s.now i p row }
-{
-    let place = p as u64;
-    let canister = row.canister;
-    let driven = has_mileage(s) & (1 <= row.mileage);
-    let first = passing_seasons(s, 0, canister, row.saturation);
-    let load = Field(place + 16, 2, row.load);
-    let saturation = Field(place + 18, 2, row.saturation);
-    let most = Limits(0, largest_of(s, 0, canister));
-    let a = judge(driven, Site(place, i, 0), Rule(25, 3), load, Limits(0, 0));
-    let b = judge(driven, Site(place, i, first), Rule(25, 4), saturation, most);
-    or_else(a, b)
-}
-
-// Number 21, or 25 in its place.
-fn mileage_finding(s: &[u8], i: u64, p: usize, row: Row) -> Finding
-    requires { SeasonsPassed s.now × (8 ≤ length s.now) × (p + 24 ≤ length s.now) × (row.saturation < 65536) }
-    ensures { result ≡ mileage_finding s.now i p row }
-{
-    let place = p as u64;
-    let here = Site(place, i, 0);
-    let canister = row.canister;
-    let read = has_mileage(s);
-    let none = no_canister(canister);
-    let mileage = Field(place + 20, 4, row.mileage);
-    let a = judge(!read, here, Rule(21, 1), mileage, Limits(0, 0));
-    let b = judge(read, here, Rule(25, 1), mileage, Limits(0, MILEAGE_LIMIT));
-    let c = judge(read & none, here, Rule(25, 2), mileage, Limits(0, 0));
-    or_else(a, or_else(b, or_else(c, driven_finding(s, i, p, row))))
-}
-
-// Row i, after so many vehicles in the rows before.
-fn row_finding(s: &[u8], i: usize, before: u64) -> Finding
-    requires { SeasonsPassed s.now × (row_place s.now i + 24 ≤ length s.now) × (before ≡ vehicles_before s.now i) × (before < 2 ^ 62) }
-    ensures { result ≡ row_finding s.now i }
-{
-    let row = row_at(s, i);
-    let p = row_place(s, i);
-    let k = i as u64;
-    let class = class_finding(s, k, p, row);
-    let percent = percent_finding(s, k, p, row);
-    let fleet = fleet_finding(s, k, p, row, before);
-    let driving = use_finding(s, k, p, row);
-    let load = load_finding(s, k, p, row);
-    let late = or_else(
-        saturation_finding(s, k, p, row),
-        mileage_finding(s, k, p, row),
-    );
-    or_else(
-        class,
-        or_else(
-            percent,
-            or_else(fleet, or_else(driving, or_else(load, late))),
-        ),
-    )
-}
-
-// The first finding of the rows.
-pub fn rows_finding(s: &[u8]) -> Finding
+// The first finding of the rows. An iterator over the rows with the vehicles before each would be a type for this loop alone, and no plainer.
+#[tactic(auto, using(findings::proofs::Steps::in_order))]
+pub fn rows_finding(s: &[u8]) -> Judged
     requires { SeasonsPassed s.now × (row_place s.now (rows_of s.now) ≤ length s.now) }
     ensures { result ≡ each_finding (row_finding s.now) (rows_of s.now) }
 {
-    let n = rows_of(s);
-    let mut found = no_finding();
+    let seasons = Seasons::of(s);
     let mut before: u64 = 0;
-    for i in 0..n {
-        found = or_else(found, row_finding(s, i, before));
+    for i in 0..rows_of(s) {
+        RowAt::of(seasons, i, before).finding()?;
         before += vehicles_of(s, i);
     }
-    found
+    Ok(())
 }

@@ -9,87 +9,98 @@ ghost use Rattle.findings.specs.Table.{shifted, days_finding, weather_finding, s
 
 use exact::Season;
 use fields::limits::{COLD_LIMIT, DAYS_LIMIT, VP_LEAST, VP_LIMIT, WARM_LIMIT};
-use fields::{BITS_16, season_at, season_place, seasons_of};
-use finding_lines::{judge, no_finding, or_else};
-use findings::{Field, Finding, Limits, Rule, Site};
+use fields::{season_at, season_place, seasons_of};
+use finding_lines::Record;
+use findings::reasons::Reason;
+use findings::spans::{DAYS, HIGHEST, LOWEST, VAPOUR_PRESSURE};
+use findings::{Judged, Limits};
 
 // What a temperature is shifted by, so that none is below 0.
-const SHIFT: u64 = 32768;
+const SHIFT: u16 = 32768;
+
+const COLDEST: u64 = 32768 - COLD_LIMIT;
+
+const WARMEST: u64 = 32768 + WARM_LIMIT;
 
 // A temperature in tenths of °C, shifted.
 fn shifted(tenths: u64) -> u64
     requires { tenths < 65536 }
     ensures { result ≡ shifted tenths }
 {
-    (tenths + SHIFT) % BITS_16
+    u64::from((tenths as u16).wrapping_add(SHIFT))
 }
 
-// Number 10 of season i, which starts at p, after so many days.
-fn days_finding(i: u64, p: u64, season: Season, before: u64) -> Finding
-    requires { (season.days < 65536) × (before ≤ 65536 * 256) }
-    ensures { result ≡ days_finding i p season before }
-{
-    let here = Site(p, i, 0);
-    let range = Limits(1, DAYS_LIMIT);
-    or_else(
-        judge(true, here, Rule(10, 1), Field(p, 2, season.days), range),
-        judge(
-            true,
-            here,
-            Rule(10, 2),
-            Field(p, 2, before + season.days),
-            range,
-        ),
-    )
+// A season in its sheet: where it starts, which it is, what it says, and the days of the seasons before.
+#[derive(Clone, Copy)]
+struct SeasonAt {
+    at: Record,
+    season: Season,
+    before: u64,
+    ghost days_fit: { season.days < 65536 },
+    ghost lowest_fits: { season.lowest < 65536 },
+    ghost highest_fits: { season.highest < 65536 },
+    ghost before_fits: { before ≤ 65536 * 256 },
 }
 
-// Numbers 11 and 12.
-fn weather_finding(i: u64, p: u64, season: Season) -> Finding
-    requires { (season.lowest < 65536) × (season.highest < 65536) × (p ≤ 65536) }
-    ensures { result ≡ weather_finding i p season }
-{
-    let here = Site(p, i, 0);
-    let range = Limits(SHIFT - COLD_LIMIT, SHIFT + WARM_LIMIT);
-    let lowest = shifted(season.lowest);
-    let highest = shifted(season.highest);
-    let below = Limits(SHIFT - COLD_LIMIT, highest);
-    let a = judge(true, here, Rule(11, 1), Field(p + 2, 2, lowest), range);
-    let b = judge(true, here, Rule(11, 2), Field(p + 4, 2, highest), range);
-    let c = judge(true, here, Rule(11, 3), Field(p + 2, 2, lowest), below);
-    let d = judge(
-        true,
-        here,
-        Rule(12, 1),
-        Field(p + 6, 2, season.vp),
-        Limits(VP_LEAST, VP_LIMIT),
-    );
-    or_else(a, or_else(b, or_else(c, d)))
+impl SeasonAt {
+    // Number 10.
+    #[tactic(auto, using(findings::proofs::Steps::in_order), unfolding(findings::specs::Table::days_finding))]
+    fn days_finding(self) -> Judged
+        ensures { result ≡ days_finding self.at.index self.at.place self.season self.before }
+    {
+        let (at, days) = (self.at, self.season.days);
+        let range = Limits::between(1, DAYS_LIMIT);
+        at.judge(Reason::Days, DAYS, days, range)?;
+        at.judge(Reason::DaysSoFar, DAYS, self.before + days, range)
+    }
+
+    // Numbers 11 and 12.
+    #[tactic(auto, using(findings::proofs::Steps::in_order), unfolding(findings::specs::Table::weather_finding))]
+    fn weather_finding(self) -> Judged
+        ensures { result ≡ weather_finding self.at.index self.at.place self.season }
+    {
+        let (at, vp) = (self.at, self.season.vp);
+        let lowest = shifted(self.season.lowest);
+        let highest = shifted(self.season.highest);
+        let range = Limits::between(COLDEST, WARMEST);
+        let below = Limits::between(COLDEST, highest);
+        let pressure = Limits::between(VP_LEAST, VP_LIMIT);
+        at.judge(Reason::Lowest, LOWEST, lowest, range)?;
+        at.judge(Reason::Highest, HIGHEST, highest, range)?;
+        at.judge(Reason::LowestAboveHighest, LOWEST, lowest, below)?;
+        at.judge(Reason::VapourPressure, VAPOUR_PRESSURE, vp, pressure)
+    }
 }
 
 // Season i, with the days of the seasons before it.
-fn season_finding(s: &[u8], i: usize, before: u64) -> Finding
+#[tactic(auto, using(findings::proofs::Steps::in_order), unfolding(findings::specs::Table::season_finding))]
+fn season_finding(s: &[u8], i: usize, before: u64) -> Judged
     requires { (season_place s.now i + 8 ≤ length s.now) × (i < 256) × (before ≡ days_before s.now i) × (before ≤ 65536 * 256) }
     ensures { result ≡ season_finding s.now i }
 {
-    let season = season_at(s, i);
-    let p = season_place(s, i) as u64;
-    or_else(
-        days_finding(i as u64, p, season, before),
-        weather_finding(i as u64, p, season),
-    )
+    let here = SeasonAt {
+        at: Record {
+            place: season_place(s, i) as u64,
+            index: i as u64,
+        },
+        season: season_at(s, i),
+        before,
+    };
+    here.days_finding()?;
+    here.weather_finding()
 }
 
-// The first finding of the seasons, with their running sum of days.
-pub fn seasons_finding(s: &[u8]) -> Finding
+// The first finding of the seasons, with their running sum of days. An iterator over the seasons with the days before each would be a type
+// for this loop alone, and no plainer.
+#[tactic(auto, using(findings::proofs::Steps::in_order))]
+pub fn seasons_finding(s: &[u8]) -> Judged
     requires { row_place s.now 0 ≤ length s.now }
     ensures { result ≡ each_finding (season_finding s.now) (seasons_of s.now) }
 {
-    let n = seasons_of(s);
-    let mut found = no_finding();
     let mut before: u64 = 0;
-    for i in 0..n {
-        found = or_else(found, season_finding(s, i, before));
+    for i in 0..seasons_of(s) {
+        season_finding(s, i, before)?;
         before += season_at(s, i).days;
     }
-    found
+    Ok(())
 }

@@ -8,7 +8,7 @@ use native.Mathlib.Decide.{dec_le}
 use native.Mathlib.Omega.{arith}
 use lib.ListN.{get_or}
 use Rattle.numbers.specs.Lists.{tab, at, sum}
-use Rattle.numbers.proofs.Lists.{tab-length, get_d-tab, sum-ext}
+use Rattle.numbers.proofs.Lists.{tab-length, get_d-tab, sum-le, sum-ext}
 use Rattle.sheet.specs.Bytes.{seasons_of, rows_of, row_at}
 use Rattle.report_words.specs.Categories.{report_length, counted, category}
 use Rattle.report_words.specs.Report.{words_of, subtotal, grand_total, report}
@@ -39,7 +39,7 @@ unfolding counted
 within-counted true h = h
 within-counted {p} false h = within-zero p
 
--- Sums over the seasons.
+-- Sums over the seasons. std has no law for a sum of two functions.
 sum-plus : (f g : ℕ → ℕ) (n : ℕ) → sum (λ (j : ℕ). f j + g j) n ≡ sum f n + sum g n
 unfolding sum
 sum-plus f g zero = refl
@@ -70,9 +70,7 @@ rounding p f v n l = record { low = λ e. rw e (lows f v n); high = λ g. let on
 
 -- nothing added up
 nothing : (n : ℕ) → sum (λ (j : ℕ). 0) n ≡ 0
-unfolding sum
-nothing zero = refl
-nothing (suc n) = omega (arith, nothing n)
+nothing n = omega (arith, sum-le (λ (j : ℕ). 0) 0 n (λ k l. omega arith))
 
 module _ (s : List ℕ) where
   -- the rows' words of season j

@@ -6,9 +6,9 @@ use Prim.Native.Nat.{ℕ, suc, zero, ◌+◌, ◌*◌, ◌/◌, ◌%◌, ◌^◌
 use native.Mathlib.Nat.{mod-eq_of_lt}
 use native.Mathlib.Omega.{arith}
 use lib.ListN.{length, get_or, take, drop, length-append, length-drop, drop_of_length-le, get_or-append}
-use lib.Seq.{sets, sets-eq, take_at, drop_at, drop-drop, get_or-take, get_or-append-add}
+use lib.Seq.{sets, sets-eq, take_at, drop_at, drop-drop, get_or-take}
 use Rattle.numbers.specs.Lists.{tab, at}
-use Rattle.numbers.proofs.Lists.{tab-length, get_d-tab, tab-ext}
+use Rattle.numbers.proofs.Lists.{tab-length, get_d-tab, tab-ext, past}
 use Rattle.sheet.specs.Bytes.{rows_of}
 use Rattle.report_words.specs.Categories.{category}
 use Rattle.report_sums.specs.Sums.{buffer_sum, sum_word, summed, three_word, totalled, resummed}
@@ -31,10 +31,6 @@ sums-length s rows = tab-length _ 24
 pub sums_at : (s rows : List ℕ) (k : ℕ) → k < 24 → at (sums_of s rows) k ≡ buffer_sum s rows (category (k / 6)) (rows_of s) (k % 6)
 unfolding sums_of
 sums_at s rows k h = get_d-tab _ 24 k h
-
--- past the first list
-past : (xs ys : List ℕ) (n k m : ℕ) → length xs ≡ n → m ≡ n + k → get_or (xs ++ ys) m 0 ≡ get_or ys k 0
-past xs ys n k m e f = rw (f, ← e) (get_or-append-add xs ys k 0)
 
 -- none passes 64 bits
 pub record SumsFit (s rows : List ℕ) : Type 0 where

@@ -21,7 +21,7 @@ use Rattle.report_words.specs.Years.{season_figure, season_added, SeasonFits, in
 use Rattle.report_words.proofs.Filled.{filled-less, first-at}
 use Rattle.report_words.proofs.YearWords.{row-year-most}
 use Rattle.report_sums.specs.Sums.{buffer_sum, resummed}
-use Rattle.report_sums.proofs.SumSizes.{sums-fit}
+use Rattle.report_sums.proofs.SumSizes.{counted-most, sums-fit}
 use Rattle.season_report.specs.Seasons.{alone, season_word, sums_of, season_report}
 use Rattle.season_report.proofs.BlockSums.{SumsFit, sums_at, resummed-whole}
 
@@ -36,12 +36,6 @@ word-from-season s j i (suc (suc (suc zero))) h = omega arith
 word-from-season s j i (suc (suc (suc (suc zero)))) h = omega arith
 word-from-season s j i (suc (suc (suc (suc (suc zero))))) h = omega arith
 word-from-season s j i (suc (suc (suc (suc (suc (suc m)))))) h = absurd (omega arith)
-
--- a word that counts or not
-counted-most : (b : Bool) {word most : ℕ} → word ≤ most → counted b word ≤ most
-unfolding counted
-counted-most true h = h
-counted-most false h = omega arith
 
 -- a word summed over the first rows of a category, where each row's is bounded by its vehicles
 sum-most : (s rows : List ℕ) (f : ℕ → Bool) (n j : ℕ)

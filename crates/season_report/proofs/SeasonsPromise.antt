@@ -6,9 +6,9 @@ use Prim.Native.Nat.{ℕ, suc, zero, ◌+◌, ◌*◌, ◌/◌, ◌%◌, ◌≤�
 use native.Mathlib.Nat.{mul-le-mul_left}
 use native.Mathlib.Omega.{arith}
 use lib.ListN.{length, get_or, drop, length-append, get_or-append}
-use lib.Seq.{get_or-append-add, get_or-drop}
+use lib.Seq.{get_or-drop}
 use Rattle.numbers.specs.Lists.{tab, at, sum}
-use Rattle.numbers.proofs.Lists.{tab-length}
+use Rattle.numbers.proofs.Lists.{tab-length, past}
 use Rattle.blocks.specs.Blocks.{blocks}
 use Rattle.blocks.proofs.Blocks.{blocks-length, blocks_at, filled_blocks}
 use Rattle.exact.specs.Masses.{diurnal, soak, running}
@@ -32,10 +32,6 @@ use Rattle.season_report.specs.Seasons.{alone, season_word, sums_of, total_of, w
 use Rattle.season_report.specs.Seasons.{seasons_check, seasons_demands, SeasonRowPromise, SeasonPromise, SeasonsCall}
 use Rattle.season_report.proofs.BlockSums.{sums-length, sums_at}
 use Rattle.season_report.proofs.SeasonBlocks.{season-word-at}
-
--- past the first list
-past : (xs ys : List ℕ) (n k m : ℕ) → length xs ≡ n → m ≡ n + k → get_or (xs ++ ys) m 0 ≡ get_or ys k 0
-past xs ys n k m e f = rw (f, ← e) (get_or-append-add xs ys k 0)
 
 -- Where the words of a block stand.
 module _ (s rows : List ℕ) (long : length rows ≡ 6 * rows_of s) where

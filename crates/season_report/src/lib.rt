@@ -5,71 +5,52 @@ ghost use Rattle.std.specs.Prelude.{◌≡◌, ◌+◌, ◌*◌, ◌≤◌, ◌<
 ghost use Rattle.refusals.specs.Check.{Pass};
 ghost use Rattle.sheet.specs.Bytes.{seasons_of, rows_of};
 ghost use Rattle.sheet.specs.Sheet.{sheet_check};
-ghost use Rattle.sheet_factors.specs.Lent.{SheetLent, RowsKept};
 ghost use Rattle.report_words.specs.Categories.{report_length};
 ghost use Rattle.inventory.specs.ReportCall.{written};
 ghost use Rattle.season_report.specs.Seasons.{season_report, report_seasons, seasons_check, SeasonsCall};
 
-use bounds::exp::{ExpTables, tables};
 use checks::check_sheet;
 use fields::{rows_of, seasons_of};
 use refusals::{Check, Rule, refuse};
 use report_sums::write_sums;
 use report_words::words::row_words;
 use report_words::year::{add_season, clear};
-use sheet_factors::kept::rows_kept;
-use sheet_factors::parkings::sheet_grid;
+use sheet_factors::sheet_rows::SheetRows;
 
 // The report of season j alone, into a buffer of its size: the steps of the year's report with one season.
-fn write_season(
-    tables: &ExpTables,
-    grid: &[u64; 627],
-    kept: &[u64; 1000],
-    s: &[u8],
-    j: usize,
-    words: &mut [u64],
-)
-    requires { SheetLent s.now tables.now grid.now × (j < seasons_of s.now) × (length words.old ≡ 6 * rows_of s.now + 26)
-        × RowsKept s.now kept.now }
-    ensures { words.new ≡ season_report s.now j }
+fn write_season(loaded: &SheetRows, j: usize, words: &mut [u64])
+    requires { (j < seasons_of loaded.now.sheet.bytes.now) × (length words.old ≡ 6 * rows_of loaded.now.sheet.bytes.now + 26) }
+    ensures { words.new ≡ season_report loaded.now.sheet.bytes.now j }
 {
+    let s = loaded.sheet.bytes;
     clear(words, 6 * rows_of(s));
-    add_season(tables, grid, kept, s, j, words);
+    add_season(loaded, j, words);
     row_words(s, words);
     write_sums(s, words);
 }
 
 // All seasons, each into its part of the buffer.
-fn write_seasons(
-    tables: &ExpTables,
-    grid: &[u64; 627],
-    kept: &[u64; 1000],
-    s: &[u8],
-    words: &mut [u64],
-)
-    requires { SheetLent s.now tables.now grid.now × RowsKept s.now kept.now
-        × (report_length s.now * seasons_of s.now ≤ length words.old) }
-    ensures { words.new ≡ written Pass (report_seasons s.now) words.old }
+fn write_seasons(loaded: &SheetRows, words: &mut [u64])
+    requires { report_length loaded.now.sheet.bytes.now * seasons_of loaded.now.sheet.bytes.now ≤ length words.old }
+    ensures { words.new ≡ written Pass (report_seasons loaded.now.sheet.bytes.now) words.old }
 {
+    let s = loaded.sheet.bytes;
     let size = 6 * rows_of(s) + 26;
     let seasons = seasons_of(s);
     for j in 0..seasons {
         let start = size * j;
         let end = start + size;
-        write_season(tables, grid, kept, s, j, &mut words[start..end]);
+        write_season(loaded, j, &mut words[start..end]);
     }
 }
 
-// The reports of an accepted sheet's seasons, in a buffer with room for them. The tables, the grid and what the rows' canisters keep are made
-// once.
+// The reports of an accepted sheet's seasons, in a buffer with room for them. The grid and what the rows' canisters keep are made once.
 fn write_all(s: &[u8], words: &mut [u64])
     requires { (sheet_check s.now ≡ Pass) × (report_length s.now * seasons_of s.now ≤ length words.old) }
     ensures { words.new ≡ written Pass (report_seasons s.now) words.old }
 {
-    let tables = tables();
-    let grid = sheet_grid(s);
-    let kept = rows_kept(&tables, s);
-    write_seasons(&tables, &grid, &kept, s, words);
+    let loaded = SheetRows::new(s);
+    write_seasons(&loaded, words);
 }
 
 // Every check of the sheet, then the room.

@@ -1,7 +1,6 @@
 -- Numbers 30 and 31 as demands in plain arithmetic, after those of the report and beside 29: a call is answered where all are met, and else the
 -- first that is not met is returned, with its place.
 -- Assumes nothing.
-use Rattle.std.proofs.Common.{Ok, Err}
 use mathlib.Core.Bool.{Bool, true, false, not, ◌||◌}
 use mathlib.Core.List.{List}
 use mathlib.Core.Logic.{◌⊎◌, ⊎_elim, inl, inr}
@@ -11,9 +10,9 @@ use native.Mathlib.Omega.{arith}
 use borrow.Author.Tests.{ltb-true, ltb-false, leb-true, leb-false}
 use lib.Dec.{leb, ltb, eqb}
 use Rattle.numbers.specs.Lists.{at}
-use Rattle.refusals.specs.Check.{Check, Pass, Refused, number_of, place_of}
+use Rattle.refusals.specs.Check.{Pass, number_of, place_of}
 use Rattle.sheet.specs.Bytes.{rows_of}
-use Rattle.sheet.specs.Demands.{FirstUnmet, Says}
+use Rattle.sheet.specs.Demands.{Says}
 use Rattle.sheet.specs.Sheet.{outside, sheet_check}
 use Rattle.sheet.proofs.Checks.{Tests, Shows, Judges, judges-refuse, judges-then, judges-each, ltb-tests, ||-tests}
 use Rattle.sheet.proofs.Checks.{tests-as, not-tests, eqb-shows, &&-shows, says, then-pass, true-is-not-false}

@@ -5,7 +5,6 @@ use mathlib.Core.List.{List}
 use mathlib.Core.Path.{◌≡◌, refl}
 use Prim.Native.Nat.{ℕ, suc, zero, ◌+◌, ◌*◌, ◌≤◌, ◌<◌}
 use native.Mathlib.Decide.{dec_le}
-use native.Mathlib.Nat.{le_dest}
 use native.Mathlib.Numerals.{add-one}
 use native.Mathlib.Omega.{arith}
 use borrow.Author.Tests.{lt-ltb, le-ltb, eqb-true}
@@ -46,16 +45,14 @@ held_more : (s owners : List ℕ) (who n : ℕ)
 unfolding vehicles_held sum
 held_more s owners who n = refl
 
--- a sum grows with the number of its terms
-sum-upto : (f : ℕ → ℕ) (n k : ℕ) → sum f n ≤ sum f (n + k)
-unfolding sum
-sum-upto f n zero = let e : n + 0 ≡ n = omega arith in rw e (omega arith)
-sum-upto f n (suc k) = let e : n + suc k ≡ suc (n + k) = omega arith in rw e (omega (arith, sum-upto f n k))
-
+-- more rows have no fewer
 pub held-upto : (s owners : List ℕ) (who n m : ℕ) → n ≤ m → vehicles_held s owners who n ≤ vehicles_held s owners who m
-unfolding vehicles_held
-held-upto s owners who n m h = let d =
-    le_dest h in rw (← d.1) (sum-upto (λ (i : ℕ). counted (eqb (at owners i) who) (row_at s i).vehicles) n d.0)
+held-upto s owners who n zero h = let none : n ≡ 0 = omega arith in rw none (omega arith)
+held-upto s owners who n (suc m) h =
+    elim (dec_le n m) [
+      | yes l ↦ omega (arith, held-upto s owners who n m l, held_more s owners who m)
+      | no l ↦ let all : n ≡ suc m = omega arith in rw all (omega arith)
+    ]
 
 -- a row's count is its owner's
 one-of-eight : (o v : ℕ) → 1 ≤ o → o ≤ participants

@@ -12,7 +12,7 @@ use lib.ListN.{length}
 use lib.Seq.{ext_get_or}
 use Rattle.numbers.specs.Lists.{at}
 use Rattle.numbers.proofs.Lists.{tab-length, get_d-tab, tab-ext}
-use Rattle.refusals.specs.Check.{Check, Pass, Refused, refuse, ◌then◌}
+use Rattle.refusals.specs.Check.{Check, Pass, refuse, ◌then◌}
 use Rattle.sheet.specs.Bytes.{rows_of, row_at}
 use Rattle.sheet.specs.Counts.{counts_of}
 use Rattle.sheet.proofs.BeforeRows.{rows}

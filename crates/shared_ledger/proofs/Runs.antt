@@ -6,14 +6,12 @@ use mathlib.Core.List.{List}
 use mathlib.Core.Path.{◌≡◌, refl, sym, ap, ◌∙◌}
 use Prim.Native.Nat.{ℕ}
 use lib.ListN.{length}
-use Rattle.refusals.specs.declared.Refusal.{Refusal}
-use Rattle.refusals.specs.Check.{Check, Pass, Refused}
+use Rattle.refusals.specs.Check.{Answer, Check, Pass}
 use Rattle.report_words.specs.Report.{report}
 use Rattle.inventory.specs.ReportCall.{written}
 use Rattle.ledger.specs.declared.Call.{Call}
 use Rattle.ledger.specs.Ledger.{sheet_after, words_after, Ledger, answer, after, opened}
-use Rattle.shared_ledger.specs.declared.RowAnswer.{RowAnswer}
-use Rattle.shared_ledger.specs.declared.TotalsAnswer.{TotalsAnswer}
+use Rattle.shared_ledger.specs.declared.RowRead.{RowRead}
 use Rattle.shared_ledger.specs.Opening.{OpenCall}
 use Rattle.shared_ledger.specs.Calls.{shared_change_check, SharedChangeCall, SharedRowCall, SharedTotalsCall}
 use Rattle.shared_ledger.specs.Told.{change, read_row, read_totals, of_change, of_row, of_totals, reply, leaves, after_ask}
@@ -56,12 +54,12 @@ module _ {s owners w s' w' : List ℕ} {who : ℕ} {call : Call} {r : Check} (a 
           rw (words, sheet) refl
 
 -- a read
-pub row-answers : {s owners w : List ℕ} {who i : ℕ} {r : RowAnswer} → SharedRowCall s owners w who i r
+pub row-answers : {s owners w : List ℕ} {who i : ℕ} {r : Answer RowRead} → SharedRowCall s owners w who i r
     → of_row r ≡ reply owners (ledger_of s w) (read_row who i)
 unfolding reply
 row-answers a = ap of_row a.answer-is
 
-pub totals-answers : {s owners w : List ℕ} {who : ℕ} {r : TotalsAnswer} → SharedTotalsCall s owners w who r
+pub totals-answers : {s owners w : List ℕ} {who : ℕ} {r : Answer (List ℕ)} → SharedTotalsCall s owners w who r
     → of_totals r ≡ reply owners (ledger_of s w) (read_totals who)
 unfolding reply
 totals-answers a = ap of_totals a.answer-is

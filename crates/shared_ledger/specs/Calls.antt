@@ -2,7 +2,7 @@
 use Rattle.std.specs.Prelude.{Bool, true, false, not, ◌&&◌, ◌||◌, List, ◌⊎◌, ◌≡◌, ℕ, ◌+◌, ◌*◌, ◌≤◌, ◌<◌, leb, ltb, eqb, length, Ok, Err}
 use Rattle.numbers.specs.Lists.{tab, at}
 use Rattle.refusals.specs.declared.Rule.TheVariants as rule
-use Rattle.refusals.specs.Check.{Check, Pass, Refused, refuse, ◌then◌, number_of, place_of}
+use Rattle.refusals.specs.Check.{Answer, Check, refuse, ◌then◌, number_of, place_of}
 use Rattle.sheet.specs.Versions.{has_many_rows}
 use Rattle.sheet.specs.Bytes.{rows_of, row_at}
 use Rattle.sheet.specs.Counts.{counts_of}
@@ -11,8 +11,7 @@ use Rattle.ledger.specs.declared.Call.{Call}
 use Rattle.ledger.specs.declared.Call.TheVariants.{Arrival, Departure}
 use Rattle.ledger.specs.Machine.{row_of, wrong}
 use Rattle.ledger.specs.Ledger.{sheet_after, words_after, Within}
-use Rattle.shared_ledger.specs.declared.RowAnswer.{RowAnswer}
-use Rattle.shared_ledger.specs.declared.TotalsAnswer.{TotalsAnswer}
+use Rattle.shared_ledger.specs.declared.RowRead.{RowRead}
 use Rattle.shared_ledger.specs.Opening.{vehicles_each, vehicles_held, shared_check, shared_demands}
 
 -- who owns row i: no one where there is no such row, however long the list of owners is
@@ -84,30 +83,27 @@ pub record SharedChangeCall (s owners old : List ℕ) (who : ℕ) (call : Call) 
 unfoldable pub words_from : List ℕ → ℕ → ℕ → List ℕ
 words_from words place n = tab (λ (m : ℕ). at words (place + m)) n
 
-unfoldable pub zeros : ℕ → List ℕ
-zeros n = tab (λ (m : ℕ). 0) n
-
 -- "A read tells a row's count and six words": a refused one tells nothing but its number and place
-unfoldable pub row_told : Check → ℕ → List ℕ → RowAnswer
-row_told (Ok _) count words = record { check = Pass; count = count; words = words }
-row_told (Err refusal) count words = record { check = Err refusal; count = 0; words = zeros 6 }
+unfoldable pub row_told : Check → ℕ → List ℕ → Answer RowRead
+row_told (Ok _) count words = Ok (record { count = count; words = words })
+row_told (Err refusal) count words = Err refusal
 
-unfoldable pub shared_row_answer : List ℕ → List ℕ → List ℕ → ℕ → ℕ → RowAnswer
+unfoldable pub shared_row_answer : List ℕ → List ℕ → List ℕ → ℕ → ℕ → Answer RowRead
 shared_row_answer s owners words who i = row_told (shared_row_check s owners (length words) who i) (row_at s i).vehicles (words_from words (6 * i) 6)
 
 -- "or the 26 words after the rows"
-unfoldable pub totals_told : Check → List ℕ → TotalsAnswer
-totals_told (Ok _) words = record { check = Pass; words = words }
-totals_told (Err refusal) words = record { check = Err refusal; words = zeros 26 }
+unfoldable pub totals_told : Check → List ℕ → Answer (List ℕ)
+totals_told (Ok _) words = Ok words
+totals_told (Err refusal) words = Err refusal
 
-unfoldable pub shared_totals_answer : List ℕ → List ℕ → List ℕ → ℕ → TotalsAnswer
+unfoldable pub shared_totals_answer : List ℕ → List ℕ → List ℕ → ℕ → Answer (List ℕ)
 shared_totals_answer s owners words who = totals_told (shared_totals_check s owners (length words) who) (words_from words (6 * rows_of s) 26)
 
 -- What holds after a read.
-pub record SharedRowCall (s owners words : List ℕ) (who i : ℕ) (r : RowAnswer) : Type 0 where
+pub record SharedRowCall (s owners words : List ℕ) (who i : ℕ) (r : Answer RowRead) : Type 0 where
   pub answer-is : r ≡ shared_row_answer s owners words who i
-  pub says : Says (shared_row_demands s owners (length words) who i) (number_of r.check) (place_of r.check)
+  pub says : Says (shared_row_demands s owners (length words) who i) (number_of r) (place_of r)
 
-pub record SharedTotalsCall (s owners words : List ℕ) (who : ℕ) (r : TotalsAnswer) : Type 0 where
+pub record SharedTotalsCall (s owners words : List ℕ) (who : ℕ) (r : Answer (List ℕ)) : Type 0 where
   pub answer-is : r ≡ shared_totals_answer s owners words who
-  pub says : Says (shared_totals_demands s owners (length words) who) (number_of r.check) (place_of r.check)
+  pub says : Says (shared_totals_demands s owners (length words) who) (number_of r) (place_of r)

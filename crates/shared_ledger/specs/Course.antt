@@ -1,11 +1,10 @@
 -- A shared ledger in use: it is opened, and then anyone makes calls, one after another, each on the bytes and words that the one before it
 -- left. Every step is what the function's contract says of it. Definitions only.
 use Rattle.std.specs.Prelude.{true, false, List, [], ◌∷◌, ◌≡◌, ℕ, ◌<◌, eqb}
-use Rattle.refusals.specs.Check.{Check, Pass}
+use Rattle.refusals.specs.Check.{Answer, Check, Pass}
 use Rattle.sheet.specs.Integers.{u8_at}
 use Rattle.ledger.specs.declared.Call.{Call}
-use Rattle.shared_ledger.specs.declared.RowAnswer.{RowAnswer}
-use Rattle.shared_ledger.specs.declared.TotalsAnswer.{TotalsAnswer}
+use Rattle.shared_ledger.specs.declared.RowRead.{RowRead}
 use Rattle.shared_ledger.specs.Opening.{OpenCall}
 use Rattle.shared_ledger.specs.Calls.{SharedChangeCall, SharedRowCall, SharedTotalsCall}
 use Rattle.shared_ledger.specs.Told.{Ask, change, read_row, read_totals, asker_of, Reply, of_change, of_row, of_totals, made_by, SameTo, SharedKept}
@@ -16,10 +15,10 @@ pub data Made (owners : List ℕ) : List ℕ → List ℕ → List Ask → List 
   changed : {s w s' w' t u : List ℕ} {who : ℕ} {call : Call} {r : Check} {asks : List Ask} {replies : List Reply}
       → SharedChangeCall s owners w who call s' w' r → Made owners s' w' asks replies t u
       → Made owners s w (change who call ∷ asks) (of_change r ∷ replies) t u
-  row_read : {s w t u : List ℕ} {who i : ℕ} {r : RowAnswer} {asks : List Ask} {replies : List Reply}
+  row_read : {s w t u : List ℕ} {who i : ℕ} {r : Answer RowRead} {asks : List Ask} {replies : List Reply}
       → SharedRowCall s owners w who i r → Made owners s w asks replies t u
       → Made owners s w (read_row who i ∷ asks) (of_row r ∷ replies) t u
-  totals_read : {s w t u : List ℕ} {who : ℕ} {r : TotalsAnswer} {asks : List Ask} {replies : List Reply}
+  totals_read : {s w t u : List ℕ} {who : ℕ} {r : Answer (List ℕ)} {asks : List Ask} {replies : List Reply}
       → SharedTotalsCall s owners w who r → Made owners s w asks replies t u
       → Made owners s w (read_totals who ∷ asks) (of_totals r ∷ replies) t u
 

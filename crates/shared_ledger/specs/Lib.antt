@@ -1,3 +1,4 @@
+pub mod Caller
 pub mod Opening
 pub mod Calls
 pub mod Told

@@ -1,7 +1,7 @@
 -- What one of the callers is told in the course of a list of calls, and on what it depends: the theorem of the shared ledger. Definitions only.
 use Rattle.std.specs.Prelude.{true, false, List, [], ◌∷◌, ◌≡◌, ℕ, ◌+◌, ◌*◌, ◌≤◌, ◌<◌, eqb, length, Ok, Err}
 use Rattle.numbers.specs.Lists.{at}
-use Rattle.refusals.specs.Check.{Check, Pass, Refused}
+use Rattle.refusals.specs.Check.{Answer, Check, Pass}
 use Rattle.exact.specs.Factors.{total}
 use Rattle.sheet.specs.Limits.{vehicles_limit, fleet_limit}
 use Rattle.sheet.specs.Integers.{u8_at}
@@ -11,8 +11,7 @@ use Rattle.report_words.specs.Report.{words_of, report}
 use Rattle.ledger.specs.declared.Call.{Call}
 use Rattle.ledger.specs.Ledger.{Ledger, after, opened, run}
 use Rattle.ledger.specs.Kept.{Kept}
-use Rattle.shared_ledger.specs.declared.RowAnswer.{RowAnswer}
-use Rattle.shared_ledger.specs.declared.TotalsAnswer.{TotalsAnswer}
+use Rattle.shared_ledger.specs.declared.RowRead.{RowRead}
 use Rattle.shared_ledger.specs.Opening.{vehicles_each, vehicles_held, shared_check}
 use Rattle.shared_ledger.specs.Calls.{owner_of, may_read, shared_change_check, words_from, row_told, shared_row_answer, totals_told}
 use Rattle.shared_ledger.specs.Calls.{shared_totals_answer}
@@ -31,8 +30,8 @@ asker_of (read_totals who) = who
 -- what a call returns
 pub data Reply : Type 0 where
   of_change : Check → Reply
-  of_row : RowAnswer → Reply
-  of_totals : TotalsAnswer → Reply
+  of_row : Answer RowRead → Reply
+  of_totals : Answer (List ℕ) → Reply
 
 unfoldable pub reply : List ℕ → Ledger → Ask → Reply
 reply owners x (change who call) = of_change (shared_change_check x.sheet owners (length x.words) who call)

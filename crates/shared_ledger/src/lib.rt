@@ -1,19 +1,34 @@
-// What a read of a shared ledger answers: its definitions and its theorems stand here, the code in shared_ledger_calls.
+// Who calls a shared ledger, and what a read of it returns. The definitions and the theorems are in this crate, the code in shared_ledger_calls.
 #![tactic(auto)]
 
-use refusals::Check;
+ghost use Rattle.std.specs.Prelude.{◌≡◌};
+ghost use Rattle.shared_ledger.specs.Caller.{who_of};
 
-// A read of a row: the check, and where it passes the row's count and six words, else zeros.
+use std::num::NonZeroU64;
+
+// Who makes a call: the marker, or a participant. Those who own rows have the numbers 1 to 8; any other has no right to anything.
 #[derive(Clone, Copy)]
-pub struct RowAnswer {
-    pub check: Check,
-    pub count: u64,
-    pub words: [u64; 6],
+pub enum Caller {
+    Marker,
+    Participant(NonZeroU64),
 }
 
-// A read of the totals: the check, and where it passes the 26 words after the rows, else zeros.
-#[derive(Clone, Copy)]
-pub struct TotalsAnswer {
-    pub check: Check,
-    pub words: [u64; 26],
+// The caller of a number, where the marker's is 0.
+impl From<u64> for Caller {
+    ghost from_gives = { λ number caller. who_of caller ≡ number };
+
+    #[tactic(auto, unfolding(crate::specs::Caller::who_of))]
+    fn from(number: u64) -> Caller {
+        match NonZeroU64::new(number) {
+            None => Caller::Marker,
+            Some(participant) => Caller::Participant(participant),
+        }
+    }
+}
+
+// What a read of a row returns: its count and its six words.
+#[derive(Clone, Copy, Debug, PartialEq, Eq)]
+pub struct RowRead {
+    pub count: u64,
+    pub words: [u64; 6],
 }

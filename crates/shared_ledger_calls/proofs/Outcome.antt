@@ -1,21 +1,21 @@
 -- Each outcome of a call on a shared ledger, as its definition has it.
 -- Assumes nothing.
-use Rattle.std.proofs.Common.{Err}
-use mathlib.Core.Bool.{Bool, true, false, ◌&&◌, ◌||◌}
+use Rattle.std.proofs.Common.{Ok, Err}
+use mathlib.Core.Bool.{false, not}
 use mathlib.Core.List.{List}
-use mathlib.Core.Path.{◌≡◌, refl, sym, ◌∙◌}
+use mathlib.Core.Path.{◌≡◌, refl, sym, subst, ◌∙◌}
 use Prim.Native.Nat.{ℕ, ◌+◌, ◌*◌, ◌-◌, ◌≤◌, ◌<◌}
 use native.Mathlib.Omega.{arith}
-use borrow.Author.Tests.{leb-false}
+use borrow.Author.Tests.{leb-false, lt-ltb, ne_eqb}
 use lib.Dec.{leb, ltb, eqb}
 use lib.ListN.{length}
 use Rattle.refusals.specs.declared.Refusal.{Refusal}
-use Rattle.refusals.specs.declared.Rule.{Rule}
 use Rattle.refusals.specs.declared.Rule.TheVariants as rule
-use Rattle.refusals.specs.Check.{Check, Pass, Refused, refuse, ◌then◌}
+use Rattle.refusals.specs.Check.{Check, Pass, Refused, refuse, ◌then◌, number_of, place_of}
 use Rattle.sheet.specs.Bytes.{rows_of, row_at}
 use Rattle.sheet.specs.Sheet.{sheet_check}
 use Rattle.sheet.proofs.Checks.{then-pass, refuse-pass}
+use Rattle.sheet.specs.Demands.{Says}
 use Rattle.sheet.specs.Versions.{has_many_rows}
 use Rattle.sheet.specs.Counts.{counts_of}
 use Rattle.sheet.proofs.Accepted.{Bytes}
@@ -25,14 +25,12 @@ use Rattle.inventory.specs.ReportAnswers.{report_check}
 use Rattle.inventory.proofs.ReportPromise.{report-answer}
 use Rattle.ledger.specs.declared.Call.{Call}
 use Rattle.ledger.specs.declared.Call.TheVariants.{Arrival}
-use Rattle.ledger.specs.Machine.{wrong}
+use Rattle.ledger.specs.Machine.{row_of, wrong}
 use Rattle.ledger.specs.Ledger.{sheet_after, words_after}
 use Rattle.ledger_calls.proofs.Outcome.{room-left}
-use Rattle.shared_ledger.specs.declared.RowAnswer.{RowAnswer}
-use Rattle.shared_ledger.specs.declared.TotalsAnswer.{TotalsAnswer}
-use Rattle.shared_ledger.specs.Opening.{vehicles_each, shared_check, OpenCall}
+use Rattle.shared_ledger.specs.Opening.{vehicles_each, vehicles_held, shared_check, OpenCall}
 use Rattle.shared_ledger.specs.Calls.{owner_of, may_change, may_read, past_share, shared_change_check, shared_row_check}
-use Rattle.shared_ledger.specs.Calls.{shared_totals_check, words_from, zeros, row_told}
+use Rattle.shared_ledger.specs.Calls.{shared_totals_check, words_from, row_told, shared_row_demands, shared_totals_demands}
 use Rattle.shared_ledger.specs.Calls.{shared_row_answer, totals_told, shared_totals_answer, SharedChangeCall, SharedRowCall, SharedTotalsCall}
 use Rattle.shared_ledger.proofs.Conditions.{shared-report, shared-sheet, shared-room, shared_says, shared-zero, change-says, row-says, totals-says}
 use Rattle.shared_ledger.proofs.Changed.{change-passed}
@@ -43,19 +41,30 @@ pub arrival-share : (held : ℕ) {call : Call} {row k : ℕ} → call ≡ Arriva
 unfolding past_share
 arrival-share held {call} {row} {k} e h = rw e (room-left held k h)
 
--- a number that applies first
-pub at_once : {b : Bool} (r : Rule) (place : ℕ) (d : Check) → b ≡ true → Refused r place ≡ (refuse b r place then d)
-unfolding refuse ◌then◌
-at_once r place d h = rw h refl
-
-pub may-change-is : (s owners : List ℕ) (who : ℕ) {owner i j : ℕ} → owner ≡ owner_of s owners i → i ≡ j
-    → (ltb 0 who && eqb owner who) ≡ may_change s owners who j
+-- whether a participant may change a row: whoever has a number above 0 and owns it
+pub owns-changes : (s owners : List ℕ) (who i : ℕ) → 0 < who → eqb (owner_of s owners i) who ≡ may_change s owners who i
 unfolding may_change
-may-change-is s owners who e f = rw (e, f) refl
+owns-changes s owners who i some = rw (lt-ltb 0 who some) refl
 
-pub may-read-is : (s owners : List ℕ) (who i : ℕ) {owner : ℕ} → owner ≡ owner_of s owners i → (eqb who 0 || eqb owner who) ≡ may_read s owners who i
+-- and the same may read it
+pub owns-reads : (s owners : List ℕ) (who i : ℕ) → 0 < who → eqb (owner_of s owners i) who ≡ may_read s owners who i
 unfolding may_read
-may-read-is s owners who i e = rw e refl
+owns-reads s owners who i some = rw (ne_eqb who 0 (λ e. omega arith)) refl
+
+-- The checks of a change on a ledger that opens.
+module _ (s owners : List ℕ) (room : ℕ) (call : Call) (opens : shared_check s owners room ≡ Pass) where
+  -- the marker has no right to any,
+  pub marker-change : {who : ℕ} → who ≡ 0 → shared_change_check s owners room who call ≡ Refused rule.Right 0
+  unfolding shared_change_check may_change refuse ◌then◌
+  marker-change e = rw (e, opens) refl
+
+  -- and of a participant the row's owner is asked first
+  pub participant-change : {who number : ℕ} → who ≡ number → 0 < number
+      → shared_change_check s owners room who call ≡ (refuse (not (eqb (owner_of s owners (row_of call)) number)) rule.Right 0 then
+      refuse (wrong (has_many_rows s) (counts_of s) call) rule.Count 0 then
+      refuse (past_share (vehicles_held s owners number (rows_of s)) call) rule.Share 0)
+  unfolding shared_change_check ◌then◌
+  participant-change {number = number} e some = rw (e, opens, owns-changes s owners number (row_of call) some) refl
 
 -- An opening.
 module _ (s owners w : List ℕ) where
@@ -115,21 +124,21 @@ module _ (s owners w : List ℕ) (who : ℕ) (call : Call) where
 
 -- A read of a row.
 module _ (s owners w : List ℕ) (who i : ℕ) where
-  -- says what its check says
-  row-answer : {r : RowAnswer} → r.check ≡ shared_row_check s owners (length w) who i
-      → r ≡ shared_row_answer s owners w who i → SharedRowCall s owners w who i r
-  row-answer e same = record { answer-is = same; says = rw e (row-says s owners (length w) who i) }
+  -- the numbers of the check are those of the answer
+  row-answer-says : {c : Check} → shared_row_check s owners (length w) who i ≡ c
+      → Says (shared_row_demands s owners (length w) who i) (number_of c) (place_of c)
+  row-answer-says e =
+      subst (λ (c : Check). Says (shared_row_demands s owners (length w) who i) (number_of c) (place_of c)) e (row-says s owners (length w) who i)
 
-  pub row-refused : {r : Check} {refusal : Refusal} → r ≡ shared_row_check s owners (length w) who i → r ≡ Err refusal
-      → SharedRowCall s owners w who i (record { check = r; count = 0; words = zeros 6 })
-  unfolding shared_row_answer row_told
-  row-refused {r} {refusal} e h = let c : shared_row_check s owners (length w) who i ≡ Err refusal = sym e ∙ h in row-answer e (rw (c, h) refl)
+  pub row-refused : {refusal : Refusal} → shared_row_check s owners (length w) who i ≡ Err refusal → SharedRowCall s owners w who i (Err refusal)
+  unfolding shared_row_answer row_told number_of place_of
+  row-refused h = record { answer-is = rw h refl; says = row-answer-says h }
 
-  pub row_done : {r : Check} {v : ℕ} {six : List ℕ} → r ≡ shared_row_check s owners (length w) who i → r ≡ Pass
+  pub row_done : {v : ℕ} {six : List ℕ} → shared_row_check s owners (length w) who i ≡ Pass
       → v ≡ (row_at s i).vehicles → six ≡ words_from w (6 * i) 6
-      → SharedRowCall s owners w who i (record { check = r; count = v; words = six })
-  unfolding shared_row_answer row_told
-  row_done e h f g = let c : shared_row_check s owners (length w) who i ≡ Pass = sym e ∙ h in row-answer e (rw (c, h, f, g) refl)
+      → SharedRowCall s owners w who i (Ok (record { count = v; words = six }))
+  unfolding shared_row_answer row_told number_of place_of
+  row_done h f g = record { answer-is = rw (h, f, g) refl; says = row-answer-says h }
 
   pub read-there : shared_row_check s owners (length w) who i ≡ Pass → (sheet_check s ≡ Pass) × (i < rows_of s) × (6 * rows_of s + 26 ≤ length w)
   unfolding shared_row_check
@@ -143,20 +152,22 @@ module _ (s owners w : List ℕ) (who i : ℕ) where
 
 -- A read of the totals.
 module _ (s owners w : List ℕ) (who : ℕ) where
-  totals-answer : {r : TotalsAnswer} → r.check ≡ shared_totals_check s owners (length w) who
-      → r ≡ shared_totals_answer s owners w who → SharedTotalsCall s owners w who r
-  totals-answer e same = record { answer-is = same; says = rw e (totals-says s owners (length w) who) }
+  -- the numbers of the check are those of the answer
+  totals-answer-says : {c : Check} → shared_totals_check s owners (length w) who ≡ c
+      → Says (shared_totals_demands s owners (length w) who) (number_of c) (place_of c)
+  totals-answer-says e =
+      subst (λ (c : Check). Says (shared_totals_demands s owners (length w) who) (number_of c) (place_of c)) e (totals-says s owners (length w) who)
 
-  pub totals-refused : {r : Check} {refusal : Refusal} → r ≡ shared_totals_check s owners (length w) who → r ≡ Err refusal
-      → SharedTotalsCall s owners w who (record { check = r; words = zeros 26 })
-  unfolding shared_totals_answer totals_told
-  totals-refused {r} {refusal} e h = let c : shared_totals_check s owners (length w) who ≡ Err refusal = sym e ∙ h in totals-answer e (rw (c, h) refl)
+  pub totals-refused : {refusal : Refusal} → shared_totals_check s owners (length w) who ≡ Err refusal
+      → SharedTotalsCall s owners w who (Err refusal)
+  unfolding shared_totals_answer totals_told number_of place_of
+  totals-refused h = record { answer-is = rw h refl; says = totals-answer-says h }
 
-  pub totals-done : {r : Check} {last : List ℕ} {place : ℕ} → r ≡ shared_totals_check s owners (length w) who → r ≡ Pass
+  pub totals-done : {last : List ℕ} {place : ℕ} → shared_totals_check s owners (length w) who ≡ Pass
       → last ≡ words_from w place 26 → place ≡ 6 * rows_of s
-      → SharedTotalsCall s owners w who (record { check = r; words = last })
-  unfolding shared_totals_answer totals_told
-  totals-done e h f g = let c : shared_totals_check s owners (length w) who ≡ Pass = sym e ∙ h in totals-answer e (rw (c, h, f, g) refl)
+      → SharedTotalsCall s owners w who (Ok last)
+  unfolding shared_totals_answer totals_told number_of place_of
+  totals-done h f g = record { answer-is = rw (h, f, g) refl; says = totals-answer-says h }
 
   pub totals-there : shared_totals_check s owners (length w) who ≡ Pass → (sheet_check s ≡ Pass) × (6 * rows_of s + 26 ≤ length w)
   unfolding shared_totals_check

@@ -1,33 +1,26 @@
--- What each owner has of the first n rows, as one list of nine sums, and the tests of a row's share from them.
+-- What each of nine has of the first n rows, as a list of holdings, and the tests of a row's share from it.
 -- Assumes nothing.
+use Rattle.std.proofs.Common.{Option, None, Some, MatchOption, replicate}
+use Rattle.std.proofs.lemmas.Bool.{or_parts}
 use mathlib.Core.Bool.{Bool, true, false, ◌||◌}
 use mathlib.Core.List.{List}
 use mathlib.Core.Path.{◌≡◌, refl, sym, ap, ◌∙◌}
-use Prim.Native.Nat.{ℕ, ◌+◌, ◌*◌, ◌≤◌, ◌<◌}
+use Prim.Native.Nat.{ℕ, suc, zero, ◌+◌, ◌*◌, ◌≤◌, ◌<◌}
 use native.Mathlib.Decide.{ℕ_discrete}
-use native.Mathlib.Numerals.{add-one}
 use native.Mathlib.Omega.{arith}
 use borrow.Author.Tests.{ltb-false, eq-eqb, ne_eqb}
 use lib.Dec.{ltb, eqb}
 use lib.ListN.{length, get_or, set, length-set}
-use lib.Seq.{ext_get_or, get_or-set_same, get_or-set_other}
-use Rattle.numbers.specs.Lists.{tab, at, sum}
-use Rattle.numbers.proofs.Lists.{tab-length, get_d-tab, sum-le}
+use lib.Seq.{get_or-set_same, get_or-set_other}
+use Rattle.numbers.specs.Lists.{at, sum}
+use Rattle.numbers.proofs.Lists.{sum-le, sum_more}
 use Rattle.refusals.specs.declared.Rule.TheVariants as rule
 use Rattle.refusals.specs.Check.{Pass, Refused, refuse}
 use Rattle.sheet.specs.Bytes.{row_place, row_at}
 use Rattle.sheet.specs.Sheet.{outside}
-use Rattle.sheet.proofs.Checks.{true-is-not-false}
 use Rattle.report_words.specs.Categories.{counted}
+use Rattle.shared_ledger_calls.specs.declared.opening.Holding.{Holding}
 use Rattle.shared_ledger.specs.Opening.{participants, rows_each, vehicles_each, rows_held, vehicles_held, share_wrong, share_check}
-
-pub theirs-is : (owner who v : ℕ) → owner ≡ who → v ≡ counted (eqb owner who) v
-unfolding counted
-theirs-is owner who v e = rw (eq-eqb owner who e) refl
-
-pub theirs-not : (owner who v : ℕ) → ¬ (owner ≡ who) → 0 ≡ counted (eqb owner who) v
-unfolding counted
-theirs-not owner who v n = rw (ne_eqb owner who n) refl
 
 -- a row's share, by what its test says
 pub share-refused : (s owners : List ℕ) (i : ℕ) {place : ℕ} → share_wrong s owners i ≡ true → place ≡ row_place s i
@@ -40,78 +33,131 @@ unfolding share_check refuse
 share-passed s owners i h = rw h refl
 
 -- the tests of a row's share, one after the other
-pub share-unowned : (s owners : List ℕ) (i : ℕ) {who : ℕ} → who ≡ at owners i
-    → (ltb who 1 || ltb participants who) ≡ true → share_wrong s owners i ≡ true
-unfolding share_wrong outside
-share-unowned s owners i e h = let q : (ltb (at owners i) 1 || ltb participants (at owners i)) ≡ true = rw (← e) h in rw q refl
+pub share-unowned : (s owners : List ℕ) (i : ℕ) → outside 1 participants (at owners i) ≡ true → share_wrong s owners i ≡ true
+unfolding share_wrong
+share-unowned s owners i h = rw h refl
 
-pub share-owned : (s owners : List ℕ) (i : ℕ) {who rows vehicles : ℕ} → who ≡ at owners i → (ltb who 1 || ltb participants who) ≡ false
+pub share-owned : (s owners : List ℕ) (i : ℕ) {who rows vehicles : ℕ} → who ≡ at owners i → outside 1 participants who ≡ false
     → rows ≡ rows_held owners who (i + 1) → vehicles ≡ vehicles_held s owners who (i + 1)
     → (ltb rows_each rows || ltb vehicles_each vehicles) ≡ share_wrong s owners i
-unfolding share_wrong outside
-share-owned s owners i e h f g = let q : (ltb (at owners i) 1 || ltb participants (at owners i)) ≡ false = rw (← e) h in rw (f, g, e, q) refl
+unfolding share_wrong
+share-owned s owners i e h f g = let q : outside 1 participants (at owners i) ≡ false = rw (← e) h in rw (f, g, e, q) refl
 
--- What each has of the first n rows, a row counting for f of it.
-unfoldable pub held_of : List ℕ → (ℕ → ℕ) → ℕ → ℕ → ℕ
-held_of owners f n who = sum (λ (i : ℕ). counted (eqb (at owners i) who) (f i)) n
+-- an owner is one of the eight
+pub owned-range : (who : ℕ) → outside 1 participants who ≡ false → who < 9
+unfolding outside
+owned-range who h = omega (arith, ltb-false participants who (or_parts (ltb who 1) (ltb participants who) h).1)
 
+-- where no one is named, no participant is
+pub no-owner : (who : ℕ) → who ≡ 0 → outside 1 participants who ≡ true
+unfolding outside
+no-owner who e = rw e refl
+
+-- an owner's number, which is 0 where there is none, is a participant's or not
+pub is-theirs : (owner : Option ℕ) (mine : Bool) (x who : ℕ) → MatchOption owner (x ≡ 0) (λ n. n ≡ x)
+    → MatchOption owner (mine ≡ false) (λ n. mine ≡ eqb n who) → 0 < who → mine ≡ eqb x who
+is-theirs None mine x who none other some = other ∙ sym (ne_eqb x who (λ e. omega arith))
+is-theirs (Some n) mine x who same is some = is ∙ ap (λ (k : ℕ). eqb k who) same
+
+-- one row more is its owner's,
+pub held-theirs : (s owners : List ℕ) (who n : ℕ) {held v : ℕ} → eqb (at owners n) who ≡ true → held ≡ vehicles_held s owners who n
+    → v ≡ (row_at s n).vehicles → held + v ≡ vehicles_held s owners who (n + 1)
+unfolding vehicles_held counted
+held-theirs s owners who n mine e f = sum_more _ n e (rw mine f)
+
+-- and no one else's
+pub held-others : (s owners : List ℕ) (who n : ℕ) {held : ℕ} → eqb (at owners n) who ≡ false → held ≡ vehicles_held s owners who n
+    → held ≡ vehicles_held s owners who (n + 1)
+unfolding vehicles_held counted
+held-others s owners who n {held} other e =
+    let more : held + 0 ≡ vehicles_held s owners who (n + 1) = sum_more _ n e (rw other refl) in
+    omega arith
+
+-- the same of the rows
+rows-theirs : (owners : List ℕ) (who n : ℕ) {held : ℕ} → eqb (at owners n) who ≡ true → held ≡ rows_held owners who n
+    → held + 1 ≡ rows_held owners who (n + 1)
+unfolding rows_held counted
+rows-theirs owners who n mine e = sum_more _ n e (rw mine refl)
+
+rows-others : (owners : List ℕ) (who n : ℕ) {held : ℕ} → eqb (at owners n) who ≡ false → held ≡ rows_held owners who n
+    → held ≡ rows_held owners who (n + 1)
+unfolding rows_held counted
+rows-others owners who n {held} other e =
+    let more : held + 0 ≡ rows_held owners who (n + 1) = sum_more _ n e (rw other refl) in
+    omega arith
+
+-- a holding of nothing, and the holding of one of nine in a list of them
+abbrev pub nothing : Holding
+nothing = record { rows = 0; vehicles = 0 }
+
+abbrev pub holding_at : List Holding → ℕ → Holding
+holding_at holdings who = get_or holdings who nothing
+
+-- What each of nine has of the first n rows.
+pub record Holdings (s owners : List ℕ) (n : ℕ) (holdings : List Holding) : Type 0 where
+  pub nine : length holdings ≡ 9
+  pub rows : (who : ℕ) → who < 9 → (holding_at holdings who).rows ≡ rows_held owners who n
+  pub vehicles : (who : ℕ) → who < 9 → (holding_at holdings who).vehicles ≡ vehicles_held s owners who n
+
+-- of no row
+nothing-at : (n k : ℕ) → holding_at (replicate n nothing) k ≡ nothing
+nothing-at zero k = refl
+nothing-at (suc n) zero = refl
+nothing-at (suc n) (suc k) = nothing-at n k
+
+pub holdings_none : (s owners : List ℕ) → Holdings s owners 0 (replicate 9 nothing)
+unfolding rows_held vehicles_held sum
+holdings_none s owners = record {
+  nine = refl;
+  rows = λ who l. ap (λ (h : Holding). h.rows) (nothing-at 9 who);
+  vehicles = λ who l. ap (λ (h : Holding). h.vehicles) (nothing-at 9 who);
+}
+
+-- Row n is its owner's, who then has one row more.
+module _ (s owners : List ℕ) (n : ℕ) {holdings : List Holding} {who : ℕ} (before : Holdings s owners n holdings) (own : who ≡ at owners n)
+    (range : who < 9) where
+  mine : eqb (at owners n) who ≡ true
+  mine = eq-eqb (at owners n) who (sym own)
+
+  -- they have so many,
+  pub rows-with : {more : ℕ} → more ≡ (holding_at holdings who).rows + 1 → more ≡ rows_held owners who (n + 1)
+  rows-with e = e ∙ rows-theirs owners who n mine (before.rows who range)
+
+  pub vehicles-with : {more v : ℕ} → more ≡ (holding_at holdings who).vehicles + v → v ≡ (row_at s n).vehicles
+      → more ≡ vehicles_held s owners who (n + 1)
+  vehicles-with e row = e ∙ held-theirs s owners who n mine (before.vehicles who range) row
+
+  -- and all others have what they had
+  not-mine : (j : ℕ) → ¬ (j ≡ who) → eqb (at owners n) j ≡ false
+  not-mine j q = ne_eqb (at owners n) j (λ e. q (sym e ∙ sym own))
+
+  pub holdings_more : {next : Holding} → next.rows ≡ rows_held owners who (n + 1) → next.vehicles ≡ vehicles_held s owners who (n + 1)
+      → Holdings s owners (n + 1) (set holdings who next)
+  holdings_more {next} e f = record {
+    nine = length-set holdings who next ∙ before.nine;
+    rows = λ j l.
+        elim (ℕ_discrete j who) [
+          | yes q ↦ rw (q, get_or-set_same holdings who next nothing (omega (arith, before.nine))) e
+          | no q ↦ rw (get_or-set_other holdings who j next nothing q) (rows-others owners j n (not-mine j q) (before.rows j l))
+        ];
+    vehicles = λ j l.
+        elim (ℕ_discrete j who) [
+          | yes q ↦ rw (q, get_or-set_same holdings who next nothing (omega (arith, before.nine))) f
+          | no q ↦ rw (get_or-set_other holdings who j next nothing q) (held-others s owners j n (not-mine j q) (before.vehicles j l))
+        ];
+  }
+
+-- No one has more than all rows.
 counted-most : (b : Bool) (v : ℕ) → counted b v ≤ v
 unfolding counted
 counted-most true v = omega arith
 counted-most false v = omega arith
 
-held-size : (owners : List ℕ) (f : ℕ → ℕ) (n who B : ℕ) → ((i : ℕ) → i < n → f i ≤ B) → held_of owners f n who ≤ n * B
-unfolding held_of
-held-size owners f n who B h = sum-le _ B n (λ k l. omega (arith, counted-most (eqb (at owners k) who) (f k), h k l))
+pub rows-size : (owners : List ℕ) (who n : ℕ) → rows_held owners who n ≤ n * 1
+unfolding rows_held
+rows-size owners who n = sum-le _ 1 n (λ k l. counted-most (eqb (at owners k) who) 1)
 
--- one row more is its owner's
-held-theirs : (owners : List ℕ) (f : ℕ → ℕ) (n who : ℕ) → at owners n ≡ who → held_of owners f (n + 1) who ≡ held_of owners f n who + f n
-unfolding held_of sum counted
-held-theirs owners f n who e = rw (add-one, eq-eqb (at owners n) who e) refl
-
-held-others : (owners : List ℕ) (f : ℕ → ℕ) (n who : ℕ) → ¬ (at owners n ≡ who) → held_of owners f (n + 1) who ≡ held_of owners f n who
-unfolding held_of sum counted
-held-others owners f n who h = rw (add-one, ne_eqb (at owners n) who h) (omega arith)
-
--- so in the tally of one row more its owner's entry is raised
-pub tally-more : (owners : List ℕ) (f : ℕ → ℕ) (n who v : ℕ) (sums : List ℕ) → sums ≡ tab (held_of owners f n) 9
-    → who ≡ at owners n → who < 9 → v ≡ f n
-    → set sums who (get_or sums who 0 + v) ≡ tab (held_of owners f (n + 1)) 9
-tally-more owners f n who v sums e o l g =
-    let long : length sums ≡ 9 = rw e (tab-length (held_of owners f n) 9) in
-    ext_get_or 0 (set sums who (get_or sums who 0 + v)) (tab (held_of owners f (n + 1)) 9)
-    (length-set sums who (get_or sums who 0 + v) ∙ long ∙ sym (tab-length (held_of owners f (n + 1)) 9))
-    (λ j k.
-    let inside : j < 9 = omega (arith, length-set sums who (get_or sums who 0 + v)) in
-    sym (get_d-tab (held_of owners f (n + 1)) 9 j inside ∙
-    elim (ℕ_discrete j who) [
-      | yes q ↦ rw q (held-theirs owners f n who (sym o) ∙
-          sym (get_or-set_same sums who (get_or sums who 0 + v) 0 (omega arith) ∙
-          rw g (ap (λ (h : ℕ). h + f n) (rw e (get_d-tab (held_of owners f n) 9 who l)))))
-      | no q ↦ held-others owners f n j (λ h. q (sym h ∙ sym o)) ∙
-          sym (get_or-set_other sums who j (get_or sums who 0 + v) 0 q ∙ rw e (get_d-tab (held_of owners f n) 9 j inside))
-    ]))
-
--- an entry is not too large
-pub tally-size : (owners : List ℕ) (f : ℕ → ℕ) (n who B : ℕ) (sums : List ℕ) → sums ≡ tab (held_of owners f n) 9
-    → who < 9 → ((i : ℕ) → i < n → f i ≤ B)
-    → get_or sums who 0 ≤ n * B
-tally-size owners f n who B sums e l h = rw (e, get_d-tab (held_of owners f n) 9 who l) (held-size owners f n who B h)
-
--- the two tallies of an opening
-pub rows-tally : (owners : List ℕ) (n who : ℕ) → held_of owners (λ (i : ℕ). 1) n who ≡ rows_held owners who n
-unfolding held_of rows_held
-rows-tally owners n who = refl
-
-pub vehicles-tally : (s owners : List ℕ) (n who : ℕ) → held_of owners (λ (i : ℕ). (row_at s i).vehicles) n who ≡ vehicles_held s owners who n
-unfolding held_of vehicles_held
-vehicles-tally s owners n who = refl
-
--- an owner is one of the eight
-pub owned-range : (who : ℕ) → (ltb who 1 || ltb participants who) ≡ false → who < 9
-owned-range who h = go (ltb who 1) (ltb participants who) h refl
-  where
-    go : (a b : Bool) → (a || b) ≡ false → ltb participants who ≡ b → who < 9
-    go true b g e = absurd (true-is-not-false g)
-    go false true g e = absurd (true-is-not-false g)
-    go false false g e = omega (arith, ltb-false participants who e)
+pub held-size : (s owners : List ℕ) (who n B : ℕ) → ((i : ℕ) → i < n → (row_at s i).vehicles ≤ B) → vehicles_held s owners who n ≤ n * B
+unfolding vehicles_held
+held-size s owners who n B h =
+    sum-le _ B n (λ k l. omega (arith, counted-most (eqb (at owners k) who) (row_at s k).vehicles, h k l))

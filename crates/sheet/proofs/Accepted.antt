@@ -7,8 +7,7 @@ use Prim.Native.Nat.{ℕ, suc, zero, ◌+◌, ◌*◌, ◌≤◌, ◌<◌}
 use native.Mathlib.Omega.{arith}
 use lib.ListN.{length, get_or}
 use Rattle.exact.specs.declared.Canister.TheVariants.{None}
-use Rattle.exact.specs.declared.Equipment.TheVariants.{Absent}
-use Rattle.exact.specs.Classes.{equipment}
+use Rattle.exact.specs.Classes.{absent, equipment}
 use Rattle.exact.specs.Factors.{total}
 use Rattle.refusals.specs.Check.{Pass}
 use Rattle.sheet.specs.Limits.{version_limit, seasons_limit, counts_limit, grid_limit, days_limit, vp_least, vp_limit}
@@ -41,7 +40,7 @@ pub record AcceptedSeason (s : List ℕ) (i : ℕ) : Type 0 where
 
 -- row i, counted from 0
 pub record AcceptedRow (s : List ℕ) (i : ℕ) : Type 0 where
-  pub present : ¬ (equipment_at s (row_place s i) ≡ Absent)
+  pub present : ¬ (equipment_at s (row_place s i) ≡ absent)
   pub class-least : 1 ≤ (row_at s i).class
   pub class-most : (row_at s i).class ≤ 9
   pub code : (u8_at s (row_place s i + 2) ≤ 3) ⊎ (u8_at s (row_place s i + 2) ≡ 255)
@@ -77,7 +76,7 @@ pub record Accepted (s : List ℕ) : Type 0 where
   pub row : (i : ℕ) → i < rows_of s → AcceptedRow s i
 
 -- two bytes are 16 bits
-u16-bits : {s : List ℕ} → Bytes s → (k : ℕ) → u16_at s k < 65536
+pub u16-bits : {s : List ℕ} → Bytes s → (k : ℕ) → u16_at s k < 65536
 u16-bits b k = omega (arith, b.byte k, b.byte (k + 1))
 
 season-accepted : (s : List ℕ) (i : ℕ) → Met (season_demands s i) → AcceptedSeason s i
@@ -92,7 +91,7 @@ season-accepted s i (((least, most), together), (((cold, order), warm), (vp-leas
 }
 
 -- a tank that is written, or the class's
-tank-between : (written class technology : ℕ) → ¬ (equipment class technology ≡ Absent) → written ≤ tank_limit
+tank-between : (written class technology : ℕ) → ¬ (equipment class technology ≡ absent) → written ≤ tank_limit
     → (1 ≤ tank_of written (equipment class technology)) × (tank_of written (equipment class technology) ≤ tank_limit)
 unfolding tank_of
 tank-between zero class technology n h = let (low, high) = equipment-tank class technology n in (omega arith, omega arith)

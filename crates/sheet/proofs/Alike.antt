@@ -4,20 +4,20 @@
 use mathlib.Core.List.{List}
 use mathlib.Core.Logic.{inl, inr, ⊎_elim}
 use mathlib.Core.Path.{◌≡◌, refl, ap, ◌∙◌}
-use Prim.Native.Nat.{ℕ, suc, zero, ◌+◌, ◌*◌, ◌/◌, ◌%◌, ◌≤◌, ◌<◌}
-use native.Mathlib.Decide.{dec_le, ℕ_discrete}
+use Prim.Native.Nat.{ℕ, suc, zero, ◌+◌, ◌/◌, ◌%◌, ◌≤◌, ◌<◌}
+use native.Mathlib.Decide.{ℕ_discrete}
 use native.Mathlib.Omega.{arith}
 use borrow.Author.Tests.{le-ltb}
 use lib.Dec.{ltb}
 use lib.ListN.{length, set, length-set}
 use lib.Seq.{get_or-set_same, get_or-set_other}
+use Rattle.std.proofs.lemmas.Nat.{same_from_place}
 use Rattle.exact.specs.declared.Canister.{Canister}
 use Rattle.exact.specs.declared.Canister.TheVariants.{None, Small, Medium, Large}
-use Rattle.exact.specs.declared.Equipment.TheVariants.{Fitted}
+use Rattle.exact.specs.Classes.{fitted_with}
 use Rattle.exact.specs.declared.Row.{Row}
 use Rattle.sheet.specs.Limits.{tank_limit}
 use Rattle.sheet.specs.Integers.{u8_at, u16_at}
-use Rattle.sheet.specs.Versions.{seasons_start}
 use Rattle.sheet.specs.Bytes.{seasons_of, rows_of, cells_of, row_place, season_at, season_list, row_from, row_at}
 use Rattle.sheet.specs.Bytes.{equipment_at, fitted_canister, fitted_tank, written_canister, canister_of, tank_of}
 use Rattle.sheet.specs.ByClass.{code_of, Written}
@@ -39,14 +39,6 @@ pub record Alike (s s' : List ℕ) : Type 0 where
   pub season-list-same : season_list s' ≡ season_list s
   pub row_same : (j : ℕ) → j < rows_of s → row_at s' j ≡ row_at s j
 
--- records of 24 bytes do not overlap
-rows_apart : (q j i k m : ℕ) → k < 24 → m < 24 → q + 24 * j + k ≡ q + 24 * i + m → j ≡ i
-rows_apart q j i k m h l e =
-    elim (dec_le (suc j) i) [
-      | yes a ↦ absurd (omega arith)
-      | no a ↦ elim (dec_le (suc i) j) [ yes b ↦ absurd (omega arith) | no b ↦ omega arith ]
-    ]
-
 -- a canister's code passes as 255 does,
 code-counts : (c : Canister) → code_wrong (code_of c) ≡ code_wrong 255
 unfolding code_wrong
@@ -56,7 +48,7 @@ code-counts Medium = refl
 code-counts Large = refl
 
 -- and stands for the same where the class has that canister
-canister-counts : (c : Canister) (t : ℕ) → canister_of (code_of c) (Fitted c t) ≡ canister_of 255 (Fitted c t)
+canister-counts : (c : Canister) (t : ℕ) → canister_of (code_of c) (fitted_with c t) ≡ canister_of 255 (fitted_with c t)
 unfolding canister_of fitted_canister written_canister
 canister-counts None t = refl
 canister-counts Small t = refl
@@ -64,13 +56,13 @@ canister-counts Medium t = refl
 canister-counts Large t = refl
 
 -- a tank that is written counts as 0 does, where the class has that tank
-tank-counts : (c : Canister) (t : ℕ) → tank_of t (Fitted c t) ≡ tank_of 0 (Fitted c t)
+tank-counts : (c : Canister) (t : ℕ) → tank_of t (fitted_with c t) ≡ tank_of 0 (fitted_with c t)
 unfolding tank_of fitted_tank
 tank-counts c zero = refl
 tank-counts c (suc t) = refl
 
 -- and passes as 0 does
-tank-passes : (s : List ℕ) (p : ℕ) {c : Canister} {t : ℕ} → equipment_at s p ≡ Fitted c t → ltb tank_limit t ≡ ltb tank_limit 0
+tank-passes : (s : List ℕ) (p : ℕ) {c : Canister} {t : ℕ} → equipment_at s p ≡ fitted_with c t → ltb tank_limit t ≡ ltb tank_limit 0
 unfolding equipment_at fitted_tank
 tank-passes s p {c} {t} e =
     let most = (equipment-tank (u8_at s p) (u8_at s (p + 1)) (λ a. let z : ◌≡◌ {A = ℕ} 0 1 = cc in omega arith)).1 in
@@ -93,7 +85,7 @@ same_alike {p} h = record {
 }
 
 -- and where the canister or the tank is written
-written-alike : {s s' : List ℕ} {p t : ℕ} {c : Canister} → equipment_at s p ≡ Fitted c t → Written s s' p c t → RowAlike s s' p
+written-alike : {s s' : List ℕ} {p t : ℕ} {c : Canister} → equipment_at s p ≡ fitted_with c t → Written s s' p c t → RowAlike s s' p
 written-alike {s} {s'} {p} {t} {c} fitted w =
     let class : Same s' s p p 2 = record { byte = λ k l. w.elsewhere (p + k) (λ e. omega arith) (λ e. omega arith) (λ e. omega arith) } in
     let shares : Same s' s (p + 3) (p + 3) 3 = record {
@@ -111,7 +103,7 @@ written-alike {s} {s'} {p} {t} {c} fitted w =
     = ⊎_elim (λ h. (cc, cc)) (λ (h, g). (cc (tank-passes s p fitted), cc (tank-counts c t))) w.tank in
     record { row = row_counts class shares rest (cc) (cc); equipment = equipment; code = code; limit = limit }
 
-module _ (s s' : List ℕ) (i : ℕ) (c : Canister) (t : ℕ) (fitted : equipment_at s (row_place s i) ≡ Fitted c t)
+module _ (s s' : List ℕ) (i : ℕ) (c : Canister) (t : ℕ) (fitted : equipment_at s (row_place s i) ≡ fitted_with c t)
     (w : Written s s' (row_place s i) c t) where
   -- bytes before the rows are the same
   before : BeforeRows s s'
@@ -121,7 +113,7 @@ module _ (s s' : List ℕ) (i : ℕ) (c : Canister) (t : ℕ) (fitted : equipmen
   other : (j : ℕ) → ¬ (j ≡ i) → Same s' s (row_place s j) (row_place s j) 24
   other j n =
       let off : (k m : ℕ) → k < 24 → m < 24 → row_place s j + k ≡ row_place s i + m → ⊥ =
-      λ k m l d e. n (rows_apart (seasons_start s + 8 * seasons_of s) j i k m l d e) in
+      λ k m l d e. n (same_from_place j k i m 24 l d (omega arith)).0 in
       record { byte = λ k l. w.elsewhere (row_place s j + k) (off k 2 l (omega arith)) (off k 6 l (omega arith)) (off k 7 l (omega arith)) }
 
   -- so every row counts and passes alike:

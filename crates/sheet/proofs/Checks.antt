@@ -13,6 +13,8 @@ use lib.Dec.{leb, ltb, eqb}
 use Rattle.numbers.specs.Fraction.{Fraction, ◌≤ᶠ◌, ◌≤?◌}
 use Rattle.numbers.proofs.Order.{test-cases}
 use Rattle.std.proofs.Common.{Ok, Err}
+use Rattle.std.proofs.Math.Bool.{or-true}
+use Rattle.std.proofs.lemmas.Bool.{true≢false, or_cases, and_parts}
 use Rattle.refusals.specs.declared.Rule.{Rule}
 use Rattle.refusals.specs.Rule.{number}
 use Rattle.refusals.specs.Check.{Check, Pass, Refused, refuse, ◌then◌, each, number_of, place_of}
@@ -136,24 +138,10 @@ pub met-passes : (c : Check) {D : Demands} → Judges c D → Met D → c ≡ Pa
 met-passes (Ok _) j met = refl
 met-passes (Err r) {D} j met = absurd (unmet-not-met (number r.rule) r.place D (j.refuses r.rule r.place refl) met)
 
--- True and false.
+-- True and false: std's lemma, by the name that the crates above cite.
 
 pub true-is-not-false : true ≡ false → ⊥
-true-is-not-false e = let z : ◌≡◌ {A = ℕ} 0 1 = cc in omega arith
-
-or-true : (b : Bool) → (b || true) ≡ true
-or-true true = refl
-or-true false = refl
-
--- one of two that give true together is true
-or_cases : (b : Bool) {c : Bool} {A : Type 0} → (b || c) ≡ true → (b ≡ true → A) → (c ≡ true → A) → A
-or_cases true h f g = f refl
-or_cases false h f g = g h
-
--- and where both are needed, both are
-and_both : (b : Bool) {c : Bool} → (b && c) ≡ true → (b ≡ true) × (c ≡ true)
-and_both true h = (refl, h)
-and_both false h = absurd (true-is-not-false (sym h))
+true-is-not-false = true≢false
 
 -- From the number alone to its demand.
 
@@ -191,8 +179,9 @@ Unmet n p (every k f) = (i : ℕ) × (i < k) × ((j : ℕ) → j < i → Met (f 
 
 -- a number among the first, or among the second, is among both together
 among-left : (n : ℕ) (ms ns : List ℕ) → among n ms ≡ true → among n (ms ++ ns) ≡ true
-among-left n [] ns h = absurd (true-is-not-false (sym h))
-among-left n (m ∷ ms) ns h = or_cases (eqb n m) h (λ e. rw e refl) (λ e. rw (among-left n ms ns e) (or-true (eqb n m)))
+among-left n [] ns h = absurd (true≢false (sym h))
+among-left n (m ∷ ms) ns h =
+    ⊎_elim (λ e. rw e refl) (λ e. rw (among-left n ms ns e) (or-true (eqb n m))) (or_cases (eqb n m) (among n ms) h)
 
 among-right : (n : ℕ) (ms ns : List ℕ) → among n ns ≡ true → among n (ms ++ ns) ≡ true
 among-right n [] ns h = h
@@ -202,10 +191,10 @@ among-right n (m ∷ ms) ns h = rw (among-right n ms ns h) (or-true (eqb n m))
 apart-not : (n : ℕ) (ms ns : List ℕ) → apart ms ns ≡ true → among n ns ≡ true → among n ms ≡ false
 apart-not n [] ns a h = refl
 apart-not n (m ∷ ms) ns a h =
-    let (absent, rest) = and_both (not (among m ns)) a in
+    let (absent, rest) = and_parts (not (among m ns)) (apart ms ns) a in
     rw (apart-not n ms ns rest h)
     (elim (ℕ_discrete n m) [
-      | yes e ↦ absurd (true-is-not-false (sym (rw e at h) ∙ not-true (among m ns) absent))
+      | yes e ↦ absurd (true≢false (sym (rw e at h) ∙ not-true (among m ns) absent))
       | no e ↦ rw (ne_eqb n m e) refl
     ])
 
@@ -255,13 +244,13 @@ ltb-tests x y = record { holds = ltb-false x y; fails = λ t l. omega (arith, lt
 
 -- either of two tests demands what both demand
 pub ||-tests : {b c : Bool} {A B : Type 0} → Tests b A → Tests c B → Tests (b || c) (A × B)
-||-tests {b = true} s t = record { holds = λ e. absurd (true-is-not-false e); fails = λ e (x, y). s.fails refl x }
+||-tests {b = true} s t = record { holds = λ e. absurd (true≢false e); fails = λ e (x, y). s.fails refl x }
 ||-tests {b = false} s t = record { holds = λ e. (s.holds refl, t.holds e); fails = λ e (x, y). t.fails e y }
 
 -- both of two tests demand what either demands
 pub &&-tests : {b c : Bool} {A B : Type 0} → Tests b A → Tests c B → Tests (b && c) (A ⊎ B)
 &&-tests {b = true} s t = record { holds = λ e. inr (t.holds e); fails = λ e. ⊎_elim (s.fails refl) (t.fails e) }
-&&-tests {b = false} s t = record { holds = λ e. inl (s.holds refl); fails = λ e. absurd (true-is-not-false (sym e)) }
+&&-tests {b = false} s t = record { holds = λ e. inl (s.holds refl); fails = λ e. absurd (true≢false (sym e)) }
 
 -- two tests of one demand are equal
 pub tests_same : {b c : Bool} {A : Type 0} → Tests b A → Tests c A → b ≡ c
@@ -288,12 +277,12 @@ eqb-shows x y = record { shown = eqb-true x y; denied = eqb-false x y }
 
 pub ≤-shows : (x y : Fraction) → Shows (x ≤? y) (x ≤ᶠ y)
 ≤-shows x y =
-    test-cases (λ (c : Bool). Shows c (x ≤ᶠ y)) x y (λ h. record { shown = λ _. h; denied = λ e. absurd (true-is-not-false e) })
-    (λ n. record { shown = λ e. absurd (true-is-not-false (sym e)); denied = λ _. n })
+    test-cases (λ (c : Bool). Shows c (x ≤ᶠ y)) x y (λ h. record { shown = λ _. h; denied = λ e. absurd (true≢false e) })
+    (λ n. record { shown = λ e. absurd (true≢false (sym e)); denied = λ _. n })
 
 pub &&-shows : {b c : Bool} {A B : Type 0} → Shows b A → Shows c B → Shows (b && c) (A × B)
 &&-shows {b = true} s t = record { shown = λ e. (s.shown refl, t.shown e); denied = λ e (x, y). t.denied e y }
-&&-shows {b = false} s t = record { shown = λ e. absurd (true-is-not-false (sym e)); denied = λ e (x, y). s.denied refl x }
+&&-shows {b = false} s t = record { shown = λ e. absurd (true≢false (sym e)); denied = λ e (x, y). s.denied refl x }
 
 pub leb-shows : (x y : ℕ) → Shows (leb x y) (x ≤ y)
 leb-shows x y = record { shown = leb-true x y; denied = λ e l. omega (arith, leb-false x y e) }
@@ -305,4 +294,4 @@ not-leb-shows x y = record { shown = λ e. leb-false x y (not-true (leb x y) e);
 -- a test that is made of some sheets alone demands nothing of the others
 pub guarded : {g b : Bool} {A B : Type 0} → Shows g A → Tests b B → Tests (g && b) (A → B)
 guarded {g = true} s t = record { holds = λ e _. t.holds e; fails = λ e f. t.fails e (f (s.shown refl)) }
-guarded {g = false} s t = record { holds = λ _ a. absurd (s.denied refl a); fails = λ e. absurd (true-is-not-false (sym e)) }
+guarded {g = false} s t = record { holds = λ _ a. absurd (s.denied refl a); fails = λ e. absurd (true≢false (sym e)) }

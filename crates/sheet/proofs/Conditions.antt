@@ -7,11 +7,13 @@ use mathlib.Core.Logic.{◌⊎◌}
 use mathlib.Core.Path.{◌≡◌, refl, sym, ap, ◌∙◌}
 use Prim.Native.Nat.{ℕ, suc, zero, ◌≤◌, ◌<◌}
 use native.Mathlib.Omega.{arith}
+use Rattle.std.proofs.Common.{Option, Some, None}
+use Rattle.std.proofs.lemmas.Bool.{true≢false}
 use Rattle.numbers.specs.Fraction.{◌≤ᶠ◌, whole, ◌/10^◌}
 use Rattle.exact.specs.declared.Canister.{Canister}
-use Rattle.exact.specs.declared.Canister.TheVariants.{None, Small, Medium, Large}
-use Rattle.exact.specs.declared.Equipment.{Equipment}
-use Rattle.exact.specs.declared.Equipment.TheVariants.{Absent, Fitted}
+use Rattle.exact.specs.declared.Canister.TheVariants as canister
+use Rattle.exact.specs.declared.Fitted.{Fitted}
+use Rattle.exact.specs.Classes.{absent}
 use Rattle.exact.specs.declared.Season.{Season}
 use Rattle.exact.specs.declared.Row.{Row}
 use Rattle.exact.specs.Day.{signed_tenths}
@@ -25,16 +27,16 @@ use Rattle.sheet.specs.Sheet.{outside, letters_missing, mark_check, numbers_chec
 use Rattle.sheet.specs.Sheet.{season_check, is_absent, code_wrong, percent_wrong, load_wrong, exponent_above, saturation_above, some_season}
 use Rattle.sheet.specs.Sheet.{no_canister}
 use Rattle.sheet.specs.Sheet.{mileage_wrong, row_check, sheet_check}
-use Rattle.sheet.specs.Demands.{Met, FirstUnmet, Says, mark_demands, numbers_demands, head_demands, length_demand, parking_demands, season_demands}
+use Rattle.sheet.specs.Demands.{Met, Says, mark_demands, numbers_demands, head_demands, length_demand, parking_demands, season_demands}
 use Rattle.sheet.specs.Demands.{exponent_at, MileageRight, row_demands, demands}
 use Rattle.sheet.specs.Conditions.{ConditionsTheorem}
-use Rattle.sheet.proofs.Checks.{Tests, Judges, number-among, Once, Unmet, unmet, Broken, broken}
-use Rattle.sheet.proofs.Checks.{met-passes, says, true-is-not-false, below_suc, judges-refuse, judges-then}
+use Rattle.sheet.proofs.Checks.{Tests, Judges, Once, Unmet, unmet, Broken, broken}
+use Rattle.sheet.proofs.Checks.{met-passes, says, below_suc, judges-refuse, judges-then}
 use Rattle.sheet.proofs.Checks.{judges-each, ◌⊳◌, ltb-tests, ||-tests, &&-tests, tests-as, not-tests, eqb-shows}
 use Rattle.sheet.proofs.Checks.{≤-shows, &&-shows, leb-shows, not-leb-shows, guarded}
 
 -- a number outside least to most
-outside-tests : (least most x : ℕ) → Tests (outside least most x) ((least ≤ x) × (x ≤ most))
+pub outside-tests : (least most x : ℕ) → Tests (outside least most x) ((least ≤ x) × (x ≤ most))
 unfolding outside
 outside-tests least most x = ||-tests (ltb-tests x least) (ltb-tests most x)
 
@@ -80,10 +82,10 @@ season-judged s i =
     judges-refuse (outside-tests _ _ _)
 
 -- 13: a pair that is in the table
-absent-tests : (e : Equipment) → Tests (is_absent e) (¬ (e ≡ Absent))
+absent-tests : (e : Option Fitted) → Tests (is_absent e) (¬ (e ≡ absent))
 unfolding is_absent
-absent-tests Absent = record { holds = λ e. absurd (true-is-not-false e); fails = λ _ n. n refl }
-absent-tests (Fitted c tank) = record { holds = λ _ e. let z : ◌≡◌ {A = ℕ} 0 1 = cc in omega arith; fails = λ e. absurd (true-is-not-false (sym e)) }
+absent-tests None = record { holds = λ e. absurd (true≢false e); fails = λ _ n. n refl }
+absent-tests (Some f) = record { holds = λ _ e. let z : ◌≡◌ {A = ℕ} 0 1 = cc in omega arith; fails = λ e. absurd (true≢false (sym e)) }
 
 -- 14: a code of 0 to 3, or 255
 code-tests : (code : ℕ) → Tests (code_wrong code) ((code ≤ 3) ⊎ (code ≡ 255))
@@ -91,43 +93,43 @@ unfolding code_wrong
 code-tests code = &&-tests (ltb-tests 3 code) (not-tests (eqb-shows code 255))
 
 -- 19: a load up to m_sat, and m_sat 0 with no canister
-load-tests : (c : Canister) (load saturation : ℕ) → Tests (load_wrong c load saturation) ((load ≤ saturation) × (c ≡ None → saturation ≡ 0))
+load-tests : (c : Canister) (load saturation : ℕ) → Tests (load_wrong c load saturation) ((load ≤ saturation) × (c ≡ canister.None → saturation ≡ 0))
 unfolding load_wrong
-load-tests None load saturation =
+load-tests canister.None load saturation =
     tests-as (λ (h, k). (omega arith, λ _. omega arith)) (λ (h, k). let z : saturation ≡ 0 = k refl in (omega arith, omega arith))
     (||-tests (ltb-tests 0 load) (ltb-tests 0 saturation))
-load-tests Small load saturation = tests-as (λ h. (h, λ e. cc)) (λ (h, k). h) (ltb-tests saturation load)
-load-tests Medium load saturation = tests-as (λ h. (h, λ e. cc)) (λ (h, k). h) (ltb-tests saturation load)
-load-tests Large load saturation = tests-as (λ h. (h, λ e. cc)) (λ (h, k). h) (ltb-tests saturation load)
+load-tests canister.Small load saturation = tests-as (λ h. (h, λ e. cc)) (λ (h, k). h) (ltb-tests saturation load)
+load-tests canister.Medium load saturation = tests-as (λ h. (h, λ e. cc)) (λ (h, k). h) (ltb-tests saturation load)
+load-tests canister.Large load saturation = tests-as (λ h. (h, λ e. cc)) (λ (h, k). h) (ltb-tests saturation load)
 
 -- a size is a canister
-fitted : {c : Canister} → no_canister c ≡ false → ¬ (c ≡ None)
+fitted : {c : Canister} → no_canister c ≡ false → ¬ (c ≡ canister.None)
 unfolding no_canister
-fitted h e = true-is-not-false (sym (ap no_canister e) ∙ h)
+fitted h e = true≢false (sym (ap no_canister e) ∙ h)
 
-none-tests : (c : Canister) → Tests (no_canister c) (¬ (c ≡ None))
+none-tests : (c : Canister) → Tests (no_canister c) (¬ (c ≡ canister.None))
 unfolding no_canister
-none-tests None = record { holds = λ e. absurd (true-is-not-false e); fails = λ _ n. n refl }
-none-tests Small = record { holds = fitted; fails = λ e. absurd (true-is-not-false (sym e)) }
-none-tests Medium = record { holds = fitted; fails = λ e. absurd (true-is-not-false (sym e)) }
-none-tests Large = record { holds = fitted; fails = λ e. absurd (true-is-not-false (sym e)) }
+none-tests canister.None = record { holds = λ e. absurd (true≢false e); fails = λ _ n. n refl }
+none-tests canister.Small = record { holds = fitted; fails = λ e. absurd (true≢false (sym e)) }
+none-tests canister.Medium = record { holds = fitted; fails = λ e. absurd (true≢false (sym e)) }
+none-tests canister.Large = record { holds = fitted; fails = λ e. absurd (true≢false (sym e)) }
 
 -- 20, and the last part of 25, in one season, for a canister if there is one
 pub saturation-tests : (limit : ℕ) (c : Canister) (saturation : ℕ) (season : Season)
     → Tests (saturation_above limit c saturation season)
-    (¬ (c ≡ None) → exponent_at season (signed_tenths season.highest) (size c) (saturation /10^ 1) ≤ᶠ whole limit)
+    (¬ (c ≡ canister.None) → exponent_at season (signed_tenths season.highest) (size c) (saturation /10^ 1) ≤ᶠ whole limit)
 unfolding saturation_above exponent_above no_canister
-saturation-tests limit None saturation season = record { holds = λ _ n. absurd (n refl); fails = λ e. absurd (true-is-not-false (sym e)) }
-saturation-tests limit Small saturation season = tests-as (λ h _. h) (λ f. f (fitted refl)) (not-tests (≤-shows _ _))
-saturation-tests limit Medium saturation season = tests-as (λ h _. h) (λ f. f (fitted refl)) (not-tests (≤-shows _ _))
-saturation-tests limit Large saturation season = tests-as (λ h _. h) (λ f. f (fitted refl)) (not-tests (≤-shows _ _))
+saturation-tests limit canister.None saturation season = record { holds = λ _ n. absurd (n refl); fails = λ e. absurd (true≢false (sym e)) }
+saturation-tests limit canister.Small saturation season = tests-as (λ h _. h) (λ f. f (fitted refl)) (not-tests (≤-shows _ _))
+saturation-tests limit canister.Medium saturation season = tests-as (λ h _. h) (λ f. f (fitted refl)) (not-tests (≤-shows _ _))
+saturation-tests limit canister.Large saturation season = tests-as (λ h _. h) (λ f. f (fitted refl)) (not-tests (≤-shows _ _))
 
 -- a test at some season demands the same of every season
 some_tests : {P : Season → Type 0} (wrong : Season → Bool) → ((season : Season) → Tests (wrong season) (P season))
     → (s : List ℕ) (n : ℕ) → Tests (some_season wrong s n) ((j : ℕ) → j < n → P (season_at s j))
 unfolding some_season
 some_tests wrong t s zero =
-    record { holds = λ _ j l. absurd (omega arith); fails = λ e. absurd (true-is-not-false (sym e)) }
+    record { holds = λ _ j l. absurd (omega arith); fails = λ e. absurd (true≢false (sym e)) }
 some_tests {P} wrong t s (suc n) =
     tests-as (λ (before, last). below_suc {P = λ (j : ℕ). P (season_at s j)} before last)
     (λ f. ((λ j l. f j (omega arith)), f n (omega arith)))

@@ -5,10 +5,10 @@ use mathlib.Core.List.{List}
 use mathlib.Core.Path.{◌≡◌, refl, ap, ◌∙◌}
 use Prim.Native.Nat.{ℕ, suc, zero, ◌+◌, ◌*◌, ◌-◌, ◌/◌, ◌%◌, ◌^◌, ◌≤◌, ◌<◌}
 use native.Mathlib.Decide.{dec_le, ℕ_discrete}
-use native.Mathlib.Nat.{div-div-eq-div-mul, mod-eq_of_lt}
 use native.Mathlib.Omega.{arith}
 use lib.ListN.{length, get_or}
 use lib.Seq.{length-sets}
+use Rattle.std.proofs.lemmas.Nat.{from_le_bytes-to_le_bytes_4}
 use Rattle.numbers.proofs.Stores.{sets-before, sets-in, sets-beyond}
 use Rattle.refusals.specs.Check.{Pass}
 use Rattle.sheet.specs.Limits.{vehicles_limit, fleet_limit}
@@ -27,19 +27,9 @@ use Rattle.sheet.proofs.Local.{Same, byte_at, word_at, long-at, equipment-same}
 use Rattle.sheet.proofs.BeforeRows.{BeforeRows, version, start, seasons, season, rows-accepted}
 use Rattle.sheet.proofs.RowDemands.{with_vehicles, RowBut, VersionMet, row-met-but}
 
--- digits of a number to the base 256
-digits : (v a b c x y z : ℕ) {w : ℕ} → a * 256 + x ≡ v → b * 256 + y ≡ a → c * 256 + z ≡ b → w ≡ c → x + 256 * y + 65536 * (z + 256 * w) ≡ v
-digits v a b c x y z e f g h = omega arith
-
 -- four bytes make up a number of 32 bits
 four_are : (v : ℕ) → v < 2 ^ 32 → v % 256 + 256 * (v / 256 % 256) + 65536 * (v / 65536 % 256 + 256 * (v / 16777216 % 256)) ≡ v
-four_are v h =
-    let low : v / 256 / 256 ≡ v / 65536 = div-div-eq-div-mul v 256 256 in
-    let high : v / 256 / 256 / 256 ≡ v / 16777216 = div-div-eq-div-mul (v / 256) 256 256 ∙ div-div-eq-div-mul v 256 65536 in
-    let top : v / 16777216 < 256 = omega arith in
-    rw (← high, ← low)
-    (digits v (v / 256) (v / 256 / 256) (v / 256 / 256 / 256) (v % 256) (v / 256 % 256) (v / 256 / 256 % 256)
-    (omega arith) (omega arith) (omega arith) (mod-eq_of_lt (rw high top)))
+four_are v h = omega (arith, from_le_bytes-to_le_bytes_4 v h)
 
 -- and each is a byte
 four-byte : (v m : ℕ) → get_or (four_bytes v) m 0 < 256

@@ -26,7 +26,7 @@ pub vehicles-more : (s : List ℕ) (i : ℕ) {before vehicles : ℕ} → before 
 unfolding vehicles_before
 vehicles-more s i e f = rw (add-one, e, f)
 
--- more rows have no fewer
+-- more rows have no fewer. What std has of sums is of lists, and this one is by the row's number.
 pub vehicles-rise : (s : List ℕ) (m n : ℕ) → m ≤ n → vehicles_before s m ≤ vehicles_before s n
 unfolding vehicles_before
 vehicles-rise s m zero h = let none : m ≡ 0 = omega arith in rw none (omega arith)

@@ -3,17 +3,21 @@
 use mathlib.Core.Bool.{true}
 use mathlib.Core.List.{List}
 use mathlib.Core.Path.{◌≡◌}
-use Prim.Native.Nat.{ℕ, ◌+◌, ◌≤◌, ◌<◌}
+use Prim.Native.Nat.{ℕ, ◌+◌, ◌*◌, ◌≤◌, ◌<◌}
 use native.Mathlib.Omega.{arith}
 use lib.ListN.{length}
 use Rattle.refusals.specs.Check.{Pass}
-use Rattle.sheet.specs.Versions.{has_grid}
+use Rattle.sheet.specs.Versions.{has_grid, seasons_start}
 use Rattle.sheet.specs.Bytes.{seasons_of, rows_of, season_place, row_place}
 use Rattle.sheet.specs.Sheet.{sheet_check}
 use Rattle.sheet.proofs.Versions.{start-grid, start_between, rows-limit}
 use Rattle.sheet.proofs.Accepted.{accepted}
 
 module _ (s : List ℕ) (h : sheet_check s ≡ Pass) where
+  -- so many bytes in all
+  pub length_is : length s ≡ seasons_start s + 8 * seasons_of s + 24 * rows_of s
+  length_is = (accepted s h).length-is
+
   -- the head and two lists of counts, or the first bytes of a grid
   pub parking-there : 104 ≤ length s
   parking-there = omega (arith, (accepted s h).length-is, start_between s)

@@ -21,7 +21,7 @@ use Rattle.sheet.specs.Sheet.{is_absent, code_wrong, percent_wrong, load_wrong, 
 use Rattle.refusals.specs.Check.{Check, Pass, Refused, refuse, ◌then◌, each}
 
 -- checks may be grouped
-then-assoc : (b c d : Check) → ((b then c) then d) ≡ (b then (c then d))
+pub then-assoc : (b c d : Check) → ((b then c) then d) ≡ (b then (c then d))
 unfolding ◌then◌
 then-assoc (Ok _) c d = refl
 then-assoc (Err r) c d = refl

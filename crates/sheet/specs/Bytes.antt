@@ -1,9 +1,8 @@
 -- The fields of a sheet as documents 01 and 02 place them. Definitions only.
-use Rattle.std.specs.Prelude.{true, false, List, [], ◌∷◌, ℕ, suc, zero, ◌+◌, ◌*◌, eqb}
+use Rattle.std.specs.Prelude.{true, false, List, [], ◌∷◌, Option, Some, None, ℕ, suc, zero, ◌+◌, ◌*◌, eqb}
 use Rattle.exact.specs.declared.Canister.{Canister}
-use Rattle.exact.specs.declared.Canister.TheVariants.{None, Small, Medium, Large}
-use Rattle.exact.specs.declared.Equipment.{Equipment}
-use Rattle.exact.specs.declared.Equipment.TheVariants.{Absent, Fitted}
+use Rattle.exact.specs.declared.Canister.TheVariants as canister
+use Rattle.exact.specs.declared.Fitted.{Fitted}
 use Rattle.exact.specs.declared.Season.{Season}
 use Rattle.exact.specs.declared.Row.{Row}
 use Rattle.exact.specs.Classes.{equipment}
@@ -62,30 +61,30 @@ unfoldable pub season_list : List ℕ → List Season
 season_list s = seasons_from s 0 (seasons_of s)
 
 -- what the class and technology written at p stand for
-unfoldable pub equipment_at : List ℕ → ℕ → Equipment
+unfoldable pub equipment_at : List ℕ → ℕ → Option Fitted
 equipment_at s p = equipment (u8_at s p) (u8_at s (p + 1))
 
-unfoldable pub fitted_canister : Equipment → Canister
-fitted_canister Absent = None
-fitted_canister (Fitted c tank) = c
+unfoldable pub fitted_canister : Option Fitted → Canister
+fitted_canister None = canister.None
+fitted_canister (Some e) = e.canister
 
-unfoldable pub fitted_tank : Equipment → ℕ
-fitted_tank Absent = 0
-fitted_tank (Fitted c tank) = tank
+unfoldable pub fitted_tank : Option Fitted → ℕ
+fitted_tank None = 0
+fitted_tank (Some e) = e.tank
 
 -- "canister (0 none, 1 small, 2 medium, 3 large, 255 by class)"; any other code is refused
 unfoldable pub written_canister : ℕ → Canister
-written_canister zero = None
-written_canister (suc zero) = Small
-written_canister (suc (suc zero)) = Medium
-written_canister (suc (suc (suc zero))) = Large
-written_canister (suc (suc (suc (suc code)))) = None
+written_canister zero = canister.None
+written_canister (suc zero) = canister.Small
+written_canister (suc (suc zero)) = canister.Medium
+written_canister (suc (suc (suc zero))) = canister.Large
+written_canister (suc (suc (suc (suc code)))) = canister.None
 
-unfoldable pub canister_of : ℕ → Equipment → Canister
+unfoldable pub canister_of : ℕ → Option Fitted → Canister
 canister_of code e = elim (eqb code 255) [ true ↦ fitted_canister e | false ↦ written_canister code ]
 
 -- "u16 tank in tenths of a litre, 0 by class"
-unfoldable pub tank_of : ℕ → Equipment → ℕ
+unfoldable pub tank_of : ℕ → Option Fitted → ℕ
 tank_of zero e = fitted_tank e
 tank_of (suc tenths) e = suc tenths
 

@@ -3,9 +3,9 @@
 use Rattle.std.specs.Prelude.{List, ◌⊎◌, ◌≡◌, ℕ, ◌+◌, ◌*◌, ◌≤◌, ◌<◌, length}
 use Rattle.numbers.specs.Fraction.{◌≤ᶠ◌, negᶠ, ◌/10^◌}
 use Rattle.exact.specs.declared.Canister.TheVariants.{None}
-use Rattle.exact.specs.declared.Equipment.TheVariants.{Absent}
 use Rattle.exact.specs.declared.Season.{Season}
 use Rattle.exact.specs.declared.Row.{Row}
+use Rattle.exact.specs.Classes.{absent}
 use Rattle.exact.specs.Day.{signed_tenths}
 use Rattle.exact.specs.Factors.{total}
 use Rattle.refusals.specs.declared.Rule.TheVariants as rule
@@ -49,7 +49,7 @@ pub record Conditions (s : List ℕ) (p : ℕ) : Type 0 where
       × (signed_tenths season.highest ≤ᶠ 500 /10^ 1))
   pub vapour-pressure : sheet_check s ≡ Refused rule.VapourPressure p
       → NotInSeason s p (λ (season : Season) (before : ℕ). (300 ≤ season.vp) × (season.vp ≤ 1100))
-  pub class-technology : sheet_check s ≡ Refused rule.Class p → NotInRow s p (λ (row : Row) (place : ℕ). ¬ (equipment_at s place ≡ Absent))
+  pub class-technology : sheet_check s ≡ Refused rule.Class p → NotInRow s p (λ (row : Row) (place : ℕ). ¬ (equipment_at s place ≡ absent))
   pub canister-code : sheet_check s ≡ Refused rule.CanisterCode p
       → NotInRow s p (λ (row : Row) (place : ℕ). (u8_at s (place + 2) ≤ 3) ⊎ (u8_at s (place + 2) ≡ 255))
   pub percents : sheet_check s ≡ Refused rule.Percent p

@@ -3,9 +3,9 @@
 use Rattle.std.specs.Prelude.{List, ◌⊎◌, ◌≡◌, ℕ, suc, zero, ◌+◌, ◌*◌, ◌≤◌, ◌<◌, length}
 use Rattle.numbers.specs.Fraction.{Fraction, ◌≤ᶠ◌, ◌+ᶠ◌, negᶠ, ◌*ᶠ◌, whole, ◌/10^◌}
 use Rattle.exact.specs.declared.Canister.TheVariants.{None}
-use Rattle.exact.specs.declared.Equipment.TheVariants.{Absent}
 use Rattle.exact.specs.declared.Season.{Season}
 use Rattle.exact.specs.declared.Row.{Row}
+use Rattle.exact.specs.Classes.{absent}
 use Rattle.exact.specs.Day.{signed_tenths}
 use Rattle.exact.specs.Canister.{a, b, size}
 use Rattle.exact.specs.Factors.{total}
@@ -112,7 +112,7 @@ row_demands s i =
     let row = row_at s i in
     let place = row_place s i in
     let code = u8_at s (place + 2) in
-    demand rule.Class place (¬ (equipment_at s place ≡ Absent)) next
+    demand rule.Class place (¬ (equipment_at s place ≡ absent)) next
     demand rule.CanisterCode place ((code ≤ 3) ⊎ (code ≡ 255)) next
     demand rule.Percent place (((row.carburettor ≤ percent_limit) × (row.hot ≤ percent_limit)) × (row.fill ≤ percent_limit)) next
     demand rule.Vehicles place (row.vehicles ≤ vehicles_limit) next

@@ -1,11 +1,10 @@
 -- "Where a sheet stops" as a function, numbers 1 to 21 of document 01 with numbers 24 to 26 of document 02. Demands has the same table in plain
 -- arithmetic; that both agree is proved as `sheet-says` in proofs/Conditions. Definitions only.
-use Rattle.std.specs.Prelude.{Bool, true, false, not, ◌&&◌, ◌||◌, List, ℕ, suc, zero, ◌+◌, ◌*◌, ltb, leb, eqb, length}
+use Rattle.std.specs.Prelude.{Bool, true, false, not, ◌&&◌, ◌||◌, List, Option, Some, None, ℕ, suc, zero, ◌+◌, ◌*◌, ltb, leb, eqb, length}
 use Rattle.numbers.specs.Fraction.{Fraction, ◌+ᶠ◌, negᶠ, ◌*ᶠ◌, whole, ◌/10^◌, ◌≤?◌}
 use Rattle.exact.specs.declared.Canister.{Canister}
-use Rattle.exact.specs.declared.Canister.TheVariants.{None, Small, Medium, Large}
-use Rattle.exact.specs.declared.Equipment.{Equipment}
-use Rattle.exact.specs.declared.Equipment.TheVariants.{Absent, Fitted}
+use Rattle.exact.specs.declared.Canister.TheVariants as canister
+use Rattle.exact.specs.declared.Fitted.{Fitted}
 use Rattle.exact.specs.declared.Season.{Season}
 use Rattle.exact.specs.declared.Row.{Row}
 use Rattle.exact.specs.Day.{signed_tenths}
@@ -76,9 +75,9 @@ season_check s i =
     refuse (outside vp_least vp_limit season.vp) rule.VapourPressure place
 
 -- "class and technology not in the table"
-unfoldable pub is_absent : Equipment → Bool
-is_absent Absent = true
-is_absent (Fitted c tank) = false
+unfoldable pub is_absent : Option Fitted → Bool
+is_absent None = true
+is_absent (Some e) = false
 
 -- "canister (0 none, 1 small, 2 medium, 3 large, 255 by class)"
 unfoldable pub code_wrong : ℕ → Bool
@@ -89,10 +88,10 @@ percent_wrong row = ltb percent_limit row.carburettor || ltb percent_limit row.h
 
 -- "load above m_sat, or a load or m_sat with no canister"; "Loads equal to m_sat pass."
 unfoldable pub load_wrong : Canister → ℕ → ℕ → Bool
-load_wrong None load saturation = ltb 0 load || ltb 0 saturation
-load_wrong Small load saturation = ltb saturation load
-load_wrong Medium load saturation = ltb saturation load
-load_wrong Large load saturation = ltb saturation load
+load_wrong canister.None load saturation = ltb 0 load || ltb 0 saturation
+load_wrong canister.Small load saturation = ltb saturation load
+load_wrong canister.Medium load saturation = ltb saturation load
+load_wrong canister.Large load saturation = ltb saturation load
 
 -- "at its highest temperature, a + b·s·m_sat above 3", or above another limit, for a canister of size s; m_sat in tenths of a gram
 unfoldable pub exponent_above : ℕ → Season → Fraction → ℕ → Bool
@@ -103,10 +102,10 @@ exponent_above limit season s saturation =
 
 -- "Rule 20 applies to rows with a canister only."
 unfoldable pub saturation_above : ℕ → Canister → ℕ → Season → Bool
-saturation_above limit None saturation season = false
-saturation_above limit Small saturation season = exponent_above limit season (size Small) saturation
-saturation_above limit Medium saturation season = exponent_above limit season (size Medium) saturation
-saturation_above limit Large saturation season = exponent_above limit season (size Large) saturation
+saturation_above limit canister.None saturation season = false
+saturation_above limit canister.Small saturation season = exponent_above limit season (size canister.Small) saturation
+saturation_above limit canister.Medium saturation season = exponent_above limit season (size canister.Medium) saturation
+saturation_above limit canister.Large saturation season = exponent_above limit season (size canister.Large) saturation
 
 -- "in some season" of the first n
 unfoldable pub some_season : (Season → Bool) → List ℕ → ℕ → Bool
@@ -115,10 +114,10 @@ some_season wrong s (suc n) = some_season wrong s n || wrong (season_at s n)
 
 -- "with no canister"
 unfoldable pub no_canister : Canister → Bool
-no_canister None = true
-no_canister Small = false
-no_canister Medium = false
-no_canister Large = false
+no_canister canister.None = true
+no_canister canister.Small = false
+no_canister canister.Medium = false
+no_canister canister.Large = false
 
 -- "a mileage above 1,000,000, or one above 0 with no canister, or beside a load, or where the left side of rule 20 is above 0"
 unfoldable pub mileage_wrong : List ℕ → Row → Bool

@@ -7,22 +7,20 @@ use native.Mathlib.Omega.{arith}
 use Rattle.exact.specs.declared.Season.{Season}
 use Rattle.exact.specs.declared.Row.{Row}
 use Rattle.sheet.specs.Limits.{mileage_limit}
-use Rattle.sheet.specs.Range.{RowInRange}
+use Rattle.refusals.specs.Check.{Pass}
+use Rattle.sheet.specs.Sheet.{sheet_check}
+use Rattle.sheet.specs.Range.{halves}
 use Rattle.sheet.specs.Versions.{version_of}
 use Rattle.sheet.specs.Bytes.{seasons_of, rows_of, season_at, row_at}
 use Rattle.sheet.proofs.Accepted.{Bytes, Accepted, accepted}
 use Rattle.sheet.proofs.InRange.{row-in-range}
-use Rattle.row_factors.specs.declared.season.AtSeason.{AtSeason}
-use Rattle.row_factors.specs.Season.{Lent}
+use Rattle.parking.specs.declared.season_list.SeasonList.{SeasonList}
+use Rattle.parking.specs.SeasonList.{ListReady}
+use Rattle.row_factors.specs.declared.season.Prepared.{Prepared}
+use Rattle.row_factors.specs.Season.{rises_of, SeasonReady, RowReady}
 use Rattle.row_factors.specs.Seven.{seven_units}
 use Rattle.masses.specs.Day.{UseInRange}
-use Rattle.sheet_factors.specs.Lent.{SheetLent}
-
--- what is computed once of an accepted sheet and one of its seasons, for all its rows
-pub record SeasonLent (s tables grid : List ℕ) (given : AtSeason) : Type 0 where
-  pub sheet : SheetLent s tables grid
-  pub lent : Lent tables grid given
-  pub rows_in : (i : ℕ) → i < rows_of s → RowInRange given.season (row_at s i)
+use Rattle.sheet_factors.specs.Ready.{SeasonOf}
 
 -- the shares and trips of row i
 pub use-in-range : {s : List ℕ} → Accepted s → {i : ℕ} → i < rows_of s → UseInRange (row_at s i)
@@ -37,10 +35,22 @@ mileage-within {s} a {i} there =
     elim (dec_le 3 (version_of s)) [ yes new ↦ (r.mileage new).0 | no old ↦ omega (arith, r.no-mileage (omega arith)) ]
 
 -- season j of the sheet, made ready for its rows
-pub season-lent : {s tables grid : List ℕ} {given : AtSeason} {j : ℕ} → Bytes s → SheetLent s tables grid → j < seasons_of s
-    → given.season ≡ season_at s j → Lent tables grid given → SeasonLent s tables grid given
-season-lent {s} bytes l there e lent =
-    record { sheet = l; lent = lent; rows_in = λ i row. rw e (row-in-range bytes (accepted s l.passes) row there) }
+pub season-of : {s counts : List ℕ} {made : Prepared} {j : ℕ} → Bytes s → sheet_check s ≡ Pass → made.at.season ≡ season_at s j
+    → SeasonReady counts made.at → made.rises ≡ rises_of made.at.season → j < seasons_of s → SeasonOf s counts j made
+season-of {s} bytes passes e ready rises there = record {
+  season-is = e;
+  ready = ready;
+  rises-are = rises;
+  rows_in = λ i row. rw e (row-in-range bytes (accepted s passes) row there);
+}
+
+-- so row i is ready, with the list of its parkings
+pub row-ready : {s counts : List ℕ} {made : Prepared} {list : SeasonList} {row : Row} {j i : ℕ} → SeasonOf s counts j made
+    → (0 < halves row.canister → ListReady counts made.rises list) → i < rows_of s → row ≡ row_at s i → RowReady counts list made.at.season row
+row-ready o listed there e = record {
+  row_in = rw e (o.rows_in _ there);
+  list-ready = λ some. rw o.rises-are at (listed some);
+}
 
 -- equal seasons, rows and cells have equal factors
 pub alike : {x y : Season} {r t : Row} {cells counts : List ℕ} → x ≡ y → r ≡ t → cells ≡ counts → seven_units x r cells ≡ seven_units y t counts

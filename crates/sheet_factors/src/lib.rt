@@ -2,5 +2,5 @@
 #![tactic(auto)]
 
 pub mod factors_at;
-pub mod kept;
-pub mod parkings;
+pub mod grid_sheet;
+pub mod sheet_rows;

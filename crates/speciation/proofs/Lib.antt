@@ -1,3 +1,4 @@
+pub mod Computed
 pub mod Telescope
 pub mod Promised
 pub mod Values

@@ -10,7 +10,8 @@ use Rattle.numbers.specs.Lists.{sum, at}
 use Rattle.numbers.proofs.Lists.{get_d-tab, sum-ext}
 use Rattle.speciation.specs.Table.{alkanes, alkenes, alkines, aromatics, table, shares}
 use Rattle.speciation.specs.Split.{all_shares, share_at, cumulated, part_of, species_mass, species_masses, SpeciesPromise}
-use Rattle.speciation.proofs.Telescope.{sum-grows, telescope}
+use Rattle.speciation.proofs.Telescope.{telescope}
+use Rattle.speciation.proofs.Computed.{alike}
 
 -- "Its printed shares sum to 10,001 hundredths of a percent": computed
 pub all-shares : cumulated 29 ≡ all_shares
@@ -21,8 +22,12 @@ pub cumulated-more : (i : ℕ) → cumulated (i + 1) ≡ cumulated i + share_at 
 unfolding sum
 cumulated-more i = rw add-one refl
 
+computed : (i : ℕ) → i < 30 → cumulated i + (all_shares - cumulated i) ≡ all_shares
+unfolding sum shares table alkanes alkenes alkines aromatics
+computed = alike (λ i. cumulated i + (all_shares - cumulated i)) (λ i. all_shares) 30 refl
+
 cumulated-most : (i : ℕ) → i ≤ 29 → cumulated i ≤ all_shares
-cumulated-most i h = rw all-shares at (sum-grows share_at i 29 h)
+cumulated-most i h = omega (arith, computed i (omega arith))
 
 -- a larger part is no smaller
 part-mono : (T c d : ℕ) → c ≤ d → part_of T c ≤ part_of T d
@@ -45,6 +50,14 @@ module _ (T : ℕ) where
       let t = telescope (λ (i : ℕ). part_of T (cumulated i)) 29 (λ i l. part-mono T _ _ (omega (arith, cumulated-more i))) in
       let all : part_of T (cumulated 29) ≡ T = rw all-shares (mul-div_cancel T (omega arith)) in
       omega (arith, t, all, part_none T)
+
+  -- so none gets more than T
+  pub mass-most : (i : ℕ) → i < 29 → species_mass T i ≤ T
+  unfolding species_mass
+  mass-most i h =
+      let l = part-mono T (cumulated (i + 1)) all_shares (cumulated-most (i + 1) (omega arith)) in
+      let all : part_of T all_shares ≡ T = mul-div_cancel T (omega arith) in
+      omega (arith, l, all)
 
   -- "none is further than one milligram from its exact share"
   not-above : (i : ℕ) → all_shares * species_mass T i ≤ T * share_at i + all_shares

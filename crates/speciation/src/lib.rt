@@ -6,7 +6,7 @@ ghost use Rattle.speciation.specs.Table.{shares};
 ghost use Rattle.speciation.specs.Split.{all_shares, part_of, species_masses, SpeciesPromise};
 
 // Table 3-14 in printed order, in hundredths of a percent.
-const SHARES: [u64; 29] = [
+static SHARES: [u64; 29] = [
     // alkanes
     30, 515, 438, 586, 1069, 772, 1402, 2514, 202, 165,
     // alkenes
@@ -20,19 +20,12 @@ const SHARES: [u64; 29] = [
 // What they sum to, and so what a share is out of.
 const ALL_SHARES: u64 = 10001;
 
-// The table, built once for all species.
-fn share_table() -> [u64; 29]
-    ensures { result ≡ shares }
-{
-    SHARES
-}
-
-// The whole part of total · c / 10,001. Since c is at most 10,001, each product fits.
+// The whole part of total · c / 10,001. The product has 128 bits, and since c is at most 10,001 the quotient has 64.
 fn part_of(total: u64, c: u64) -> u64
     requires { c ≤ all_shares }
     ensures { result ≡ part_of total c }
 {
-    total / ALL_SHARES * c + total % ALL_SHARES * c / ALL_SHARES
+    (total as u128 * c as u128 / ALL_SHARES as u128) as u64
 }
 
 // What a species gets, from the sum of the shares before it and its own.
@@ -47,10 +40,9 @@ fn mass_of(total: u64, before: u64, share: u64) -> u64
 pub fn split(total: u64) -> [u64; 29]
     ensures { (result ≡ species_masses total) × SpeciesPromise total result }
 {
-    let table = share_table();
     let mut masses = [0u64; 29];
     let mut before: u64 = 0;
-    for (i, &share) in table.iter().enumerate() {
+    for (i, &share) in SHARES.iter().enumerate() {
         masses[i] = mass_of(total, before, share);
         before += share;
     }

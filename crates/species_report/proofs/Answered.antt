@@ -5,11 +5,10 @@ use mathlib.Core.List.{List}
 use mathlib.Core.Path.{◌≡◌, refl, sym, ◌∙◌, ap}
 use Prim.Native.Nat.{ℕ, ◌+◌, ◌*◌, ◌≤◌, ◌<◌}
 use native.Mathlib.Omega.{arith}
-use lib.ListN.{length, replicate}
+use lib.ListN.{length}
 use Rattle.numbers.specs.Lists.{at}
-use Rattle.numbers.proofs.Lists.{tab-length}
 use Rattle.refusals.specs.declared.Refusal.{Refusal}
-use Rattle.refusals.specs.Check.{Check, Pass, number_of}
+use Rattle.refusals.specs.Check.{Answer, Check, Pass}
 use Rattle.sheet.specs.Bytes.{rows_of}
 use Rattle.sheet.proofs.Accepted.{Accepted}
 use Rattle.sheet.proofs.Versions.{start_between}
@@ -19,9 +18,8 @@ use Rattle.report_words.proofs.ReportPlaces.{report-length, total-at}
 use Rattle.inventory.specs.ReportCall.{ReportCall}
 use Rattle.inventory.specs.ReportAnswers.{report_check}
 use Rattle.inventory.proofs.CallConditions.{report-accepted}
-use Rattle.refusals.proofs.Numbers.{zero-passes}
 use Rattle.inventory.proofs.Written.{written-first, written-length}
-use Rattle.speciation.specs.Split.{species_mass, species_masses, SpeciesPromise}
+use Rattle.speciation.specs.Split.{species_masses, SpeciesPromise}
 use Rattle.species_report.specs.declared.composition.Composition.{Composition}
 use Rattle.species_report.specs.Composition.{high_total, composition_answered, composition, CompositionCall}
 
@@ -30,25 +28,18 @@ module _ {s old words : List ℕ} {check : Check} (a : ReportCall s old words ch
   unfolding composition
   answer-of = ap (λ (c : Check). composition_answered c s) a.answer-is
 
-  -- number 0 is that of an accepted sheet alone
-  zero-passed : number_of check ≡ 0 → check ≡ Pass
-  zero-passed zero =
-      a.answer-is ∙
-      zero-passes (report_check s (length old)) (rw a.answer-is at zero)
-
   -- A refused sheet.
-  pub refusal_is : {refusal : Refusal} → check ≡ Err refusal
-      → CompositionCall s old words (record { check = check; total = 0; milligrams = replicate 29 0 })
+  pub refusal_is : {refusal : Refusal} → check ≡ Err refusal → CompositionCall s old words (Err refusal)
   unfolding composition_answered
   refusal_is {refusal} e = record {
-    answer-is = rw e refl ∙ ap (λ (c : Check). composition_answered c s) (sym e) ∙ answer-of;
-    reported = a;
-    total-is = λ zero. none zero;
-    promise = λ zero. none zero;
+    answer-is = rw e at answer-of;
+    reported = rw a.answer-is at a;
+    total-is = λ c h. none h;
+    promise = λ c h. none h;
   }
     where
-      none : {A : Type 0} → number_of check ≡ 0 → A
-      none zero = let p = zero-passed zero in let clash : ◌≡◌ {A = ℕ} 0 1 = cc in absurd (omega arith)
+      none : {c : Composition} {A : Type 0} → ◌≡◌ {A = Answer Composition} (Err refusal) (Ok c) → A
+      none h = let clash : ◌≡◌ {A = ℕ} 0 1 = cc in absurd (omega arith)
 
   -- An accepted one.
   module _ (passed : check ≡ Pass) where
@@ -74,22 +65,30 @@ module _ {s old words : List ℕ} {check : Check} (a : ReportCall s old words ch
 
     pub species-are : {total : ℕ} {masses : List ℕ}
         → total ≡ at words (6 * rows_of s + 25) → masses ≡ species_masses total → SpeciesPromise total masses
-        → CompositionCall s old words (record { check = check; total = total; milligrams = masses })
+        → CompositionCall s old words (Ok (record { total = total; milligrams = masses }))
     unfolding composition_answered
     species-are {total} {masses} t m p = record {
-      answer-is = rw (passed, m, t ∙ last_word) refl ∙ ap (λ (c : Check). composition_answered c s) (sym passed) ∙ answer-of;
-      reported = a;
-      total-is = λ _. t;
-      promise = λ _. p;
+      answer-is = rw (m, t ∙ last_word) (rw passed at answer-of);
+      reported = rw a.answer-is at a;
+      total-is = λ c h. let same = of_ok h in rw (← same) t;
+      promise = λ c h. let same = of_ok h in rw (← same) p;
     }
+      where
+        of_ok : {b c : Composition} → ◌≡◌ {A = Answer Composition} (Ok b) (Ok c) → b ≡ c
+        of_ok h = cc
 
--- There are 29 masses, of a refused sheet too.
-answered-length : (check : Check) (s : List ℕ) → length (composition_answered check s).milligrams ≡ 29
-unfolding composition_answered species_masses
-answered-length (Ok _) s = tab-length (species_mass (high_total s)) 29
-answered-length (Err refusal) s = refl
+-- Of an accepted sheet there is the head, and the species are those of the total.
+accepted-check : (check : Check) (s : List ℕ) (c : Composition) → composition_answered check s ≡ Ok c
+    → (check ≡ Pass) × (c.milligrams ≡ species_masses c.total)
+unfolding composition_answered
+accepted-check (Ok _) s c e =
+    let made : ◌≡◌ {A = Composition} (record { total = high_total s; milligrams = species_masses (high_total s) }) c = cc in
+    (refl, rw (← made) refl)
+accepted-check (Err refusal) s c e = let clash : ◌≡◌ {A = ℕ} 0 1 = cc in absurd (omega arith)
 
-pub species-length : {s old words : List ℕ} {found : Composition} → CompositionCall s old words found → length found.milligrams ≡ 29
+pub species-found : {s old words : List ℕ} {found : Answer Composition} → CompositionCall s old words found
+    → (c : Composition) → found ≡ Ok c → (8 ≤ length s) × (c.milligrams ≡ species_masses c.total)
 unfolding composition
-species-length {s} {old} a =
-    ap (λ (found : Composition). length found.milligrams) a.answer-is ∙ answered-length (report_check s (length old)) s
+species-found {s} {old} a c e =
+    let made = accepted-check (report_check s (length old)) s c (sym a.answer-is ∙ e) in
+    (head-there a.reported made.0, made.1)

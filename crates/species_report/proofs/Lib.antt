@@ -1,6 +1,4 @@
 pub mod Answered
-pub mod Computed
-pub mod NameParts
 pub mod SpeciesLaws
 pub mod SpeciesSizes
 pub mod SpeciesEnds

@@ -10,7 +10,7 @@ use Rattle.text.specs.Decimal.{digits}
 use Rattle.text.proofs.LineEnds.{line_feeds, feeds-append, digits-feeds, pair-feeds, Ended, ended-behind}
 use Rattle.speciation.specs.Table.{alkanes, alkenes, alkines, aromatics, table, names}
 use Rattle.species_report.specs.Lines.{total_line, name_at, species_line, species_lines, composition_lines}
-use Rattle.species_report.proofs.Computed.{alike}
+use Rattle.speciation.proofs.Computed.{alike}
 
 -- no name has one
 name-feeds : (i : ℕ) → i < 29 → line_feeds (name_at i) ≡ 0

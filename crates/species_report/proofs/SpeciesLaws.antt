@@ -1,22 +1,28 @@
--- One species more.
+-- One species more, whose name stands in the code's table.
 -- Assumes nothing.
 use mathlib.Core.List.{List, ◌++◌}
-use mathlib.Core.Path.{◌≡◌}
-use Prim.Native.Nat.{ℕ, suc, zero, ◌+◌, ◌≤◌}
-use native.Mathlib.Nat.{le_dest, add-zero, add-suc}
+use mathlib.Core.Path.{◌≡◌, sym, ◌∙◌, ap}
+use Prim.Native.Nat.{ℕ, ◌+◌, ◌<◌}
 use native.Mathlib.Numerals.{add-one}
-use Rattle.text.specs.Put.{Room}
-use Rattle.text.proofs.Putting.{room-first}
-use Rattle.species_report.specs.Lines.{species_line, species_lines}
+use Rattle.std.proofs.Common.{Bor, get_or}
+use Rattle.numbers.specs.Lists.{at}
+use Rattle.text.specs.Ascii.{bytes}
+use Rattle.text.specs.Decimal.{digits}
+use Rattle.species_report.specs.Lines.{name_at, species_line, species_lines}
+use Rattle.speciation.proofs.Computed.{first, alike}
 
-pub species-more : (masses : List ℕ) (i : ℕ) → species_lines masses (i + 1) ≡ species_lines masses i ++ species_line masses i
+species-more : (masses : List ℕ) (i : ℕ) → species_lines masses (i + 1) ≡ species_lines masses i ++ species_line masses i
 unfolding species_lines
 species-more masses i = rw add-one
 
--- where the end of the lines of n species can be counted, so can that of fewer
-pub room-species : {at : ℕ} (masses : List ℕ) (i n : ℕ) → i ≤ n → Room at (species_lines masses n) → Room at (species_lines masses i)
-room-species masses i n h r = let (d, e) = le_dest h in go d (rw (← e) at r)
-  where
-    go : {at : ℕ} (d : ℕ) → Room at (species_lines masses (i + d)) → Room at (species_lines masses i)
-    go zero r = rw (add-zero i) at r
-    go (suc d) r = go d (room-first _ _ (rw (species-more masses (i + d)) at (rw (add-suc i d, ← add-one (i + d)) at r)))
+-- a table of names that is computed to be this one
+pub named : (table : List (Bor (List ℕ))) (d : Bor (List ℕ)) (i : ℕ) → i < 29
+    → first (λ k. (get_or table k d).now) 29 ≡ first name_at 29 → (get_or table i d).now ≡ name_at i
+named table d i h e = alike (λ k. (get_or table k d).now) name_at 29 e i h
+
+pub species-behind : (masses : List ℕ) (i : ℕ) {name : List ℕ} → i < 29 → name ≡ name_at i
+    → species_lines masses i ++ (name ++ bytes " " ++ digits (at masses i) ++ bytes "\n") ≡ species_lines masses (i + 1)
+unfolding species_line
+species-behind masses i h e =
+    ap (λ (name : List ℕ). species_lines masses i ++ (name ++ bytes " " ++ digits (at masses i) ++ bytes "\n")) e ∙
+    sym (species-more masses i)

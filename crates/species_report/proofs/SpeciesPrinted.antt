@@ -1,82 +1,55 @@
 -- The text of a sheet's species: how long it is at most, and where it stands.
 -- Assumes nothing.
-use Rattle.std.proofs.Common.{Err}
+use Rattle.std.proofs.Common.{Ok, Err}
 use mathlib.Core.List.{List}
-use mathlib.Core.Path.{◌≡◌, refl, sym, ◌∙◌, ap}
+use mathlib.Core.Path.{◌≡◌, refl, ◌∙◌, ap}
 use Prim.Native.Nat.{ℕ, ◌^◌, ◌≤◌, ◌<◌}
 use native.Mathlib.Omega.{arith}
 use lib.ListN.{length, take}
 use Rattle.refusals.specs.Rule.{number}
 use Rattle.refusals.specs.declared.Refusal.{Refusal}
-use Rattle.refusals.specs.Check.{Check, Pass}
-use Rattle.sheet.proofs.Versions.{start_between}
-use Rattle.inventory.specs.ReportCall.{ReportCall}
-use Rattle.inventory.specs.ReportAnswers.{report_check}
-use Rattle.inventory.proofs.CallConditions.{report-accepted}
+use Rattle.refusals.specs.Check.{Answer}
+use Rattle.sheet.specs.Versions.{version_of}
 use Rattle.text.specs.Lines.{refusal_line}
-use Rattle.text.specs.Put.{Room, Put}
-use Rattle.text.proofs.Putting.{put_front}
-use Rattle.text.proofs.LineSizes.{refusal-most}
-use Rattle.report_text.proofs.Printed.{printed-fits, printed-short, printed-first}
+use Rattle.text.specs.Whole.{printed}
+use Rattle.text.proofs.Printed.{printed-first}
+use Rattle.text.proofs.LineSizes.{Words, refusal-most}
 use Rattle.species_report.specs.declared.composition.Composition.{Composition}
 use Rattle.species_report.specs.Composition.{CompositionCall}
-use Rattle.species_report.specs.SpeciesText.{lines_of, text_of, species_text, lines_most, SpeciesTextCall}
+use Rattle.species_report.specs.Lines.{composition_lines}
+use Rattle.species_report.proofs.SpeciesSizes.{composition-most}
+use Rattle.species_report.specs.SpeciesText.{lines_of, species_text, lines_most, SpeciesTextCall}
 
 -- The line of a refusal.
-pub refusal_is : (total : ℕ) (masses s : List ℕ) {refusal : Refusal} {check : Check} → check ≡ Err refusal
-    → refusal_line (number refusal.rule) refusal.place ≡ lines_of check total masses s
+pub refusal_is : (s : List ℕ) (refusal : Refusal) → refusal_line (number refusal.rule) refusal.place ≡ lines_of (Err refusal) s
 unfolding lines_of
-refusal_is total masses s e = rw e refl
+refusal_is s refusal = refl
 
-pub refusal-short : (number place : ℕ) → number < 2 ^ 64 → place < 2 ^ 64 → length (refusal_line number place) ≤ lines_most
-refusal-short number place n p = omega (arith, refusal-most number place n p)
+pub refusal-short : (s : List ℕ) (refusal : Refusal) → refusal.place < 2 ^ 64 → length (lines_of (Err refusal) s) ≤ lines_most
+unfolding lines_of
+refusal-short s refusal p = omega (arith, refusal-most refusal p)
 
--- the end of such a text can be counted, and it is no longer
-pub room : {text : List ℕ} → length text ≤ lines_most → Room 0 text
-room h = record { fits = omega arith }
+-- The lines of an accepted sheet.
+pub lines-made : (s : List ℕ) (c : Composition) {version : ℕ} → version ≡ version_of s
+    → composition_lines version c.total c.milligrams ≡ lines_of (Ok c) s
+unfolding lines_of
+lines-made s c e = rw e refl
 
-pub end-most : {old text new : List ℕ} {end : ℕ} → length text ≤ lines_most → Put old 0 text new end → end ≤ lines_most
-end-most h a = omega (arith, a.end_is)
+pub lines-short : (s : List ℕ) (c : Composition) {version : ℕ} → version ≡ version_of s → Words c.milligrams → version < 2 ^ 64 → c.total < 2 ^ 64
+    → length (lines_of (Ok c) s) ≤ lines_most
+lines-short s c {version} e each v t = rw (← lines-made s c e) (composition-most c.milligrams each version c.total v t)
 
-module _ {s old words : List ℕ} {found : Composition} (a : CompositionCall s old words found) where
-  -- an accepted sheet has its head
-  pub head-there : found.check ≡ Pass → 8 ≤ length s
-  head-there passed =
-      let there = (report-accepted s (length old) (sym a.reported.answer-is ∙ passed)).0 in
-      omega (arith, there.length-is, start_between s)
-
-  -- What holds after the call, where the text was first put into a buffer of no byte.
-  module _ {none between : List ℕ} {size : ℕ} (counted : Put none 0 (text_of found s) between size × (size ≤ lines_most)) where
-    text-is : text_of found s ≡ species_text s (length old)
-    unfolding species_text
-    text-is = ap (λ (f : Composition). text_of f s) a.answer-is
-
-    size_is : size ≡ length (species_text s (length old))
-    size_is = rw (← text-is) (omega (arith, counted.0.end_is))
-
-    words_are : ReportCall s old words (report_check s (length old))
-    words_are = rw a.reported.answer-is at a.reported
-
-    -- it does not fit
-    pub text-kept : {before : List ℕ} → length before < size → SpeciesTextCall s old words before before size
-    text-kept {before} h = record {
-      reported = words_are;
-      length-is = size_is;
-      text-is = sym (printed-short (species_text s (length old)) before (omega (arith, size_is)));
-      length_most = counted.1;
-    }
-
-    -- it fits
-    pub text-put : {before out : List ℕ} {end : ℕ} → size ≤ length before → Put before 0 (text_of found s) out end
-        → SpeciesTextCall s old words before out end
-    text-put {before} h put =
-        let short : length (species_text s (length old)) ≤ length before = omega (arith, size_is) in
-        record {
-          reported = words_are;
-          length-is = rw (← text-is) (omega (arith, put.end_is));
-          text-is = put_front short (rw text-is at put) ∙ sym (printed-fits (species_text s (length old)) before short);
-          length_most = omega (arith, put.end_is, counted.0.end_is, counted.1);
-        }
+-- What holds after the call, where the text of these lines was written whole.
+pub text-call : {s old words before out : List ℕ} {found : Answer Composition} {size : ℕ} → CompositionCall s old words found
+    → size ≡ length (lines_of found s) → length (lines_of found s) ≤ lines_most → out ≡ printed (lines_of found s) before
+    → SpeciesTextCall s old words before out size
+unfolding species_text
+text-call {s} {old} a size_is most written = record {
+  reported = a.reported;
+  length-is = rw a.answer-is at size_is;
+  text-is = rw a.answer-is at written;
+  length_most = omega (arith, size_is, most);
+}
 
 -- In a buffer that is long enough for any text, as many bytes at the front as the call answers are the text.
 pub text-first : {s old words before out : List ℕ} {r : ℕ} → SpeciesTextCall s old words before out r → lines_most ≤ length before

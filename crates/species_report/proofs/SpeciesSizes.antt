@@ -6,17 +6,27 @@ use Prim.Native.Nat.{ℕ, suc, zero, ◌+◌, ◌*◌, ◌-◌, ◌^◌, ◌≤�
 use native.Mathlib.Omega.{arith}
 use lib.ListN.{length, length-append}
 use Rattle.numbers.specs.Lists.{at}
+use Rattle.numbers.proofs.Lists.{tab-at-most}
+use Rattle.speciation.specs.Split.{species_mass, species_masses}
+use Rattle.speciation.proofs.Promised.{mass-most}
 use Rattle.text.specs.Ascii.{bytes}
 use Rattle.text.proofs.Digits.{word-digits}
 use Rattle.text.proofs.LineSizes.{Words, pair-most}
 use Rattle.speciation.specs.Table.{alkanes, alkenes, alkines, aromatics, table, names}
 use Rattle.species_report.specs.Lines.{total_line, name_at, species_line, species_lines, composition_lines}
-use Rattle.species_report.proofs.Computed.{alike}
+use Rattle.speciation.proofs.Computed.{alike}
 
 -- no name has more than 22 bytes
 name-most : (i : ℕ) → i < 29 → length (name_at i) + (22 - length (name_at i)) ≡ 22
 unfolding name_at names table alkanes alkenes alkines aromatics
 name-most = alike (λ i. length (name_at i) + (22 - length (name_at i))) (λ i. 22) 29 refl
+
+-- no species has more than the total
+pub masses-words : {total : ℕ} {masses : List ℕ} → masses ≡ species_masses total → total < 2 ^ 64 → Words masses
+unfolding species_masses
+masses-words {total} {masses} e h =
+    let most = tab-at-most (species_mass total) 29 e (mass-most total) in
+    record { word = λ k. omega (arith, most.at_most k) }
 
 module _ (masses : List ℕ) (words : Words masses) where
   line-most : (i : ℕ) → i < 29 → length (species_line masses i) ≤ 44

@@ -1,4 +1,4 @@
 pub mod Composition
 pub mod Lines
-pub mod Names
+pub mod Made
 pub mod SpeciesText

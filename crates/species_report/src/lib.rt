@@ -1,51 +1,45 @@
 // From the bytes of a sheet to the bytes that are printed for its species.
 #![tactic(auto)]
 
-ghost use Rattle.std.specs.Prelude.{◌≡◌, ◌≤◌, length};
-ghost use Rattle.refusals.specs.Check.{Pass};
-ghost use Rattle.text.specs.Put.{Put};
+ghost use Rattle.std.specs.Prelude.{◌≡◌, ◌≤◌, ◌<◌, length, Ok, IfOk};
+ghost use Rattle.std.specs.Result.{MatchResult};
+ghost use Rattle.speciation.specs.Split.{species_masses};
+ghost use Rattle.text.specs.Whole.{length_of, text_or_refusal};
+ghost use Rattle.species_report.specs.declared.composition.Composition.{Composition};
+ghost use Rattle.species_report.specs.Made.{LinesThere, lines_text};
 ghost use Rattle.species_report.specs.SpeciesText.{lines_of, lines_most, SpeciesTextCall};
 
-use crate::composition::species_of;
-use crate::lines::put_composition;
+use crate::composition::{Composition, species_of};
+use crate::lines::SpeciesLines;
 use fields::version_of;
-use refusals::Check;
-use text::lines::put_refusal;
+use refusals::Refusal;
+pub use text::whole::length_of;
+use text::whole::write_whole;
 
 pub mod composition;
 mod lines;
 
-// The lines of an accepted sheet, as far as the buffer reaches.
-fn put_accepted(out: &mut [u8], s: &[u8], total: u64, masses: &[u64]) -> usize
-    requires { (8 ≤ length s.now) × (29 ≤ length masses.now) }
-    ensures { Put out.old 0 (lines_of Pass total masses.now s.now) out.new result × (result ≤ lines_most) }
+// What the text of a sheet is made from whose species were asked for.
+fn lines_of(s: &[u8], found: Result<Composition, Refusal>) -> Result<SpeciesLines, Refusal>
+    requires { (c : Composition) → found ≡ Ok c → (8 ≤ length s.now) × (c.milligrams ≡ species_masses c.total) }
+    ensures there { IfOk result LinesThere }
+    ensures text { text_or_refusal lines_text result ≡ lines_of found s.now }
+    ensures most { length (lines_of found s.now) ≤ lines_most }
 {
-    put_composition(out, version_of(s), total, masses)
-}
-
-// The text of a sheet that was checked, as far as the buffer reaches.
-fn put_text(out: &mut [u8], s: &[u8], check: Check, total: u64, masses: &[u64]) -> usize
-    requires { (check ≡ Pass → 8 ≤ length s.now) × (29 ≤ length masses.now) }
-    ensures { Put out.old 0 (lines_of check total masses.now s.now) out.new result × (result ≤ lines_most) }
-{
-    match check {
-        Err(refusal) => put_refusal(out, refusal.rule.number(), refusal.place),
-        Ok(()) => put_accepted(out, s, total, masses),
-    }
+    let composition = found?;
+    Ok(SpeciesLines {
+        version: version_of(s),
+        composition,
+    })
 }
 
 // The text that is printed for the species of a sheet, at the front of a buffer that it fits; the words are left as the report call leaves
-// them. Answers the length of the text. Where this is more than the buffer has, the buffer is left as it is.
-pub fn species_text(s: &[u8], words: &mut [u64], out: &mut [u8]) -> usize
-    ensures { SpeciesTextCall s.now words.old words.new out.old out.new result }
+// them. The length of the text is returned, as an error where the buffer has less: it is then left as it is.
+// The sheet and the words are two slices, as for `species_of`.
+pub fn species_text(s: &[u8], words: &mut [u64], out: &mut [u8]) -> Result<usize, usize>
+    ensures call { SpeciesTextCall s.now words.old words.new out.old out.new (length_of result) }
+    ensures answer { MatchResult result (λ n. n ≤ length out.old) (λ n. length out.old < n) }
 {
     let found = species_of(s, words);
-    let check = found.check;
-    let masses = found.milligrams;
-    let mut none = [0u8; 0];
-    let length = put_text(&mut none, s, check, found.total, &masses);
-    if out.len() < length {
-        return length;
-    }
-    put_text(out, s, check, found.total, &masses)
+    write_whole(&lines_of(s, found), out)
 }

@@ -1,8 +1,7 @@
 -- Need not be believed: the computed starting load, that is which whole number the program's starting load is.
 -- The starting load m is the net load G and the loss at m: m = G + E(a + b·s·m). With y = E(a + b·s·G) that loss is y·Θ(b·s·y).
 -- Loads are in units of 2⁻⁴⁰ g; a + 16 and 2·b·s are in units of 2⁻⁴⁴.
-use Rattle.std.specs.Prelude.{List, ℕ, ◌+◌, ◌*◌, ◌/◌, ◌^◌, min}
-use Rattle.numbers.specs.Lists.{tab, at}
+use Rattle.std.specs.Prelude.{ℕ, ◌+◌, ◌*◌, ◌/◌, ◌^◌, min}
 use Rattle.bounds.specs.Short.{short, line_of}
 use Rattle.bounds.specs.Theta.{theta}
 
@@ -21,7 +20,3 @@ loaded a k σ l = min σ (l + loss k (short (line_of a k l) / 2 ^ 4))
 -- the starting load for any net load
 abbrev pub start : ℕ → ℕ → ℕ → ℕ → ℕ
 start a k σ G = loaded a k σ (min σ G)
-
--- at each of the 25 temperatures of a day
-abbrev pub starts_at : List ℕ → List ℕ → ℕ → ℕ → List ℕ
-starts_at bases growths σ G = tab (λ (d : ℕ). start (at bases d) (at growths d) σ G) 25

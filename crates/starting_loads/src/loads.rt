@@ -1,14 +1,11 @@
 // The load that a canister starts with, from its net load, in units of 2^-40 g: the starting load m is the net load G and the loss at m.
 // With y = E(a + b s G) that loss is y Θ(b s y).
-ghost use Rattle.std.specs.Prelude.{◌≡◌, ℕ, ◌*◌, ◌^◌, ◌≤◌};
-ghost use Rattle.bounds.specs.Exponential.{entries};
-ghost use Rattle.starting_loads.specs.Loss.{feedback, loss, loaded, starts_at};
-ghost use Rattle.starting_loads.specs.Balance.{BalanceReady, BalancesReady};
+ghost use Rattle.std.specs.Prelude.{◌≡◌, ◌*◌, ◌^◌, ◌≤◌};
+ghost use Rattle.starting_loads.specs.Loss.{feedback, loss, loaded, start};
+ghost use Rattle.starting_loads.specs.Balance.{BalanceReady};
 
-use bounds::exp::ExpTables;
 use bounds::short::{line, short};
 use bounds::theta::theta;
-use std::array;
 
 // A row's canister at one temperature.
 #[derive(Clone, Copy)]
@@ -38,41 +35,27 @@ fn feedback(growth: u64, y: u64) -> u64
 }
 
 // The loss at the starting load, where y is the loss at the net load.
-fn loss(tables: &ExpTables, growth: u64, y: u64) -> u64
-    requires { (tables.now ≡ entries) × (growth ≤ 2 ^ 43) × (y ≤ 2 ^ 32) }
+fn loss(growth: u64, y: u64) -> u64
+    requires { (growth ≤ 2 ^ 43) × (y ≤ 2 ^ 32) }
     ensures { (result ≡ loss growth y) × (result ≤ 2 ^ 41) }
 {
-    y * theta(tables, feedback(growth, y)) / FROM_Q63_TO_Q40
+    y * theta(feedback(growth, y)) / FROM_Q63_TO_Q40
 }
 
 // The starting load for this net load, which is at most the saturating load.
-fn loaded(tables: &ExpTables, c: Balance, net: u64) -> u64
-    requires { (tables.now ≡ entries) × BalanceReady c × (net ≤ c.saturation) }
+fn loaded(c: Balance, net: u64) -> u64
+    requires { BalanceReady c × (net ≤ c.saturation) }
     ensures { result ≡ loaded c.base c.growth c.saturation net }
 {
     let x = line(c.base, c.growth, net);
-    let y = short(tables, x) / FROM_Q36_TO_Q32;
-    c.saturation.min(net + loss(tables, c.growth, y))
+    let y = short(x) / FROM_Q36_TO_Q32;
+    c.saturation.min(net + loss(c.growth, y))
 }
 
-// The starting loads at the 25 temperatures of a day, for a canister with these values of `Balance`.
-pub fn starts(
-    tables: &ExpTables,
-    bases: &[u64; 25],
-    growths: &[u64; 25],
-    saturation: u64,
-    net: u64,
-) -> [u64; 25]
-    requires { (tables.now ≡ entries) × BalancesReady bases.now growths.now saturation }
-    ensures { result ≡ starts_at bases.now growths.now saturation net }
+// The starting load for any net load.
+pub fn start(c: Balance, net: u64) -> u64
+    requires { BalanceReady c }
+    ensures { result ≡ start c.base c.growth c.saturation net }
 {
-    let first = saturation.min(net);
-    array::from_fn(|d| {
-        let c = Balance {
-            base: bases[d],
-            growth: growths[d],
-            saturation,
-        };
-        loaded(tables, c, first)
-    })
+    loaded(c, c.saturation.min(net))
 }

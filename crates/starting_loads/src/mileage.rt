@@ -1,11 +1,9 @@
 // The net load that a mileage implies, that is the starting load less the loss at it, in units of 2^-40 g.
 ghost use Rattle.std.specs.Prelude.{◌≡◌, ◌*◌, ◌^◌, ◌<◌, ◌≤◌};
-ghost use Rattle.bounds.specs.Exponential.{entries};
 ghost use Rattle.thresholds.specs.Thresholds.{first_kilometres};
 ghost use Rattle.starting_loads.specs.Net.{net, net_of};
 
-use bounds::exp::ExpTables;
-use thresholds::log_lower;
+use thresholds::Mileage;
 
 // 22.92 in units of 10^-16.
 const OFFSET: u64 = 229200000000000000;
@@ -25,9 +23,9 @@ fn net_from(y: u64, halves: u64) -> u64
 }
 
 // The net load of a canister with 2 s = halves.
-pub fn net(tables: &ExpTables, mileage: u64, halves: u64) -> u64
-    requires { (tables.now ≡ entries) × (first_kilometres ≤ mileage) × (mileage ≤ 10 ^ 6) × (0 < halves) }
-    ensures { (result ≡ net_of halves mileage) × (result < 2 ^ 50) }
+pub fn net(mileage: Mileage, halves: u64) -> u64
+    requires { (first_kilometres ≤ mileage.kilometres) × (0 < halves) }
+    ensures { (result ≡ net_of halves mileage.kilometres) × (result < 2 ^ 50) }
 {
-    net_from(log_lower(tables, mileage), halves)
+    net_from(mileage.log_lower(), halves)
 }

@@ -1,6 +1,6 @@
 pub mod Putting
 pub mod Digits
-pub mod Numbers
+pub mod Printed
 pub mod LineLaws
 pub mod LineSizes
 pub mod LineEnds

@@ -6,6 +6,11 @@ use native.Mathlib.Nat.{min-le_left}
 use native.Mathlib.Omega.{arith}
 use lib.ListN.{length, get_or, take, drop, length-append, length-take}
 use lib.Seq.{get_or-drop}
+use borrow.Enum.Match.{tag_small}
+use Rattle.refusals.specs.contracts.Rule.{the_type}
+use Rattle.refusals.specs.declared.Refusal.{Refusal}
+use Rattle.refusals.specs.Rule.{number}
+use Rattle.refusals.proofs.Numbers.{number-is}
 use Rattle.text.specs.Ascii.{bytes}
 use Rattle.text.specs.Decimal.{digits}
 use Rattle.text.specs.Lines.{field, fields, line, pair_line, between, head_line, row_line, row_lines, sum_lines, report_lines, refusal_line}
@@ -85,7 +90,9 @@ report-most version rows words v r w =
     simp length-append
     (omega (arith, pair-most (bytes "EVP ") version (bytes " rows ") rows v r, rows-most words rows w r, sums-most words (6 * rows) w))
 
--- the line of a refused one
-pub refusal-most : (number place : ℕ) → number < 2 ^ 64 → place < 2 ^ 64 → length (refusal_line number place) ≤ 53
+-- the line of a refused one, whose number is at most 32
+pub refusal-most : (refusal : Refusal) → refusal.place < 2 ^ 64 → length (refusal_line (number refusal.rule) refusal.place) ≤ 53
 unfolding refusal_line
-refusal-most number place n p = pair-most (bytes "refused ") number (bytes " at ") place n p
+refusal-most refusal p =
+    pair-most (bytes "refused ") (number refusal.rule) (bytes " at ") refusal.place
+    (omega (arith, number-is refusal.rule, tag_small the_type refusal.rule)) p

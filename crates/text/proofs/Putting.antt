@@ -2,60 +2,67 @@
 -- Assumes nothing.
 use mathlib.Core.List.{List, [], ◌∷◌, ◌++◌}
 use mathlib.Core.Path.{◌≡◌, refl, sym, ◌∙◌, ap}
-use Prim.Native.Nat.{ℕ, suc, ◌+◌, ◌≤◌, ◌<◌}
-use native.Mathlib.Numerals.{add-one}
+use Prim.Native.Nat.{ℕ, suc, ◌+◌, ◌-◌, ◌^◌, ◌≤◌, ◌<◌}
+use native.Mathlib.Decide.{dec_le}
 use native.Mathlib.Omega.{arith}
-use lib.ListN.{length, set, drop, take, get_or, length-append}
-use lib.Seq.{sets, sets-eq, length-sets, set_out, take-suc}
-use Rattle.text.specs.Put.{Room, Put}
+use lib.ListN.{length, set, drop, length-append}
+use lib.Seq.{sets, sets-eq, length-sets, set_out}
+use Rattle.std.specs.Prelude.{min}
+use Rattle.text.specs.declared.writer.Writer.{Writer}
+use Rattle.text.specs.Put.{Put}
 
+-- std's `sets-eq` asks that the text fits; here it need not
 sets-append : (out : List ℕ) (at : ℕ) (first next : List ℕ) → sets (sets out at first) (at + length first) next ≡ sets out at (first ++ next)
 sets-append out at [] next = ap (λ (k : ℕ). sets out k next) {x = at + 0} {y = at} (omega arith)
 sets-append out at (byte ∷ first) next =
     ap (λ (k : ℕ). sets (sets (set out at byte) (suc at) first) k next) {x = at + suc (length first)} {y = suc at + length first} (omega arith) ∙
     sets-append (set out at byte) (suc at) first next
 
--- no text
-pub put-none : (out : List ℕ) (at : ℕ) → Put out at [] out at
-put-none out at = record { new_is = refl; end_is = omega arith }
+-- nothing is written behind the buffer's end
+sets-past : (out : List ℕ) (at : ℕ) (text : List ℕ) → length out ≤ at → sets out at text ≡ out
+sets-past out at [] h = refl
+sets-past out at (byte ∷ text) h = rw (set_out out at byte h) (sets-past out (suc at) text (omega arith))
 
--- one byte, which is written or stands past the buffer's end
-pub put_one : (out : List ℕ) (at byte : ℕ) → Put out at (byte ∷ []) (set out at byte) (at + 1)
-put_one out at byte = record { new_is = refl; end_is = omega arith }
+-- so the place may stop at the largest number of 64 bits
+sets-least : (out : List ℕ) (at : ℕ) (text : List ℕ) → length out < 2 ^ 64 → sets out (min at (2 ^ 64 - 1)) text ≡ sets out at text
+sets-least out at text h =
+    elim (dec_le at (2 ^ 64 - 1)) [
+      | yes l ↦ ap (λ (k : ℕ). sets out k text) {x = min at (2 ^ 64 - 1)} {y = at} (omega arith)
+      | no l ↦ sets-past out (min at (2 ^ 64 - 1)) text (omega arith) ∙ sym (sets-past out at text (omega arith))
+    ]
 
-pub put-past : (out : List ℕ) (at byte : ℕ) → length out ≤ at → Put out at (byte ∷ []) out (at + 1)
-put-past out at byte h = record { new_is = sym (set_out out at byte h); end_is = omega arith }
+-- a text, and the next behind it
+infixl 5 ◌and◌
+pub ◌and◌ : {old between new : Writer} {first next : List ℕ} → Put old first between → Put between next new → Put old (first ++ next) new
+◌and◌ {old} {between} {new} {first} {next} a b = record {
+  buffer = b.buffer ∙ a.buffer;
+  long = a.long;
+  out_is =
+      b.out_is ∙ rw (a.out_is, a.at_is)
+      (sets-least (sets old.out.now old.at first) (old.at + length first) next (rw (length-sets old.out.now old.at first) a.long) ∙
+      sets-append old.out.now old.at first next);
+  at_is = omega (arith, a.at_is, b.at_is, length-append first next);
+}
 
-module _ {old first between : List ℕ} {at middle : ℕ} (a : Put old at first between middle) where
-  -- the buffer keeps its length
-  pub put-length : length between ≡ length old
-  put-length = ap length a.new_is ∙ length-sets old at first
-
-  -- a text, and the next behind it
-  infixl 5 ◌and◌
-  pub ◌and◌ : {next new : List ℕ} {end : ℕ} → Put between middle next new end → Put old at (first ++ next) new end
-  ◌and◌ {next} b = record {
-    new_is = b.new_is ∙ rw (a.new_is, a.end_is) (sets-append old at first next);
-    end_is = omega (arith, a.end_is, b.end_is, length-append first next);
-  }
-
-  -- the end of both can be counted, and so can that of the next from the place where it starts
-  pub room_next : {next : List ℕ} → Room at (first ++ next) → Room middle next
-  room_next {next} r = record { fits = omega (arith, r.fits, a.end_is, length-append first next) }
-
--- and that of the first
-pub room-first : {at : ℕ} (first next : List ℕ) → Room at (first ++ next) → Room at first
-room-first first next r = record { fits = omega (arith, r.fits, length-append first next) }
+-- no text, behind another
+pub put-none : {old new : Writer} {text : List ℕ} → Put old text new → Put new [] new
+put-none {old} {new} {text} a = record {
+  buffer = refl;
+  long = rw (a.out_is, length-sets old.out.now old.at text) a.long;
+  out_is = refl;
+  at_is = omega (arith, a.at_is);
+}
 
 -- the same text, said in another way
-pub put_same : {old text text' new : List ℕ} {at end : ℕ} → Put old at text new end → text ≡ text' → Put old at text' new end
+pub put_same : {old new : Writer} {text text' : List ℕ} → Put old text new → text ≡ text' → Put old text' new
 put_same a e = rw (← e) a
 
--- at the front of a buffer that is long enough: the text, and behind it what was there
-pub put_front : {old text new : List ℕ} {end : ℕ} → length text ≤ length old → Put old 0 text new end → new ≡ text ++ drop (length text) old
-put_front {old} {text} h a =
-    a.new_is ∙ sets-eq text old 0 (omega arith) ∙ ap (λ (k : ℕ). text ++ drop k old) {x = 0 + length text} {y = length text} (omega arith)
+-- A text at the front of a buffer: its length, and where the buffer is long enough what stands there.
+module _ {out text : List ℕ} {old new : Writer} (start : old.out.now ≡ out) (front : old.at ≡ 0) (a : Put old text new) where
+  pub place_is : length text < 2 ^ 64 → new.at ≡ length text
+  place_is h = omega (arith, a.at_is, front)
 
--- the first k + 1 bytes of a text are the first k and the next
-pub take_more : (text : List ℕ) (k : ℕ) → k < length text → take (k + 1) text ≡ take k text ++ (get_or text k 0 ∷ [])
-take_more text k h = rw (add-one, take-suc text k 0 h)
+  pub put_front : length text ≤ length out → new.out.now ≡ text ++ drop (length text) out
+  put_front h =
+      a.out_is ∙ rw (start, front)
+      (sets-eq text out 0 (omega arith) ∙ ap (λ (k : ℕ). text ++ drop k out) {x = 0 + length text} {y = length text} (omega arith))

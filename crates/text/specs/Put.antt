@@ -1,13 +1,13 @@
--- Need not be believed: what a function that writes a text into a buffer requires, and what it leaves there.
-use Rattle.std.specs.Prelude.{List, ◌≡◌, ℕ, ◌+◌, ◌^◌, ◌<◌, length}
+-- Need not be believed: what a method of a writer that writes a text leaves.
+use Rattle.std.specs.Prelude.{List, ◌≡◌, ℕ, ◌+◌, ◌-◌, ◌^◌, ◌<◌, length, min}
 use Rattle.std.proofs.lemmas.List.Edits.{sets}
+use Rattle.text.specs.declared.writer.Writer.{Writer}
 
--- the place after the text is a number of 64 bits
-pub record Room (at : ℕ) (text : List ℕ) : Type 0 where
-  pub fits : at + length text < 2 ^ 64
-
--- the text stands in the buffer from its place on, as far as the buffer reaches, and all else is as it was; the end is the place after
--- the text, whether the buffer reaches so far or not. So a buffer of no byte gives the text's length.
-pub record Put (old : List ℕ) (at : ℕ) (text new : List ℕ) (end : ℕ) : Type 0 where
-  pub new_is : new ≡ sets old at text
-  pub end_is : end ≡ at + length text
+-- The text stands in the same buffer from the writer's place on, as far as the buffer reaches, and all else is as it was; the new place is the
+-- one after the text, whether the buffer reaches so far or not, or the largest number of 64 bits where that is less. So the place of a writer
+-- over no byte gives the text's length.
+pub record Put (old : Writer) (text : List ℕ) (new : Writer) : Type 0 where
+  pub buffer : new.out.ghost_name ≡ old.out.ghost_name
+  pub long : length old.out.now < 2 ^ 64
+  pub out_is : new.out.now ≡ sets old.out.now old.at text
+  pub at_is : new.at ≡ min (old.at + length text) (2 ^ 64 - 1)

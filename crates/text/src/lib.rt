@@ -1,7 +1,7 @@
-// Text in a buffer that the caller lends: numbers in decimal, and the lines of the program `report`. Each function puts its text at a place of
-// the buffer, as far as the buffer reaches, and answers the place after the text. So the same code tells how long a text is: it is called
-// with a buffer of no byte.
+// Texts in a buffer of the caller: numbers in decimal, the lines of the program `report`, and a text that is written whole or not at all. A
+// writer counts on behind the end of its buffer, so the same code finds how long a text is: it writes to a buffer of no byte.
 #![tactic(auto)]
 
-pub mod decimal;
 pub mod lines;
+pub mod whole;
+pub mod writer;

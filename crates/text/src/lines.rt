@@ -1,116 +1,102 @@
 // The lines of the program `report`.
-ghost use Rattle.std.specs.Prelude.{◌+◌, ◌*◌, ◌≤◌, length};
-ghost use Rattle.text.specs.Lines.{six, field, fields, line, pair_line, row_line, row_lines, sum_lines, report_lines, refusal_line};
-ghost use Rattle.text.specs.Put.{Room, Put};
+ghost use Rattle.std.specs.Prelude.{◌≡◌, ◌+◌, ◌*◌, ◌/◌, ◌≤◌, ◌++◌, length};
+ghost use Rattle.refusals.specs.Rule.{number};
+ghost use Rattle.text.specs.Ascii.{bytes};
+ghost use Rattle.text.specs.Decimal.{digits};
+ghost use Rattle.text.specs.Lines.{field, fields, line, pair_line, row_lines, sum_lines, report_lines, refusal_line};
+ghost use Rattle.text.specs.Put.{Put};
 
-use crate::decimal::{put, put_number};
+use crate::writer::Writer;
+use refusals::Refusal;
 
-// The words of a row, and of a category.
+// The words of a row.
 const ROW_WORDS: usize = 6;
 
-// A field of a line: a space and a word.
-fn put_field(out: &mut [u8], at: usize, word: u64) -> usize
-    requires { Room at (field word) }
-    ensures { Put out.old at (field word) out.new result }
-{
-    let next = put(out, at, b" ");
-    put_number(out, next, word)
-}
-
-fn put_fields(out: &mut [u8], at: usize, words: &[u64]) -> usize
-    requires { Room at (fields words.now) }
-    ensures { Put out.old at (fields words.now) out.new result }
-{
-    let mut next = at;
-    for &word in words {
-        next = put_field(out, next, word);
+impl Writer<'_> {
+    // A field of a line: a space and a word.
+    fn field(&mut self, word: u64)
+        ensures { Put self.old (field word) self.new }
+    {
+        self.text(b" ");
+        self.number(word);
     }
-    next
-}
 
-// A line: its name, its words, and the line feed.
-fn put_line(out: &mut [u8], at: usize, name: &[u8], words: &[u64]) -> usize
-    requires { Room at (line name.now words.now) }
-    ensures { Put out.old at (line name.now words.now) out.new result }
-{
-    let named = put(out, at, name);
-    let filled = put_fields(out, named, words);
-    put(out, filled, b"\n")
-}
-
-// The line of row i, which is counted from 0 here and from 1 in the line.
-fn put_row(out: &mut [u8], at: usize, words: &[u64], i: usize) -> usize
-    requires { Room at (row_line words.now i) × (6 * i + 6 ≤ length words.now) }
-    ensures { Put out.old at (row_line words.now i) out.new result }
-{
-    let from = ROW_WORDS * i;
-    let to = from + ROW_WORDS;
-    let named = put(out, at, b"row ");
-    let numbered = put_number(out, named, i as u64 + 1);
-    let filled = put_fields(out, numbered, &words[from..to]);
-    put(out, filled, b"\n")
-}
-
-fn put_rows(out: &mut [u8], at: usize, words: &[u64], rows: usize) -> usize
-    requires { Room at (row_lines words.now rows) × (6 * rows ≤ length words.now) }
-    ensures { Put out.old at (row_lines words.now rows) out.new result }
-{
-    let mut next = at;
-    for i in 0..rows {
-        next = put_row(out, next, words, i);
+    // One function for this loop and that of `rows` would take a closure that writes, with a clause on what it wrote: longer than both.
+    fn fields(&mut self, words: &[u64])
+        ensures { Put self.old (fields words.now) self.new }
+    {
+        for &word in words {
+            self.field(word);
+        }
     }
-    next
-}
 
-// The line of a category, whose six words start at a place.
-fn put_six(out: &mut [u8], at: usize, name: &[u8], words: &[u64], from: usize) -> usize
-    requires { Room at (line name.now (six from words.now)) × (from + 6 ≤ length words.now) }
-    ensures { Put out.old at (line name.now (six from words.now)) out.new result }
-{
-    let to = from + ROW_WORDS;
-    put_line(out, at, name, &words[from..to])
-}
+    // A line: its name, its words, and the line feed.
+    fn line(&mut self, name: &[u8], words: &[u64])
+        ensures { Put self.old (line name.now words.now) self.new }
+    {
+        self.text(name);
+        self.fields(words);
+        self.text(b"\n");
+    }
 
-// The lines below the rows, whose words start at a place.
-fn put_sums(out: &mut [u8], at: usize, words: &[u64], from: usize) -> usize
-    requires { Room at (sum_lines words.now from) × (from + 26 ≤ length words.now) }
-    ensures { Put out.old at (sum_lines words.now from) out.new result }
-{
-    let light = put_six(out, at, b"cars", words, from);
-    let two = put_six(out, light, b"light", words, from + 6);
-    let all = put_six(out, two, b"two", words, from + 12);
-    let total = put_six(out, all, b"all", words, from + 18);
-    let low = from + 24;
-    let end = from + 26;
-    put_line(out, total, b"total", &words[low..end])
-}
+    // The line of a row, whose number is counted from 1.
+    fn row(&mut self, number: u64, words: &[u64])
+        ensures { Put self.old (line (bytes "row " ++ digits number) words.now) self.new }
+    {
+        self.text(b"row ");
+        self.number(number);
+        self.fields(words);
+        self.text(b"\n");
+    }
 
-// A line of two numbers, each behind a text, at the front of the buffer.
-pub fn put_pair(out: &mut [u8], first: &[u8], a: u64, second: &[u8], b: u64) -> usize
-    requires { Room 0 (pair_line first.now a second.now b) }
-    ensures { Put out.old 0 (pair_line first.now a second.now b) out.new result }
-{
-    let i = put(out, 0, first);
-    let j = put_number(out, i, a);
-    let k = put(out, j, second);
-    let l = put_number(out, k, b);
-    put(out, l, b"\n")
-}
+    // The lines of all rows, from the six words of each.
+    fn rows(&mut self, words: &[u64])
+        ensures { Put self.old (row_lines words.now (length words.now / 6)) self.new }
+    {
+        let rows = words.as_chunks::<ROW_WORDS>().0;
+        for (i, row) in rows.iter().enumerate() {
+            self.row(i as u64 + 1, row);
+        }
+    }
 
-// All lines of an accepted sheet, from its version, its rows and the words of its report.
-pub fn put_report(out: &mut [u8], version: u64, rows: usize, words: &[u64]) -> usize
-    requires { Room 0 (report_lines version rows words.now) × (6 * rows + 26 ≤ length words.now) }
-    ensures { Put out.old 0 (report_lines version rows words.now) out.new result }
-{
-    let head = put_pair(out, b"EVP ", version, b" rows ", rows as u64);
-    let sums = put_rows(out, head, words, rows);
-    put_sums(out, sums, words, ROW_WORDS * rows)
-}
+    // The lines below the rows.
+    fn sums(&mut self, words: &[u64])
+        requires { 26 ≤ length words.now }
+        ensures { Put self.old (sum_lines words.now 0) self.new }
+    {
+        self.line(b"cars", &words[..6]);
+        self.line(b"light", &words[6..12]);
+        self.line(b"two", &words[12..18]);
+        self.line(b"all", &words[18..24]);
+        self.line(b"total", &words[24..26]);
+    }
 
-// The line of a refused sheet.
-pub fn put_refusal(out: &mut [u8], number: u64, place: u64) -> usize
-    requires { Room 0 (refusal_line number place) }
-    ensures { Put out.old 0 (refusal_line number place) out.new result }
-{
-    put_pair(out, b"refused ", number, b" at ", place)
+    // A line of two numbers, each behind a text.
+    pub fn pair(&mut self, first: &[u8], a: u64, second: &[u8], b: u64)
+        ensures { Put self.old (pair_line first.now a second.now b) self.new }
+    {
+        self.text(first);
+        self.number(a);
+        self.text(second);
+        self.number(b);
+        self.text(b"\n");
+    }
+
+    // All lines of an accepted sheet, from its version, its rows and the words of its report.
+    pub fn report(&mut self, version: u64, rows: usize, words: &[u64])
+        requires { 6 * rows + 26 ≤ length words.now }
+        ensures { Put self.old (report_lines version rows words.now) self.new }
+    {
+        let (of_rows, sums) = words.split_at(ROW_WORDS * rows);
+        self.pair(b"EVP ", version, b" rows ", rows as u64);
+        self.rows(of_rows);
+        self.sums(sums);
+    }
+
+    // The line of a refused sheet.
+    pub fn refusal(&mut self, refusal: Refusal)
+        ensures { Put self.old (refusal_line (number refusal.rule) refusal.place) self.new }
+    {
+        self.pair(b"refused ", refusal.rule.number(), b" at ", refusal.place);
+    }
 }

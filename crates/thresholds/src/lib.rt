@@ -2,12 +2,10 @@
 #![tactic(auto)]
 
 ghost use Rattle.std.specs.Prelude.{◌≡◌, ◌+◌, ◌*◌, ◌^◌, ◌<◌, ◌≤◌};
-ghost use Rattle.bounds.specs.Exponential.{entries};
-ghost use Rattle.bounds.specs.WholeExponents.{far};
 ghost use Rattle.thresholds.specs.Thresholds.{within, digit, digits, first_kilometres, whole_above, log_lower};
 
-use bounds::exp::{ExpTables, ZERO, exponential};
-use bounds::whole::far_table;
+use bounds::exp::{ZERO, exponential};
+use bounds::whole::far;
 
 // An exponent of 1, in units.
 const TEN_14: u64 = 100000000000000;
@@ -18,59 +16,83 @@ const NEAR_ERROR: u64 = 35;
 // From an exponent where E is at least M to one where it is below.
 const MARGIN: u64 = 400001;
 
-// M is at most E(c - d).
-fn within(tables: &ExpTables, fars: &[u64; 15], mileage: u64, c: usize, d: u64) -> bool
-    requires { (tables.now ≡ entries) × (fars.now ≡ far) × (mileage ≤ 10 ^ 6) × (c < 15) × (d ≤ 2 ^ 47) }
-    ensures { result ≡ within mileage c d }
-{
-    let above = exponential(tables, ZERO + d) + NEAR_ERROR;
-    mileage * above <= fars[c] * 1024
+// A mileage M.
+#[derive(Clone, Copy)]
+pub struct Mileage {
+    pub kilometres: u64,
+    ghost in_limit: { kilometres ≤ 10 ^ 6 },
 }
 
-// d with one more binary digit, where M is still at most E(c - d).
-fn digit(tables: &ExpTables, fars: &[u64; 15], mileage: u64, c: usize, d: u64, bit: u64) -> u64
-    requires { (tables.now ≡ entries) × (fars.now ≡ far) × (mileage ≤ 10 ^ 6) × (c < 15) × (d + bit ≤ 2 ^ 47) }
-    ensures { (result ≡ digit mileage c d bit) × (result ≤ d + bit) }
-{
-    if within(tables, fars, mileage, c, d + bit) {
-        d + bit
-    } else {
+// A mileage M and a whole exponent c, for the exponents c - d below it.
+#[derive(Clone, Copy)]
+struct Below {
+    kilometres: u64,
+    whole: usize,
+    ghost in_limit: { kilometres ≤ 10 ^ 6 },
+    ghost in_table: { whole < 15 },
+}
+
+impl Below {
+    // M is at most E(c - d).
+    fn within(self, d: u64) -> bool
+        requires { d ≤ 2 ^ 47 }
+        ensures { result ≡ within self.kilometres self.whole d }
+    {
+        let above = exponential(ZERO + d) + NEAR_ERROR;
+        self.kilometres * above <= far(self.whole) * 1024
+    }
+
+    // d with one more binary digit, where M is still at most E(c - d).
+    fn digit(self, d: u64, bit: u64) -> u64
+        requires { d + bit ≤ 2 ^ 47 }
+        ensures { (result ≡ digit self.kilometres self.whole d bit) × (result ≤ d + bit) }
+    {
+        if self.within(d + bit) { d + bit } else { d }
+    }
+
+    // The largest d with M at most E(c - d), digit by digit from 2^46 down.
+    fn digits(self) -> u64
+        ensures { (result ≡ digits self.kilometres self.whole 47 0) × (result ≤ 2 ^ 47) }
+    {
+        let mut d: u64 = 0;
+        for found in 0..47u32 {
+            d = self.digit(d, 1 << (46 - found));
+        }
         d
     }
 }
 
-// The largest d with M at most E(c - d), digit by digit from 2^46 down.
-fn digits(tables: &ExpTables, fars: &[u64; 15], mileage: u64, c: usize) -> u64
-    requires { (tables.now ≡ entries) × (fars.now ≡ far) × (mileage ≤ 10 ^ 6) × (c < 15) }
-    ensures { (result ≡ digits mileage c 47 0) × (result ≤ 2 ^ 47) }
-{
-    let mut d: u64 = 0;
-    for found in 0..47u32 {
-        d = digit(tables, fars, mileage, c, d, 1 << (46 - found));
-    }
-    d
-}
-
-// The first whole exponent from 3 on with E at least M, and 14 where none before it has.
-fn whole_above(tables: &ExpTables, fars: &[u64; 15], mileage: u64) -> usize
-    requires { (tables.now ≡ entries) × (fars.now ≡ far) × (mileage ≤ 10 ^ 6) }
-    ensures { (result ≡ whole_above mileage) × (3 ≤ result) × (result ≤ 14) }
-{
-    for c in 3..14 {
-        if within(tables, fars, mileage, c, 0) {
-            return c;
+impl Mileage {
+    // M with a whole exponent.
+    fn below(self, whole: usize) -> Below
+        requires { whole < 15 }
+        ensures { (result.kilometres ≡ self.kilometres) × (result.whole ≡ whole) }
+    {
+        Below {
+            kilometres: self.kilometres,
+            whole,
         }
     }
-    14
-}
 
-// A lower bound of the logarithm of the mileage M: E at this exponent is below M for every n from 40 upward, and at least M a margin above it.
-pub fn log_lower(tables: &ExpTables, mileage: u64) -> u64
-    requires { (tables.now ≡ entries) × (first_kilometres ≤ mileage) × (mileage ≤ 10 ^ 6) }
-    ensures { (result ≡ log_lower mileage) × (282 * 10 ^ 12 ≤ result) × (result ≤ 14 * 10 ^ 14) }
-{
-    let fars = far_table();
-    let c = whole_above(tables, &fars, mileage);
-    let d = digits(tables, &fars, mileage, c);
-    c as u64 * TEN_14 - d - MARGIN
+    // The first whole exponent from 3 on with E at least M, and 14 where none before it has.
+    fn whole_above(self) -> usize
+        ensures { (result ≡ whole_above self.kilometres) × (3 ≤ result) × (result ≤ 14) }
+    {
+        for c in 3..14 {
+            if self.below(c).within(0) {
+                return c;
+            }
+        }
+        14
+    }
+
+    // A lower bound of the logarithm of M: E at this exponent is below M for every n from 40 upward, and at least M a margin above it.
+    pub fn log_lower(self) -> u64
+        requires { first_kilometres ≤ self.kilometres }
+        ensures { (result ≡ log_lower self.kilometres) × (282 * 10 ^ 12 ≤ result) × (result ≤ 14 * 10 ^ 14) }
+    {
+        let c = self.whole_above();
+        let d = self.below(c).digits();
+        c as u64 * TEN_14 - d - MARGIN
+    }
 }

@@ -1,5 +1,6 @@
 // The answer for a sheet: accepted, or where it is refused.
-use std::{fmt, io};
+use refusals::Check;
+use std::fmt;
 
 // Where a sheet is refused
 #[derive(Clone, Copy, Debug, PartialEq, Eq)]
@@ -8,24 +9,52 @@ pub struct Refusal {
     pub place: u64,
 }
 
+#[derive(Clone, Copy, Debug, PartialEq, Eq)]
+pub struct Answer(pub Result<(), Refusal>);
+
+impl From<refusals::Refusal> for Refusal {
+    fn from(refusal: refusals::Refusal) -> Refusal {
+        Refusal {
+            number: refusal.rule.number(),
+            place: refusal.place,
+        }
+    }
+}
+
+impl From<Check> for Answer {
+    fn from(found: Check) -> Answer {
+        Answer(found.map_err(Refusal::from))
+    }
+}
+
+// The answer that a number and a place of an input stand for: both are 0 where the sheet is accepted.
+impl From<(u64, u64)> for Answer {
+    fn from((number, place): (u64, u64)) -> Answer {
+        if number == 0 {
+            return Answer(Ok(()));
+        }
+        Answer(Err(Refusal { number, place }))
+    }
+}
+
+impl Answer {
+    // The number of a refusal, 0 where the sheet is accepted
+    pub fn number(self) -> u64 {
+        self.0.err().map_or(0, |refusal| refusal.number)
+    }
+}
+
 impl fmt::Display for Refusal {
     fn fmt<W: fmt::Write>(&self, f: &mut fmt::Formatter<W>) -> fmt::Result {
         write!(f, "refused {} at {}", self.number, self.place)
     }
 }
 
-// The answer that two numbers of an input stand for: both are 0 where the sheet is accepted.
-pub fn answer_of(number: u64, place: u64) -> Result<(), Refusal> {
-    if number == 0 {
-        return Ok(());
-    }
-    Err(Refusal { number, place })
-}
-
-// What an answer says
-pub fn print_answer(rt: &impl Print, answer: Result<(), Refusal>) -> io::Result<()> {
-    match answer {
-        Ok(()) => rt.print("accepted"),
-        Err(refusal) => rt.print(refusal),
+impl fmt::Display for Answer {
+    fn fmt<W: fmt::Write>(&self, f: &mut fmt::Formatter<W>) -> fmt::Result {
+        match self.0 {
+            Ok(()) => f.write_str("accepted"),
+            Err(refusal) => write!(f, "{refusal}"),
+        }
     }
 }

@@ -4,9 +4,9 @@ ghost use Rattle.std.specs.Prelude.{◌≡◌, length};
 // The bytes of the longest sheet
 pub const LONGEST: usize = 25256;
 
-// Zeros for the longest sheet. The `ensures` gives only the length, which lending the array as a slice needs.
-pub fn room() -> [u8; LONGEST]
-    ensures { 25256 ≡ length result }
+// So many zeros. The `ensures` gives only the length, which lending the array as a slice needs.
+pub fn zeros<const N: usize>() -> [u8; N]
+    ensures { N ≡ length result }
 {
-    [0; LONGEST]
+    [0; N]
 }

@@ -1,40 +1,18 @@
 // The input of a program, what it counts, and whether a row of a sheet in it has a mileage.
-ghost use Rattle.std.specs.Prelude.{◌≡◌, ◌≤◌, length, IfOk};
-
 use crate::items::item_at;
 use std::io;
 use std::io::Read;
 
-// Zeros for the longest input. The `ensures` gives only the length, which lending the array as a slice needs.
-fn buffer() -> [u8; 524288]
-    ensures { 524288 ≡ length result }
-{
-    [0; 524288]
-}
-
-// Reads until the buffer is full or the input ends, and returns how many bytes the buffer then begins with.
-fn read_full<R: Read>(reader: &mut R, buffer: &mut [u8]) -> io::Result<usize>
-    ensures { IfOk result (λ n. n ≤ length buffer.new) }
-{
-    let mut done: usize = 0;
-    // No count of an index: how many bytes a read takes, the reader says.
-    while done < buffer.len() {
-        let n = reader.read(&mut buffer[done..])?;
-        if n == 0 {
-            break;
-        }
-        done += n;
-    }
-    Ok(done)
-}
-
 // Hands on the bytes of standard input.
-pub fn with_bytes<R: Input, F: FnOnce(&[u8]) -> io::Result<()>>(rt: &R, hold: F) -> io::Result<()>
+pub fn with_bytes<R: Input + Alloc, F: FnOnce(&[u8]) -> io::Result<()>>(
+    rt: &R,
+    hold: F,
+) -> io::Result<()>
     requires { F.IsAlwaysCallable hold }
 {
-    let mut buffer = buffer();
-    let count = read_full(&mut rt.reader(), &mut buffer)?;
-    hold(&buffer[..count])
+    let mut bytes = Vec::new(rt.alloc());
+    rt.reader().read_to_end(&mut bytes)?;
+    hold(&bytes)
 }
 
 // A line where the input says that it has another number of vectors than were tried; `what` says of which kind they are.
@@ -61,7 +39,7 @@ fn hold_counted<R: Print, F: FnOnce(&[u8]) -> io::Result<u64>>(
 }
 
 // The same of standard input
-pub fn hold<R: Input + Print, F: FnOnce(&[u8]) -> io::Result<u64>>(
+pub fn hold<R: Input + Print + Alloc, F: FnOnce(&[u8]) -> io::Result<u64>>(
     rt: &R,
     what: &str,
     tried: F,
@@ -80,18 +58,13 @@ const ROW: usize = 24;
 
 const MILEAGE: usize = 20;
 
-const ROWS_MOST: usize = 1000;
-
 // The mileage of a row of a sheet, counted from 0, where the sheet has that row
 fn mileage(sheet: &[u8], row: usize) -> Option<u32> {
     let seasons: u8 = item_at(sheet, 5)?;
-    if ROWS_MOST <= row {
-        return None;
-    }
-    item_at(
-        sheet,
-        SEASONS + SEASON * usize::from(seasons) + ROW * row + MILEAGE,
-    )
+    let (rows, _) = sheet
+        .get(SEASONS + SEASON * usize::from(seasons)..)?
+        .as_chunks::<ROW>();
+    item_at(rows.get(row)?, MILEAGE)
 }
 
 // Whether a row of a sheet has a mileage, which sheets before version 3 have not

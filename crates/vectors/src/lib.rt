@@ -4,7 +4,6 @@
 pub mod answer;
 pub mod band;
 pub mod bytes;
-pub mod factor;
 pub mod input;
 pub mod items;
 pub mod mass;

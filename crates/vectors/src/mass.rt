@@ -11,7 +11,7 @@ const SHARE: u64 = 100;
 // More milligrams than any mass has
 const MOST: u64 = 1152921504606846976;
 
-// The width of a band is told only where the factor counts so often that the whole milligrams of its ends weigh little
+// The width of a band is given only where the factor counts so often that the whole milligrams of its ends weigh little
 const MANY: u64 = 1000000;
 
 const WIDE: u64 = 1099511627776;

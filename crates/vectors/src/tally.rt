@@ -1,5 +1,6 @@
 // What came of the vectors that were tried.
 use std::ops::Add;
+use std::{fmt, io};
 
 // Whether an answer is right; of a band its width, and how far off the exact value was
 #[derive(Clone, Copy, Debug, Default, PartialEq, Eq)]
@@ -48,6 +49,46 @@ impl From<bool> for Tally {
     }
 }
 
+impl Tally {
+    // Of one vector; where its answer is not right, `print` writes a line.
+    pub fn of<V: Into<Verdict>, P: FnOnce() -> io::Result<()>>(
+        verdict: V,
+        print: P,
+    ) -> io::Result<Tally>
+        requires { P.IsAlwaysCallable print }
+    {
+        let verdict = verdict.into();
+        if !verdict.right {
+            print()?;
+        }
+        Ok(verdict.into())
+    }
+
+    // How many were tried and how many were right, with a word for right ones between them
+    pub fn counts(self, word: &str) -> Counts<'_> {
+        Counts { tally: self, word }
+    }
+}
+
+// The two counts of a tally, and the word between them
+#[derive(Clone, Copy)]
+pub struct Counts<'a> {
+    tally: Tally,
+    word: &'a str,
+}
+
+impl fmt::Display for Counts<'_> {
+    fn fmt<W: fmt::Write>(&self, f: &mut fmt::Formatter<W>) -> fmt::Result {
+        write!(f, "{} {} {}", self.tally.tried, self.word, self.tally.right)
+    }
+}
+
+impl fmt::Display for Tally {
+    fn fmt<W: fmt::Write>(&self, f: &mut fmt::Formatter<W>) -> fmt::Result {
+        write!(f, "{}", self.counts("right"))
+    }
+}
+
 impl Add for Tally {
     type Output = Tally;
 
@@ -59,4 +100,18 @@ impl Add for Tally {
             farthest: self.farthest.max(other.farthest),
         }
     }
+}
+
+// Whether an answer is the one that is expected, and a line where it is not; `what` says what was tried, and vectors are counted from 1.
+pub fn compare<A: Copy + PartialEq + fmt::Display>(
+    rt: &impl Print,
+    what: &str,
+    position: u64,
+    expected: A,
+    found: A,
+) -> io::Result<Tally> {
+    Tally::of(
+        found == expected,
+        || println!(rt; "{what} {position}: expected {expected}, found {found}"),
+    )
 }

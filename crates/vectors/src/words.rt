@@ -17,13 +17,6 @@ pub fn kept(words: &[u64]) -> bool {
     words.iter().all(|word| *word == OLD)
 }
 
-// Whether these words stand in a buffer from a place on
-pub fn stands(words: &[u64], place: usize, told: &[u64]) -> bool {
-    words
-        .get(place..)
-        .is_some_and(|rest| rest.starts_with(told))
-}
-
 // Whether a row counts in the subtotal of a category, or in that of all rows
 fn counts(row: &[u8; ROW], category: Option<u64>) -> bool {
     category.is_none() || item_at(row, 0) == category

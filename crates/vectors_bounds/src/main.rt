@@ -2,11 +2,11 @@
 // far the largest lies above its lower bound, of how far it may.
 #![tactic(auto)]
 
-ghost use Rattle.std.specs.Prelude.{◌≡◌, ◌^◌, ◌<◌, ◌≤◌};
-ghost use Rattle.bounds.specs.Exponential.{entries, exponent_limit};
+ghost use Rattle.std.specs.Prelude.{◌≡◌, ◌^◌, ◌<◌, ◌≤◌, true};
+ghost use Rattle.bounds.specs.Exponential.{exponent_limit};
 ghost use Rattle.bounds.specs.Power.{power_error};
 
-use bounds::exp::{ExpTables, ZERO};
+use bounds::exp::ZERO;
 use std::io;
 use vectors::input::with_bytes;
 use vectors::items::{Item, Rest, tally_of};
@@ -52,6 +52,14 @@ impl<'a> Item<'a> for Vector {
     }
 }
 
+// The exponents from the first on that are below the limit, up to which they are served
+#[derive(Clone, Copy)]
+struct Exponents {
+    first: u64,
+    limit: u64,
+    ghost served: { limit ≤ exponent_limit },
+}
+
 // Whether every value with this whole part lies from low to low + error: the value itself can be nearly one unit larger.
 fn encloses(low: u64, error: u64, whole: u64) -> bool
     requires { (low < 2 ^ 46) × (error < 2 ^ 10) }
@@ -70,26 +78,34 @@ fn verdict_of(low: u64, error: u64, v: Vector) -> Verdict
     }
 }
 
+impl Exponents {
+    fn between(first: u64, limit: u64) -> Exponents
+        requires { limit ≤ exponent_limit }
+    {
+        Exponents { first, limit }
+    }
+
+    fn contains(self, x: u64) -> bool
+        ensures { result ≡ true → x < self.limit }
+    {
+        (self.first <= x) && (x < self.limit)
+    }
+}
+
 // An exponent, where it lies in the range
-fn with_exponent(tables: &ExpTables, first: u64, limit: u64, v: Vector) -> Tally
-    requires { (tables.now ≡ entries) × (limit ≤ exponent_limit) }
-{
+fn with_exponent(exponents: Exponents, v: Vector) -> Tally {
     let x = v.held;
-    if (x < first) || (limit <= x) {
+    if !exponents.contains(x) {
         return Tally::default();
     }
-    let low = bounds::exp::exponential(tables, x);
-    let error = bounds::exp::exponential_error(tables, x);
+    let low = bounds::exp::exponential(x);
+    let error = bounds::exp::exponential_error(x);
     verdict_of(low, error, v).into()
 }
 
-// The exponents from the first on that are below the limit
-fn exponentials(tables: &ExpTables, first: u64, limit: u64, s: &[u8]) -> io::Result<Tally>
-    requires { (tables.now ≡ entries) × (limit ≤ exponent_limit) }
-{
-    tally_of(s, |_, v: Vector| {
-        Ok(with_exponent(tables, first, limit, v))
-    })
+// The exponents of a range
+fn exponentials(exponents: Exponents, s: &[u8]) -> io::Result<Tally> {
+    tally_of(s, |_, v: Vector| Ok(with_exponent(exponents, v)))
 }
 
 // How far 2^24 T^2.5 can be above its lower bound
@@ -112,32 +128,53 @@ fn powers(s: &[u8]) -> io::Result<Tally> {
 }
 
 fn print(rt: &impl Print, name: &str, tally: Tally) -> io::Result<()> {
-    let Tally {
-        tried,
-        right,
-        widest,
-        farthest,
-    } = tally;
-    println!(rt; "{name}: {tried} enclosed {right} largest error {farthest} of {widest}")
+    println!(rt;
+        "{name}: {} largest error {} of {}",
+        tally.counts("enclosed"),
+        tally.farthest,
+        tally.widest
+    )
 }
 
 // The line of a range of exponents
-fn print_range(rt: &impl Print, name: &str, first: u64, limit: u64, s: &[u8]) -> io::Result<()>
-    requires { limit ≤ exponent_limit }
-{
-    let tables = bounds::exp::tables();
-    print(rt, name, exponentials(&tables, first, limit, s)?)
+fn print_range(rt: &impl Print, name: &str, exponents: Exponents, s: &[u8]) -> io::Result<()> {
+    print(rt, name, exponentials(exponents, s)?)
 }
 
 // A line for each range, since the error follows the size of E. Below 1 / 4096 both table entries are 1 and the result is the quadratic;
 // below 1 / 16 the first is 1.
 fn print_ranges(rt: &impl Print, s: &[u8]) -> io::Result<()> {
-    print_range(rt, "exponentials from 0 below 1/4096", ZERO, FINE_STEP, s)?;
-    print_range(rt, "exponentials from 0 below 1/16", ZERO, COARSE_STEP, s)?;
-    print_range(rt, "exponentials up to 2.3", 0, PAST_2_3, s)?;
-    print_range(rt, "exponentials up to 3", 0, PAST_3, s)?;
-    print_range(rt, "exponentials up to 3.6", 0, PAST_3_6, s)?;
-    print_range(rt, "exponentials below 4.1", 0, LIMIT, s)
+    print_range(
+        rt,
+        "exponentials from 0 below 1/4096",
+        Exponents::between(ZERO, FINE_STEP),
+        s,
+    )?;
+    print_range(
+        rt,
+        "exponentials from 0 below 1/16",
+        Exponents::between(ZERO, COARSE_STEP),
+        s,
+    )?;
+    print_range(
+        rt,
+        "exponentials up to 2.3",
+        Exponents::between(0, PAST_2_3),
+        s,
+    )?;
+    print_range(rt, "exponentials up to 3", Exponents::between(0, PAST_3), s)?;
+    print_range(
+        rt,
+        "exponentials up to 3.6",
+        Exponents::between(0, PAST_3_6),
+        s,
+    )?;
+    print_range(
+        rt,
+        "exponentials below 4.1",
+        Exponents::between(0, LIMIT),
+        s,
+    )
 }
 
 // The exponents and the temperatures, where the input is of the length that it says

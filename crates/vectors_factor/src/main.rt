@@ -3,20 +3,20 @@
 // are refused as expected.
 #![tactic(auto)]
 
-use std::io;
-use vectors::answer::Refusal;
-use vectors::band::Band;
-use vectors::factor::Reply;
+use crate::reply::Reply;
+use std::{fmt, io};
 use vectors::input::{has_mileage, hold};
 use vectors::items::{Item, Rest, tally_of};
 use vectors::tally::Tally;
+
+mod reply;
 
 // The bytes of a call
 const CALL: usize = 56;
 
 const LAST_FACTOR: u64 = 7;
 
-// The calls that are told apart: those to be refused, those for a factor, and those for any factor of a row with a mileage
+// The calls that are counted together: those to be refused, those for a factor, or those for any factor of a row with a mileage
 #[derive(Clone, Copy, Debug, PartialEq, Eq)]
 enum Kind {
     Refused,
@@ -73,16 +73,13 @@ impl Kind {
     }
 }
 
-fn reply_of(found: Result<inventory::Band, refusals::Refusal>) -> Reply {
-    match found {
-        Ok(band) => Reply(Ok(Band {
-            low: band.low,
-            high: band.high,
-        })),
-        Err(refusal) => Reply(Err(Refusal {
-            number: refusal.rule.number(),
-            place: refusal.place,
-        })),
+impl fmt::Display for Call {
+    fn fmt<W: fmt::Write>(&self, f: &mut fmt::Formatter<W>) -> fmt::Result {
+        write!(
+            f,
+            "season {} row {} factor {}",
+            self.season, self.row, self.factor
+        )
     }
 }
 
@@ -94,17 +91,13 @@ fn print_other(
     call: Call,
     found: Reply,
 ) -> io::Result<()> {
-    print!(rt;
-        "sheet {sheet} call {position}: season {} row {}",
-        call.season, call.row
-    )?;
-    print!(rt; " factor {}", call.factor)?;
+    print!(rt; "sheet {sheet} call {position}: {call}")?;
     call.expected.print(rt, ": expected ", " ng")?;
     found.print(rt, ", found ", " ug")?;
     println!(rt; "")
 }
 
-// The verdict on a call, and a line where it is not right
+// What came of a call, and a line where its answer is not right
 fn with_call(
     rt: &impl Print,
     sheet: &[u8],
@@ -112,12 +105,11 @@ fn with_call(
     number: u64,
     call: Call,
 ) -> io::Result<Tally> {
-    let found = reply_of(inventory::factor(sheet, call.season, call.row, call.factor));
-    let verdict = found.verdict(call.expected);
-    if !verdict.right {
-        print_other(rt, position, number, call, found)?;
-    }
-    Ok(verdict.into())
+    let found = Reply::from(inventory::factor(sheet, call.season, call.row, call.factor));
+    Tally::of(
+        found.verdict(call.expected),
+        || print_other(rt, position, number, call, found),
+    )
 }
 
 // The calls of one kind on one sheet
@@ -138,36 +130,41 @@ fn tally_kind(rt: &impl Print, vectors: &[u8], kind: Kind) -> io::Result<Tally> 
     })
 }
 
-fn print_factors(rt: &impl Print, tally: Tally) -> io::Result<()> {
-    print!(rt;
-        ": {} enclosed {} widest band {}",
-        tally.tried, tally.right, tally.widest
-    )?;
-    println!(rt; " ug farthest from its middle {} ng", tally.farthest)
+// The factors that were tried
+#[derive(Clone, Copy)]
+struct Factors(Tally);
+
+impl fmt::Display for Factors {
+    fn fmt<W: fmt::Write>(&self, f: &mut fmt::Formatter<W>) -> fmt::Result {
+        let tally = self.0;
+        write!(
+            f,
+            "{} widest band {} ug",
+            tally.counts("enclosed"),
+            tally.widest
+        )?;
+        write!(f, " farthest from its middle {} ng", tally.farthest)
+    }
 }
 
 // A line for each factor, and the tally of all of them
 fn report_factors(rt: &impl Print, vectors: &[u8]) -> io::Result<Tally> {
-    let mut all = Tally::default();
-    for factor in 1..=LAST_FACTOR {
+    (1..=LAST_FACTOR).try_fold(Tally::default(), |all, factor| -> io::Result<Tally> {
         let tally = tally_kind(rt, vectors, Kind::Factor(factor))?;
-        print!(rt; "factor {factor}")?;
-        print_factors(rt, tally)?;
-        all = all + tally;
-    }
-    Ok(all)
+        println!(rt; "factor {factor}: {}", Factors(tally))?;
+        Ok(all + tally)
+    })
 }
 
 // The lines of the factors, and that of the refusals; how many calls they count. A call that is cut off, or of an accepted factor that is none of
 // the seven, is missing; the count that the input gives shows it.
 fn print_all(rt: &impl Print, vectors: &[u8]) -> io::Result<u64> {
     let factors = report_factors(rt, vectors)?;
-    print!(rt; "factors")?;
-    print_factors(rt, factors)?;
-    print!(rt; "rows with a mileage")?;
-    print_factors(rt, tally_kind(rt, vectors, Kind::Driven)?)?;
+    println!(rt; "factors: {}", Factors(factors))?;
+    let driven = tally_kind(rt, vectors, Kind::Driven)?;
+    println!(rt; "rows with a mileage: {}", Factors(driven))?;
     let refused = tally_kind(rt, vectors, Kind::Refused)?;
-    println!(rt; "refused calls {} alike {}", refused.tried, refused.right)?;
+    println!(rt; "refused calls {}", refused.counts("alike"))?;
     Ok((factors + refused).tried)
 }
 

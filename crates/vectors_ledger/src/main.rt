@@ -2,9 +2,9 @@
 // answered as the plain machine says, leave the bytes that it says, and leave the words of a fresh report of these bytes.
 #![tactic(auto)]
 
-use crate::runs::{Asked, Opened, call_right, opens, report_into};
+use crate::runs::{Asked, Opened, Run};
 use std::io;
-use vectors::bytes::{LONGEST, room};
+use vectors::bytes::{LONGEST, zeros};
 use vectors::input::hold;
 use vectors::items::tally_of;
 use vectors::tally::Tally;
@@ -21,69 +21,58 @@ enum Pass {
 }
 
 impl Pass {
-    // Whether a pass looks at the calls with this number
-    fn looks_at(self, number: u64) -> bool {
+    // Whether a pass looks at a call
+    fn looks_at(self, asked: Asked) -> bool {
         match self {
             Pass::Openings => false,
-            Pass::Passed => number == 0,
-            Pass::Refused => number != 0,
+            Pass::Passed => asked.answer.0.is_ok(),
+            Pass::Refused => asked.answer.0.is_err(),
         }
     }
 }
 
 // An opening, and a line where it is not right; ledgers are counted from 1.
 fn with_opening(rt: &impl Print, ledger: u64, opened: Opened) -> io::Result<Tally> {
-    let right = opens(opened);
-    if !right {
-        println!(rt; "ledger {ledger} opening is answered or left otherwise")?;
-    }
-    Ok(right.into())
+    Tally::of(
+        opened.is_right(),
+        || println!(rt; "ledger {ledger} opening is answered or left otherwise"),
+    )
 }
 
-// A call, and a line where it is not right; calls are counted from 1.
-fn with_call(rt: &impl Print, ledger: u64, call: u64, right: bool) -> io::Result<Tally> {
-    if !right {
-        println!(rt; "ledger {ledger} call {call} is answered or left otherwise")?;
-    }
-    Ok(right.into())
-}
-
-// The calls on a ledger, one after another, which change the sheet, the sheet that is expected and the words
+// The calls on a ledger, one after another, and a line for each that is not right; calls are counted from 1.
 fn with_calls(
     rt: &impl Print,
     ledger: u64,
-    opened: Opened,
-    sheet: &mut [u8],
-    expected: &mut [u8],
+    calls: &[u8],
+    run: &mut Run,
     pass: Pass,
 ) -> io::Result<Tally> {
-    let mut buffer = [OLD; WORDS];
-    let _ = report_into(sheet, opened.room, &mut buffer);
-    let words = &mut buffer[..opened.room.min(WORDS)];
-    tally_of(opened.calls, |call, asked: Asked| {
-        let right = call_right(sheet, expected, words, asked);
-        if pass.looks_at(asked.number) {
-            with_call(rt, ledger, call, right)
-        } else {
-            Ok(Tally::default())
+    tally_of(calls, |call, asked: Asked| {
+        let right = run.is_right(asked);
+        if !pass.looks_at(asked) {
+            return Ok(Tally::default());
         }
+        Tally::of(
+            right,
+            || println!(rt; "ledger {ledger} call {call} is answered or left otherwise"),
+        )
     })
 }
 
 // The calls on two copies of the sheet: the ledger's, and the one that is to have the counts that are expected
 fn with_copies(rt: &impl Print, ledger: u64, opened: Opened, pass: Pass) -> io::Result<Tally> {
-    let (mut sheet, mut expected) = (room(), room());
+    let (mut sheet, mut expected) = (zeros::<LONGEST>(), zeros::<LONGEST>());
     let n = opened.sheet.len().min(LONGEST);
     sheet[..n].copy_from_slice(&opened.sheet[..n]);
     expected[..n].copy_from_slice(&opened.sheet[..n]);
-    with_calls(
-        rt,
-        ledger,
-        opened,
-        &mut sheet[..n],
-        &mut expected[..n],
-        pass,
-    )
+    let mut words = [OLD; WORDS];
+    let _ = inventory::report(opened.sheet, &mut words[..opened.room]);
+    let mut run = Run {
+        sheet: &mut sheet[..n],
+        words: &mut words[..opened.room],
+        expected: &mut expected[..n],
+    };
+    with_calls(rt, ledger, opened.calls, &mut run, pass)
 }
 
 // The ledgers of one pass: whether they open as expected, or their calls
@@ -97,7 +86,7 @@ fn tally_pass(rt: &impl Print, ledgers: &[u8], pass: Pass) -> io::Result<Tally> 
 // The line of one pass
 fn print_pass(rt: &impl Print, ledgers: &[u8], pass: Pass, name: &str) -> io::Result<Tally> {
     let tally = tally_pass(rt, ledgers, pass)?;
-    println!(rt; "{name} {} right {}", tally.tried, tally.right)?;
+    println!(rt; "{name} {tally}")?;
     Ok(tally)
 }
 

@@ -1,30 +1,46 @@
-// One call of a list that tools/vectors/ledgers.py wrote, made on a ledger and held against what is expected; and one opening.
+// One call of a list that tools/vectors/ledgers.py wrote, made on a ledger and compared with what is expected; and one opening.
+ghost use Rattle.std.specs.Prelude.{◌≤◌};
+
 use ledger::Call;
-use refusals::Check;
+use vectors::answer::Answer;
 use vectors::items::{Item, Rest};
-use vectors::words::{OLD, WORDS, stands};
+use vectors::words::{OLD, WORDS};
 
 // The bytes of a call
 pub const CALL: usize = 26;
 
-// A call, the number and place that are expected, and the place in the sheet of the count that is changed, 0 where none is, with that count
+// A count of vehicles, and its place in the sheet
 #[derive(Clone, Copy)]
-pub struct Asked {
-    pub call: Call,
-    pub number: u64,
-    pub place: u64,
-    pub at: u16,
-    pub count: u32,
+struct Count {
+    at: u16,
+    vehicles: u32,
 }
 
-// A sheet that is opened in so many words, the number and place that are expected, both 0 where it is a ledger, and the calls on it
+// A call, the answer that is expected, and the count that it changes, if it changes one
+#[derive(Clone, Copy)]
+pub struct Asked {
+    call: Call,
+    pub answer: Answer,
+    count: Option<Count>,
+}
+
+// A sheet that is opened in so many words, the answer that is expected, and the calls on it
 #[derive(Clone, Copy)]
 pub struct Opened<'a> {
     pub room: usize,
-    pub number: u64,
-    pub place: u64,
+    answer: Answer,
     pub sheet: &'a [u8],
     pub calls: &'a [u8],
+    ghost fits: { room ≤ 6144 },
+}
+
+// A ledger, which is a sheet and the words of its report, and the sheet that is expected; a call changes the first two at once, which asks for
+// a lifetime of each.
+#[derive(Drop)]
+pub struct Run<'s, 'w, 'e> {
+    pub sheet: &'s mut [u8],
+    pub words: &'w mut [u64],
+    pub expected: &'e mut [u8],
 }
 
 impl<'a> Item<'a> for Asked {
@@ -33,12 +49,14 @@ impl<'a> Item<'a> for Asked {
         let (row, vehicles): (u64, u64) = (input.item()?, input.item()?);
         let number: u8 = input.item()?;
         let (place, at): (u16, u16) = (input.item()?, input.item()?);
+        let count = Count {
+            at,
+            vehicles: input.item()?,
+        };
         Some(Asked {
             call: call_of(kind, row, vehicles),
-            number: number.into(),
-            place: place.into(),
-            at,
-            count: input.item()?,
+            answer: (number.into(), place.into()).into(),
+            count: (at != 0).then_some(count),
         })
     }
 }
@@ -49,8 +67,7 @@ impl<'a> Item<'a> for Opened<'a> {
         let (room, number, place): (u16, u16, u16) = (input.item()?, input.item()?, input.item()?);
         Some(Opened {
             room: WORDS.min(room.into()),
-            number: number.into(),
-            place: place.into(),
+            answer: (number.into(), place.into()).into(),
             sheet: input.part(bytes.into())?,
             calls: input.part(CALL * usize::from(calls))?,
         })
@@ -66,46 +83,49 @@ fn call_of(kind: u8, row: u64, vehicles: u64) -> Call {
     }
 }
 
-// Whether the answer is the one that is expected
-fn answers(found: Check, number: u64, place: u64) -> bool {
-    match found {
-        Ok(()) => number == 0,
-        Err(refusal) => (refusal.rule.number() == number) & (refusal.place == place),
-    }
-}
-
-// The report into the first words of a buffer
-pub fn report_into(s: &[u8], room: usize, words: &mut [u64; 6144]) -> Check {
-    inventory::report(s, &mut words[..room.min(WORDS)])
-}
-
 // Whether the words are those that a fresh report of the sheet leaves in a buffer like the one that the ledger was opened in
 fn is_fresh(s: &[u8], words: &[u64]) -> bool {
-    let mut fresh = [OLD; WORDS];
-    let _ = report_into(s, words.len(), &mut fresh);
-    stands(&fresh, 0, words)
+    let mut buffer = [OLD; WORDS];
+    let Some(fresh) = buffer.get_mut(..words.len()) else {
+        return false;
+    };
+    let _ = inventory::report(s, fresh);
+    *words == *fresh
 }
 
 // The count that is expected is put into the sheet that is expected.
-fn expect(sheet: &mut [u8], asked: Asked) {
-    let at = usize::from(asked.at);
-    let end = at + 4;
-    if (at != 0) && (end <= sheet.len()) {
-        sheet[at..end].copy_from_slice(&asked.count.to_le_bytes());
+fn expect(sheet: &mut [u8], count: Option<Count>) {
+    let Some(Count { at, vehicles }) = count else {
+        return;
+    };
+    let at = usize::from(at);
+    if let Some(bytes) = sheet.get_mut(at..at + 4) {
+        bytes.copy_from_slice(&vehicles.to_le_bytes());
     }
 }
 
-// Makes a call. Whether it is answered as expected and leaves the bytes that are expected, and the words of a fresh report
-pub fn call_right(sheet: &mut [u8], expected: &mut [u8], words: &mut [u64], asked: Asked) -> bool {
-    let found = ledger_calls::change(sheet, words, asked.call);
-    expect(expected, asked);
-    let answered = answers(found, asked.number, asked.place);
-    answered & (sheet[..] == expected[..]) & is_fresh(sheet, words)
+impl Run<'_, '_, '_> {
+    fn change(&mut self, call: Call) -> Answer {
+        let Run { sheet, words, .. } = self;
+        ledger_calls::change(sheet, words, call).into()
+    }
+
+    // Makes a call. Whether it is answered as expected and leaves the bytes that are expected, and the words of a fresh report
+    pub fn is_right(&mut self, asked: Asked) -> bool {
+        let answered = self.change(asked.call) == asked.answer;
+        expect(self.expected, asked.count);
+        answered & self.is_expected()
+    }
+
+    fn is_expected(&self) -> bool {
+        (self.sheet[..] == self.expected[..]) & is_fresh(self.sheet, self.words)
+    }
 }
 
-// Whether opening the sheet is answered as expected
-pub fn opens(opened: Opened) -> bool {
-    let mut words = [OLD; WORDS];
-    let found = report_into(opened.sheet, opened.room, &mut words);
-    answers(found, opened.number, opened.place)
+impl Opened<'_> {
+    // Whether opening the sheet is answered as expected
+    pub fn is_right(self) -> bool {
+        let mut words = [OLD; WORDS];
+        Answer::from(inventory::report(self.sheet, &mut words[..self.room])) == self.answer
+    }
 }

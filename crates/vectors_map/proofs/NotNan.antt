@@ -1,6 +1,6 @@
--- A double that equals itself is no NaN, and a pattern that is no NaN's may be read.
-use mathlib.Core.Path.{◌≡◌, sym}
-use mathlib.Core.Bool.{Bool, true, false, not, false≢true}
+-- A double that equals itself is no NaN.
+use mathlib.Core.Path.{◌≡◌}
+use mathlib.Core.Bool.{true, not, false≢true}
 use lib.Dec.{T}
 use lib.Ieee.{Float, nan, inf, fin, eq, is_nan}
 
@@ -9,7 +9,3 @@ unfolding eq is_nan
 not-nan nan e = absurd (false≢true e)
 not-nan (inf s) e = tt
 not-nan (fin s m e') e = tt
-
-pub negated : (b : Bool) → b ≡ false → T (not b)
-negated true e = absurd (false≢true (sym e))
-negated false e = tt

@@ -216,11 +216,12 @@ fn with_answer<A: Copy + PartialEq>(
     expected: A,
     found: A,
 ) -> io::Result<Tally> {
-    let right = found == expected;
-    if !right {
-        println!(rt; "{what} {position}: expected number {number}, found another or other cells")?;
-    }
-    Ok(right.into())
+    Tally::of(
+        found == expected,
+        || println!(rt;
+            "{what} {position}: expected number {number}, found another or other cells"
+        ),
+    )
 }
 
 // The rows of one number
@@ -245,23 +246,35 @@ fn tally_sums(rt: &impl Print, sums: &[u8], number: u64) -> io::Result<Tally> {
     })
 }
 
-// A line for the rows or the sums of one number
-fn print_tally(rt: &impl Print, words: &str, tally: Tally) -> io::Result<Tally> {
-    println!(rt; "{words} {} agree {}", tally.tried, tally.right)?;
-    Ok(tally)
+// A line for each number, of the rows or the sums with it; how many these are
+fn report_numbers<F: Fn(u64) -> io::Result<Tally>>(
+    rt: &impl Print,
+    numbers: &[(&str, u64)],
+    tally_with: F,
+) -> io::Result<u64>
+    requires { F.IsAlwaysCallable tally_with }
+{
+    let mut all = Tally::default();
+    for (words, number) in numbers {
+        let tally = tally_with(*number)?;
+        println!(rt; "{words} {}", tally.counts("agree"))?;
+        all = all + tally;
+    }
+    Ok(all.tried)
 }
 
 fn report_rows(rt: &impl Print, rows: &[u8]) -> io::Result<u64> {
-    let given = print_tally(rt, "rows with cells", tally_rows(rt, rows, 0)?)?;
-    let wrong = print_tally(rt, "rows refused 27:", tally_rows(rt, rows, 27)?)?;
-    let travel = print_tally(rt, "rows refused 28:", tally_rows(rt, rows, 28)?)?;
-    Ok((given + wrong + travel).tried)
+    let numbers = [
+        ("rows with cells", 0),
+        ("rows refused 27:", 27),
+        ("rows refused 28:", 28),
+    ];
+    report_numbers(rt, &numbers, |number| tally_rows(rt, rows, number))
 }
 
 fn report_sums(rt: &impl Print, sums: &[u8]) -> io::Result<u64> {
-    let given = print_tally(rt, "sums with a cell", tally_sums(rt, sums, 0)?)?;
-    let wrong = print_tally(rt, "sums refused 27:", tally_sums(rt, sums, 27)?)?;
-    Ok((given + wrong).tried)
+    let numbers = [("sums with a cell", 0), ("sums refused 27:", 27)];
+    report_numbers(rt, &numbers, |number| tally_sums(rt, sums, number))
 }
 
 // The counts of rows and sums, the rows and the sums, where the input is of the length that it says

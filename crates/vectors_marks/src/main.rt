@@ -4,9 +4,10 @@
 
 use marking::{Filed, Unit, Verdict, mark};
 use std::{fmt, io};
+use vectors::band::Band;
 use vectors::input::hold;
 use vectors::items::{Item, Rest, tally_of};
-use vectors::tally::Tally;
+use vectors::tally::{Tally, compare};
 
 // A verdict without how far the figure is off
 #[derive(Clone, Copy, Debug, PartialEq, Eq)]
@@ -25,12 +26,11 @@ struct Mark {
     off: u64,
 }
 
-// A figure, the band's low and high, and the mark that is expected
+// A figure, the band, and the mark that is expected
 #[derive(Clone, Copy)]
 struct Vector {
     filed: Filed,
-    low: u64,
-    high: u64,
+    band: Band,
     expected: Mark,
 }
 
@@ -84,13 +84,14 @@ impl From<Verdict> for Mark {
     }
 }
 
-// The vectors have no other units.
-fn unit_of(unit: u64) -> Unit {
+// No `TryFrom`, since neither type is of this crate
+fn unit_of(unit: u64) -> Option<Unit> {
     match unit {
-        0 => Unit::Milligram,
-        1 => Unit::Gram,
-        2 => Unit::Kilogram,
-        _ => Unit::Tonne,
+        0 => Some(Unit::Milligram),
+        1 => Some(Unit::Gram),
+        2 => Some(Unit::Kilogram),
+        3 => Some(Unit::Tonne),
+        _ => None,
     }
 }
 
@@ -110,12 +111,11 @@ impl<'a> Item<'a> for Vector {
         let filed = Filed {
             digits: input.item()?,
             places: input.item()?,
-            unit: unit_of(input.item()?),
+            unit: unit_of(input.item()?)?,
         };
         Some(Vector {
             filed,
-            low: input.item()?,
-            high: input.item()?,
+            band: input.item()?,
             expected: input.item()?,
         })
     }
@@ -124,12 +124,8 @@ impl<'a> Item<'a> for Vector {
 // A figure, and a line where its mark is another than the one expected; figures are counted from 1, as
 // tools/vectors/marks.py lists them.
 fn with_figure(rt: &impl Print, position: u64, vector: Vector) -> io::Result<Tally> {
-    let expected = vector.expected;
-    let found = Mark::from(mark(vector.filed, vector.low, vector.high));
-    if found != expected {
-        println!(rt; "figure {position}: expected {expected}, found {found}")?;
-    }
-    Ok(Tally::from(found == expected))
+    let found = Mark::from(mark(vector.filed, vector.band.low, vector.band.high));
+    compare(rt, "figure", position, vector.expected, found)
 }
 
 // The figures of one verdict
@@ -143,7 +139,7 @@ fn tally_kind(rt: &impl Print, vectors: &[u8], kind: Kind) -> io::Result<Tally> 
     })
 }
 
-// A line for each verdict, and one for all of them; how many figures they count. A figure that is cut off, or whose verdict is none of
+// A line for each verdict, and one for all of them; how many figures they count. A figure that is cut off, or whose unit or verdict is none of
 // these, ends the tally; the count that the input gives shows it.
 fn report(rt: &impl Print, vectors: &[u8]) -> io::Result<u64> {
     let kinds = [
@@ -153,13 +149,14 @@ fn report(rt: &impl Print, vectors: &[u8]) -> io::Result<u64> {
         Kind::High,
         Kind::Unreadable,
     ];
-    let mut all = Tally::default();
-    for kind in kinds {
-        let tally = tally_kind(rt, vectors, kind)?;
-        println!(rt; "{kind} {} as given {}", tally.tried, tally.right)?;
-        all = all + tally;
-    }
-    println!(rt; "figures {} as given {}", all.tried, all.right)?;
+    let all = kinds
+        .iter()
+        .try_fold(Tally::default(), |all, kind| -> io::Result<Tally> {
+            let tally = tally_kind(rt, vectors, *kind)?;
+            println!(rt; "{kind} {}", tally.counts("as given"))?;
+            Ok(all + tally)
+        })?;
+    println!(rt; "figures {}", all.counts("as given"))?;
     Ok(all.tried)
 }
 

@@ -3,10 +3,11 @@
 // them left as they were; and how many of their reports have both sheets' row words in their places and the sums of their sums.
 #![tactic(auto)]
 
-use crate::words::words_right;
+ghost use Rattle.std.specs.Prelude.{◌≤◌};
+
 use pooling::PoolRefusal;
-use refusals::Refusal;
 use std::io;
+use vectors::answer::{Answer, Refusal};
 use vectors::input::hold;
 use vectors::items::{Item, Rest, tally_of};
 use vectors::tally::Tally;
@@ -26,14 +27,19 @@ enum Pass {
     Words,
 }
 
-// The bytes of a pair's buffer, as far as there are, and the answer that is expected: its number, place and sheet are 0 where the pair is
-// accepted.
+// Which of three sheets is refused, 1 to 3, and where
+#[derive(Clone, Copy, Debug, PartialEq, Eq)]
+struct Refused {
+    sheet: u64,
+    refusal: Refusal,
+}
+
+// The bytes of a pair's buffer, as far as there are, and the answer that is expected
 #[derive(Clone, Copy)]
 struct Head {
     room: usize,
-    number: u64,
-    place: u64,
-    sheet: u64,
+    expected: Result<(), Refused>,
+    ghost fits: { room ≤ 25344 },
 }
 
 // A pair of sheets, and the pooled sheet that is expected
@@ -51,11 +57,14 @@ impl<'a> Item<'a> for Head {
         let number: u16 = input.item()?;
         let place: u16 = input.item()?;
         let sheet: u16 = input.item()?;
+        let answer = Answer::from((number.into(), place.into()));
+        let expected = answer.0.map_err(|refusal| Refused {
+            sheet: sheet.into(),
+            refusal,
+        });
         Some(Head {
             room: ROOM.min(room.into()),
-            number: number.into(),
-            place: place.into(),
-            sheet: sheet.into(),
+            expected,
         })
     }
 }
@@ -74,31 +83,18 @@ impl<'a> Item<'a> for Pair<'a> {
     }
 }
 
-impl Pass {
-    // Whether a pass looks at the pairs with this number
-    fn looks_at(self, number: u64) -> bool {
-        (self == Pass::Refusals) == (number != 0)
+impl From<PoolRefusal> for Refused {
+    fn from(found: PoolRefusal) -> Refused {
+        let (sheet, refusal) = match found {
+            PoolRefusal::First(refusal) => (1, refusal),
+            PoolRefusal::Second(refusal) => (2, refusal),
+            PoolRefusal::Pooled(refusal) => (3, refusal),
+        };
+        Refused {
+            sheet,
+            refusal: refusal.into(),
+        }
     }
-}
-
-// Whether a refusal of this sheet is the one that is expected
-fn is_refusal(head: Head, sheet: u64, refusal: Refusal) -> bool {
-    (head.sheet == sheet) & (head.number == refusal.rule.number()) & (head.place == refusal.place)
-}
-
-fn answers(found: Result<(), PoolRefusal>, head: Head) -> bool {
-    match found {
-        Ok(()) => head.number == 0,
-        Err(PoolRefusal::First(refusal)) => is_refusal(head, 1, refusal),
-        Err(PoolRefusal::Second(refusal)) => is_refusal(head, 2, refusal),
-        Err(PoolRefusal::Pooled(refusal)) => is_refusal(head, 3, refusal),
-    }
-}
-
-// The pooled sheet into the first bytes of a buffer
-fn pool_into(pair: Pair, out: &mut [u8; 25344]) -> Result<(), PoolRefusal> {
-    let room = pair.head.room.min(ROOM);
-    pooling_calls::pool(pair.first, pair.second, &mut out[..room])
 }
 
 // Whether the buffer starts with these bytes, and those beyond them are as they were
@@ -109,39 +105,32 @@ fn holds_only(out: &[u8], bytes: &[u8]) -> bool {
 
 // Whether a pair is answered as expected: the refusal, or the pooled sheet, and nothing else in the buffer; or the words of its report
 fn is_right(pair: Pair, pass: Pass) -> bool {
-    let mut out = [OLD; 25344];
-    let right = answers(pool_into(pair, &mut out), pair.head);
-    right
-        & match pass {
-            Pass::Refusals | Pass::Sheets => holds_only(&out, pair.pooled),
-            Pass::Words => words_right(pair.first, pair.second, pair.pooled),
-        }
+    let mut out = [OLD; ROOM];
+    let found = pooling_calls::pool(pair.first, pair.second, &mut out[..pair.head.room]);
+    let left = match pass {
+        Pass::Refusals | Pass::Sheets => holds_only(&out, pair.pooled),
+        Pass::Words => pair.has_words(),
+    };
+    (found.map_err(Refused::from) == pair.head.expected) & left
 }
 
-// A pair, and a line where it is not right
-fn with_pair(rt: &impl Print, position: u64, pair: Pair, pass: Pass) -> io::Result<Tally> {
-    let right = is_right(pair, pass);
-    if !right {
-        println!(rt; "pair {position} is answered otherwise")?;
-    }
-    Ok(right.into())
-}
-
-// The pairs of one pass
+// The pairs of one pass, those that are to be refused or those that are not, and a line for each that is not right
 fn tally_pass(rt: &impl Print, pairs: &[u8], pass: Pass) -> io::Result<Tally> {
     tally_of(pairs, |position, pair: Pair| {
-        if pass.looks_at(pair.head.number) {
-            with_pair(rt, position, pair, pass)
-        } else {
-            Ok(Tally::default())
+        if pair.head.expected.is_err() != (pass == Pass::Refusals) {
+            return Ok(Tally::default());
         }
+        Tally::of(
+            is_right(pair, pass),
+            || println!(rt; "pair {position} is answered otherwise"),
+        )
     })
 }
 
 // The line of one pass
 fn print_pass(rt: &impl Print, pairs: &[u8], pass: Pass, name: &str) -> io::Result<Tally> {
     let tally = tally_pass(rt, pairs, pass)?;
-    println!(rt; "{name} {} right {}", tally.tried, tally.right)?;
+    println!(rt; "{name} {tally}")?;
     Ok(tally)
 }
 

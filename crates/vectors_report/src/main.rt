@@ -3,12 +3,13 @@
 // many are refused as expected with every word of the buffer left as it was.
 #![tactic(auto)]
 
-use refusals::Check;
+ghost use Rattle.std.specs.Prelude.{◌≤◌};
+
 use std::io;
-use vectors::band::Band;
+use vectors::answer::Answer;
 use vectors::input::{has_mileage, hold};
 use vectors::items::{Item, Rest, tally_of};
-use vectors::mass::{Kind, Mass, Row, band_of, verdict_of};
+use vectors::mass::{Kind, Row, band_of, verdict_of};
 use vectors::tally::Tally;
 use vectors::words::{OLD, ROW, WORDS, kept, sums_right};
 
@@ -30,13 +31,12 @@ enum Pass {
     Refusals,
 }
 
-// The words of a sheet's buffer, as far as there is room, and the answer that is expected: its number and place are 0 where the sheet is
-// accepted.
+// The words of a sheet's buffer, as far as there is room, and the answer that is expected
 #[derive(Clone, Copy)]
 struct Head {
     room: usize,
-    number: u64,
-    place: u64,
+    expected: Answer,
+    ghost fits: { room ≤ 6144 },
 }
 
 // A sheet, and the rows that are expected of its report
@@ -54,8 +54,7 @@ impl<'a> Item<'a> for Head {
         let place: u16 = input.item()?;
         Some(Head {
             room: WORDS.min(room.into()),
-            number: number.into(),
-            place: place.into(),
+            expected: (number.into(), place.into()).into(),
         })
     }
 }
@@ -82,30 +81,6 @@ impl Rows {
     }
 }
 
-impl Pass {
-    // Whether a pass looks at the sheets with this number
-    fn looks_at(self, number: u64) -> bool {
-        (self == Pass::Refusals) == (number != 0)
-    }
-}
-
-// The verdict on a band, and a line where it is not right
-fn with_band(
-    rt: &impl Print,
-    sheet: u64,
-    row: u64,
-    kind: Kind,
-    mass: Mass,
-    band: Band,
-) -> io::Result<Tally> {
-    let verdict = verdict_of(band, mass);
-    if !verdict.right {
-        let exact = mass.exact;
-        println!(rt; "sheet {sheet} row {row} {kind:?}: expected {exact} mg, found {band} mg")?;
-    }
-    Ok(verdict.into())
-}
-
 // The bands of one mass of a sheet's rows. Sheets and rows are counted from 1.
 fn with_bands(
     rt: &impl Print,
@@ -118,39 +93,21 @@ fn with_bands(
     let (of_rows, _) = words.as_chunks();
     tally_of(vector.rows, |position, row: Row| {
         let i = position.wrapping_sub(1) as usize;
-        match of_rows.get(i) {
-            Some(words) if rows.have(vector.sheet, i) => with_band(
-                rt,
-                sheet,
-                position,
-                kind,
-                row.mass(kind),
-                band_of(words, kind),
-            ),
-            _ => Ok(Tally::default()),
+        let Some(words) = of_rows.get(i) else {
+            return Ok(Tally::default());
+        };
+        if !rows.have(vector.sheet, i) {
+            return Ok(Tally::default());
         }
+        let (mass, band) = (row.mass(kind), band_of(words, kind));
+        Tally::of(
+            verdict_of(band, mass),
+            || println!(rt;
+                "sheet {sheet} row {position} {kind:?}: expected {} mg, found {band} mg",
+                mass.exact
+            ),
+        )
     })
-}
-
-// The verdict on a sheet, and a line where it is not right
-fn with_verdict(rt: &impl Print, right: bool, sheet: u64) -> io::Result<Tally> {
-    if !right {
-        println!(rt; "sheet {sheet} is answered otherwise")?;
-    }
-    Ok(right.into())
-}
-
-// The report into the first words of a buffer
-fn report_into(s: &[u8], room: usize, words: &mut [u64; WORDS]) -> Check {
-    inventory::report(s, &mut words[..room.min(WORDS)])
-}
-
-// Whether the answer is the one that is expected
-fn answers(found: Check, head: Head) -> bool {
-    match found {
-        Ok(()) => head.number == 0,
-        Err(refusal) => { (refusal.rule.number() == head.number) & (refusal.place == head.place) }
-    }
 }
 
 // Whether the sums of a report are right
@@ -162,21 +119,25 @@ fn has_sums(words: &[u64; WORDS], rows: &[u8]) -> bool {
 // What is looked at of a sheet: all its bands of one mass, its sums or its refusal
 fn with_sheet(rt: &impl Print, sheet: u64, vector: Vector, pass: Pass) -> io::Result<Tally> {
     let mut words = [OLD; WORDS];
-    let right = answers(
-        report_into(vector.sheet, vector.head.room, &mut words),
-        vector.head,
-    );
-    match pass {
-        Pass::Bands(kind, rows) => with_bands(rt, sheet, vector, &words, kind, rows),
-        Pass::Sums => with_verdict(rt, right & has_sums(&words, vector.rows), sheet),
-        Pass::Refusals => with_verdict(rt, right & kept(&words), sheet),
-    }
+    let found = inventory::report(vector.sheet, &mut words[..vector.head.room]);
+    let right = Answer::from(found) == vector.head.expected;
+    let left = match pass {
+        Pass::Bands(kind, rows) => {
+            return with_bands(rt, sheet, vector, &words, kind, rows);
+        }
+        Pass::Sums => has_sums(&words, vector.rows),
+        Pass::Refusals => kept(&words),
+    };
+    Tally::of(
+        right & left,
+        || println!(rt; "sheet {sheet} is answered otherwise"),
+    )
 }
 
-// The sheets of one pass
+// The sheets of one pass: those that are to be refused, or those that are not
 fn tally_pass(rt: &impl Print, vectors: &[u8], pass: Pass) -> io::Result<Tally> {
     tally_of(vectors, |sheet, vector: Vector| {
-        if pass.looks_at(vector.head.number) {
+        if vector.head.expected.0.is_err() == (pass == Pass::Refusals) {
             with_sheet(rt, sheet, vector, pass)
         } else {
             Ok(Tally::default())
@@ -194,15 +155,8 @@ fn print_bands(
 ) -> io::Result<()> {
     let all = tally_pass(rt, vectors, Pass::Bands(kind, Rows::All))?;
     let driven = tally_pass(rt, vectors, Pass::Bands(kind, Rows::Driven))?;
-    print!(rt;
-        "{name} bands {} right {} widest {}",
-        all.tried, all.right, all.widest
-    )?;
-    print!(rt;
-        " ng a {unit}, with a mileage {} right {}",
-        driven.tried, driven.right
-    )?;
-    println!(rt; " widest {} ng", driven.widest)
+    print!(rt; "{name} bands {all} widest {} ng a {unit}", all.widest)?;
+    println!(rt; ", with a mileage {driven} widest {} ng", driven.widest)
 }
 
 // A line for each pass, and how many sheets the last two looked at
@@ -211,15 +165,9 @@ fn print_passes(rt: &impl Print, vectors: &[u8]) -> io::Result<u64> {
     print_bands(rt, vectors, Kind::Soak, "soak", "trip")?;
     print_bands(rt, vectors, Kind::Running, "running", "trip")?;
     let sums = tally_pass(rt, vectors, Pass::Sums)?;
-    println!(rt;
-        "sums of accepted sheets {} right {}",
-        sums.tried, sums.right
-    )?;
+    println!(rt; "sums of accepted sheets {sums}")?;
     let refusals = tally_pass(rt, vectors, Pass::Refusals)?;
-    println!(rt;
-        "refused sheets {} right {}",
-        refusals.tried, refusals.right
-    )?;
+    println!(rt; "refused sheets {refusals}")?;
     Ok((sums + refusals).tried)
 }
 

@@ -1,30 +1,29 @@
 // Runs the lists of calls on shared ledgers that tools/vectors/shared.py put into standard input: how many openings
 // and calls are answered as expected and, where they are refused, leave every byte of the sheet and every word of
-// the buffer as it was; how many ledgers end with the words of a fresh report; and how many participants are told
-// the same, answer by answer, by two lists on two ledgers that agree for them.
+// the buffer as it was; how many ledgers end with the words of a fresh report; and how many participants get the
+// same, reply by reply, from two lists on two ledgers that agree for them.
 #![tactic(auto)]
 
-use refusals::Check;
 use std::io;
 use std::ops::Add;
-use vectors::bytes::{LONGEST, room};
+use vectors::answer::Answer;
+use vectors::bytes::{LONGEST, zeros};
 use vectors::input::hold;
 use vectors::items::{Item, Rest, tally_of};
 use vectors::tally::Tally;
 use vectors::words::{OLD, WORDS, kept};
-use vectors_shared_runs::{Answer, Asked, CALL, answer_of, is_expected};
+use vectors_shared_runs::{Asked, CALL, Reply, Run};
 
-// How many answers can be kept
+// How many replies can be kept
 const SLOTS: usize = 25;
 
-// A sheet and its owners; the number and place at which opening it is refused; the calls on it; and whether the answers told are to be those of
-// the ledger before
+// A sheet and its owners; the answer that is expected when it is opened; the calls on it; and whether the replies are to be those of the ledger
+// before
 #[derive(Clone, Copy)]
 struct Opened<'a> {
     sheet: &'a [u8],
     owners: &'a [u8],
-    number: u64,
-    place: u64,
+    answer: Answer,
     calls: &'a [u8],
     like: bool,
 }
@@ -37,8 +36,7 @@ impl<'a> Item<'a> for Opened<'a> {
         Some(Opened {
             sheet,
             owners,
-            number: number.into(),
-            place: place.into(),
+            answer: (number.into(), place.into()).into(),
             calls: input.part(CALL * usize::from(calls))?,
             like: like != 0,
         })
@@ -67,118 +65,104 @@ impl Add for Tallies {
     }
 }
 
-// A call, and a line where it is not right; ledgers and the calls on each are counted from 1.
-fn with_call(
-    rt: &impl Print,
-    ledger: u64,
-    call: u64,
-    answer: Answer,
-    right: bool,
-) -> io::Result<Tally> {
-    if !right {
-        println!(rt;
-            "ledger {ledger} call {call} is answered {} or leaves something else",
-            answer.number
-        )?;
-    }
-    Ok(right.into())
-}
-
-// An answer is kept in its slot, counted from 1, where it is to be compared.
-fn keep(answers: &mut [Answer; 25], slot: usize, answer: Answer) {
-    if (slot != 0) && (slot <= SLOTS) {
-        answers[slot - 1] = answer;
+// A reply is kept in its slot where it is to be compared.
+fn keep(replies: &mut [Option<Reply>; 25], slot: Option<usize>, reply: Reply) {
+    if let Some(kept) = slot.and_then(|slot| replies.get_mut(slot)) {
+        *kept = Some(reply);
     }
 }
 
-// The calls on a ledger, one after another
+// The calls on a ledger, one after another, and a line for each that is not right; ledgers and the calls on each are counted from 1.
 fn with_calls(
     rt: &impl Print,
     ledger: u64,
-    opened: Opened,
-    sheet: &mut [u8],
-    words: &mut [u64],
-    answers: &mut [Answer; 25],
+    calls: &[u8],
+    run: &mut Run,
+    replies: &mut [Option<Reply>; 25],
 ) -> io::Result<Tally> {
-    tally_of(opened.calls, |call, asked: Asked| {
-        let answer = answer_of(sheet, opened.owners, words, asked);
-        keep(answers, asked.slot, answer);
-        with_call(rt, ledger, call, answer, is_expected(words, answer, asked))
+    tally_of(calls, |call, asked: Asked| {
+        let reply = run.reply(asked);
+        keep(replies, asked.slot, reply);
+        Tally::of(
+            run.is_right(reply, asked),
+            || println!(rt;
+                "ledger {ledger} call {call} is answered {} or leaves something else",
+                reply.answer.number()
+            ),
+        )
     })
 }
 
-// Whether opening is answered as expected, and every word is as it was where it is refused
-fn opens(found: Check, unchanged: bool, opened: Opened) -> bool {
-    let answer = Answer::from(found);
-    let numbers = (answer.number == opened.number) & (answer.place == opened.place);
-    numbers & ((answer.number == 0) | unchanged)
-}
-
-// Whether the words are those that a fresh report leaves in a buffer that held nothing, or, where the ledger did not open, as they were
-fn ends(sheet: &[u8], words: &[u64; 6144], refused: bool) -> bool {
-    if refused {
-        return kept(words);
-    }
+// Whether the words of a ledger are those that a fresh report leaves in a buffer that held nothing
+fn is_fresh(run: &Run) -> bool {
     let mut fresh = [OLD; WORDS];
-    let _ = inventory::report(sheet, &mut fresh);
-    *words == fresh
+    let _ = inventory::report(run.sheet, &mut fresh);
+    run.words[..] == fresh[..]
 }
 
-// A ledger: its opening, its calls and its end, and, where it is to be like the one before, whether the answers kept are those of that one, whose
-// place they take
-fn with_sheet(
+// The calls on a ledger and its end, and, where it is to be like the one before, whether the replies kept are those of that one, whose place they
+// take
+fn with_run(
     rt: &impl Print,
     ledger: u64,
     opened: Opened,
-    sheet: &mut [u8],
-    before: &mut [Answer; 25],
+    run: &mut Run,
+    before: &mut [Option<Reply>; 25],
 ) -> io::Result<Tallies> {
-    let mut words = [OLD; WORDS];
-    let mut answers = [Answer::default(); SLOTS];
-    let found = shared_ledger_calls::open(sheet, opened.owners, &mut words);
-    let right = opens(found, kept(&words), opened) & (sheet[..] == opened.sheet[..]);
-    let calls = with_calls(rt, ledger, opened, sheet, &mut words, &mut answers)?;
+    let mut replies = [None; SLOTS];
+    let calls = with_calls(rt, ledger, opened.calls, run, &mut replies)?;
+    let ends = if opened.answer.0.is_err() {
+        kept(run.words)
+    } else {
+        is_fresh(run)
+    };
     let pairs = if opened.like {
-        Tally::from(*before == answers)
+        Tally::from(*before == replies)
     } else {
         Tally::default()
     };
-    *before = answers;
+    *before = replies;
     Ok(Tallies {
-        openings: right.into(),
+        openings: Tally::default(),
         calls,
-        ends: ends(sheet, &words, opened.number != 0).into(),
+        ends: ends.into(),
         pairs,
     })
 }
 
-// With a copy of the sheet that the calls may change
+// A ledger: its opening, and what follows on a copy of the sheet that the calls may change
 fn with_ledger(
     rt: &impl Print,
     ledger: u64,
     opened: Opened,
-    before: &mut [Answer; 25],
+    before: &mut [Option<Reply>; 25],
 ) -> io::Result<Tallies> {
     let n = opened.sheet.len().min(LONGEST);
-    let mut sheet = room();
+    let (mut sheet, mut words) = (zeros::<LONGEST>(), [OLD; WORDS]);
     sheet[..n].copy_from_slice(&opened.sheet[..n]);
-    with_sheet(rt, ledger, opened, &mut sheet[..n], before)
-}
-
-fn print(rt: &impl Print, name: &str, tally: Tally) -> io::Result<()> {
-    println!(rt; "{name} {} right {}", tally.tried, tally.right)
+    let found = shared_ledger_calls::open(&sheet[..n], opened.owners, &mut words);
+    let answered = Answer::from(found) == opened.answer;
+    let left = opened.answer.0.is_ok() | kept(&words);
+    let mut run = Run {
+        sheet: &mut sheet[..n],
+        owners: opened.owners,
+        words: &mut words,
+    };
+    let mut tallies = with_run(rt, ledger, opened, &mut run, before)?;
+    tallies.openings = (answered & left).into();
+    Ok(tallies)
 }
 
 // The lines of the tallies, and how many calls there are. A ledger that is cut off is missing; the count that the input gives shows it.
 fn report(rt: &impl Print, ledgers: &[u8]) -> io::Result<u64> {
-    let mut before = [Answer::default(); SLOTS];
+    let mut before = [None; SLOTS];
     let tallies: Tallies = tally_of(ledgers, |ledger, opened: Opened| {
         with_ledger(rt, ledger, opened, &mut before)
     })?;
-    print(rt, "openings", tallies.openings)?;
-    print(rt, "calls", tallies.calls)?;
-    print(rt, "words at the end", tallies.ends)?;
-    print(rt, "pairs told the same", tallies.pairs)?;
+    println!(rt; "openings {}", tallies.openings)?;
+    println!(rt; "calls {}", tallies.calls)?;
+    println!(rt; "words at the end {}", tallies.ends)?;
+    println!(rt; "pairs told the same {}", tallies.pairs)?;
     Ok(tallies.calls.tried)
 }
 

@@ -1,11 +1,13 @@
-// One call of a list that tools/vectors/shared.py wrote, made on a shared ledger and held against what is expected, and its answer.
+// One call of a list that tools/vectors/shared.py wrote, made on a shared ledger and compared with what is expected, and its reply.
 #![tactic(auto)]
 
-use refusals::Check;
-use shared_ledger::{RowAnswer, TotalsAnswer};
-use vectors::bytes::{LONGEST, room};
+use refusals::{Check, Refusal};
+use shared_ledger::{Caller, RowRead};
+use shared_ledger_calls::SharedLedger;
+use vectors::answer::Answer;
+use vectors::bytes::{LONGEST, zeros};
 use vectors::items::{Item, Rest};
-use vectors::words::{WORDS, stands};
+use vectors::words::WORDS;
 
 // The bytes of a call
 pub const CALL: usize = 36;
@@ -19,19 +21,19 @@ enum Call {
     Totals,
 }
 
-// A call and who makes it; the number and place that are expected; the count that is told, from which word on the words told stand in the buffer,
-// and where the answer is kept to be compared, 0 where it is not
+// A call and who makes it; the answer that is expected; the count that a read returns, and from which word on its words are in the buffer;
+// and where the reply is kept to be compared, if it is
 #[derive(Clone, Copy)]
 pub struct Asked {
     who: u64,
     call: Call,
-    number: u64,
-    place: u64,
+    answer: Answer,
     count: u64,
     at: usize,
-    pub slot: usize,
+    pub slot: Option<usize>,
 }
 
+// The slots are counted from 1, and 0 stands for none.
 impl<'a> Item<'a> for Asked {
     fn read(input: &mut Rest<'a>) -> Option<Asked> {
         let kind: u8 = input.item()?;
@@ -43,11 +45,10 @@ impl<'a> Item<'a> for Asked {
         Some(Asked {
             who,
             call: call_of(kind, row, vehicles)?,
-            number: number.into(),
-            place: place.into(),
+            answer: (number.into(), place.into()).into(),
             count: count.into(),
             at: at.into(),
-            slot: slot.into(),
+            slot: usize::from(slot).checked_sub(1),
         })
     }
 }
@@ -62,127 +63,131 @@ fn call_of(kind: u8, row: u64, vehicles: u64) -> Option<Call> {
     }
 }
 
-// What an answer tells besides its number and place: a change nothing, or that it is refused and has changed a byte or a word; a read of a row the
-// count and six words, and one of the totals 26 words
-#[derive(Clone, Copy, Debug, Default, PartialEq, Eq)]
-pub enum Told {
-    #[default]
+// What a call returns besides its answer: a change nothing, a read of a row its count and six words, and a read of the totals 26 words
+#[derive(Clone, Copy, Debug, PartialEq, Eq)]
+enum Returned {
     Nothing,
-    Changed,
     Row(u64, [u64; 6]),
     Totals([u64; 26]),
 }
 
-// A call's answer: number and place are 0 where it passes.
-#[derive(Clone, Copy, Debug, Default, PartialEq, Eq)]
-pub struct Answer {
-    pub number: u64,
-    pub place: u64,
-    pub told: Told,
+// What a call is answered and returns, and whether it is refused and has changed a byte or a word
+#[derive(Clone, Copy, Debug, PartialEq, Eq)]
+pub struct Reply {
+    pub answer: Answer,
+    returned: Returned,
+    spoilt: bool,
 }
 
-// An answer that tells nothing but a number and a place
-impl From<Check> for Answer {
-    fn from(found: Check) -> Answer {
-        let (number, place) = match found {
-            Ok(()) => (0, 0),
-            Err(refusal) => (refusal.rule.number(), refusal.place),
+impl Reply {
+    fn of(found: Check, returned: Returned) -> Reply {
+        Reply {
+            answer: found.into(),
+            returned,
+            spoilt: false,
+        }
+    }
+}
+
+impl From<Result<RowRead, Refusal>> for Reply {
+    fn from(found: Result<RowRead, Refusal>) -> Reply {
+        match found {
+            Ok(read) => Reply::of(Ok(()), Returned::Row(read.count, read.words)),
+            Err(refusal) => Reply::of(Err(refusal), Returned::Nothing),
+        }
+    }
+}
+
+impl From<Result<[u64; 26], Refusal>> for Reply {
+    fn from(found: Result<[u64; 26], Refusal>) -> Reply {
+        match found {
+            Ok(words) => Reply::of(Ok(()), Returned::Totals(words)),
+            Err(refusal) => Reply::of(Err(refusal), Returned::Nothing),
+        }
+    }
+}
+
+// A shared ledger: the sheet, the owners of its rows, and the words of its report; a call changes the sheet and the words at once, which asks
+// for a lifetime of each.
+#[derive(Drop)]
+pub struct Run<'s, 'o, 'w> {
+    pub sheet: &'s mut [u8],
+    pub owners: &'o [u8],
+    pub words: &'w mut [u64],
+}
+
+impl Run<'_, '_, '_> {
+    // Makes a call.
+    pub fn reply(&mut self, asked: Asked) -> Reply {
+        match asked.call {
+            Call::Arrive(_, _) | Call::Depart(_, _) => self.change(asked.who, asked.call),
+            Call::Row(row) => self.row(asked.who, row),
+            Call::Totals => self.totals(asked.who),
+        }
+    }
+
+    // The ledger for a read
+    fn ledger(&self) -> SharedLedger<'_> {
+        SharedLedger {
+            sheet: self.sheet,
+            owners: self.owners,
+            words: self.words,
+        }
+    }
+
+    fn row(&self, who: u64, row: u64) -> Reply {
+        self.ledger().read_row(Caller::from(who), row).into()
+    }
+
+    fn totals(&self, who: u64) -> Reply {
+        self.ledger().read_totals(Caller::from(who)).into()
+    }
+
+    // The call itself, where it is an arrival or a departure
+    fn changed(&mut self, who: u64, call: Call) -> Check {
+        let Run {
+            sheet,
+            owners,
+            words,
+        } = self;
+        let change = match call {
+            Call::Arrive(row, vehicles) => ledger::Call::Arrival(row, vehicles),
+            Call::Depart(row, vehicles) => ledger::Call::Departure(row, vehicles),
+            Call::Row(_) | Call::Totals => return Ok(()),
         };
-        Answer {
-            number,
-            place,
-            told: Told::Nothing,
-        }
+        shared_ledger_calls::change(sheet, owners, words, Caller::from(who), change)
     }
-}
 
-impl From<RowAnswer> for Answer {
-    fn from(found: RowAnswer) -> Answer {
-        let Answer { number, place, .. } = found.check.into();
-        Answer {
-            number,
-            place,
-            told: Told::Row(found.count, found.words),
-        }
+    // A change, and whether it is refused and has changed a byte or a word
+    fn change(&mut self, who: u64, call: Call) -> Reply {
+        let (n, m) = (self.sheet.len().min(LONGEST), self.words.len().min(WORDS));
+        let (mut bytes, mut words) = (zeros::<LONGEST>(), [0u64; WORDS]);
+        bytes[..n].copy_from_slice(&self.sheet[..n]);
+        words[..m].copy_from_slice(&self.words[..m]);
+        let mut reply = Reply::of(self.changed(who, call), Returned::Nothing);
+        reply.spoilt = reply.answer.0.is_err() & !self.is(&bytes[..n], &words[..m]);
+        reply
     }
-}
 
-impl From<TotalsAnswer> for Answer {
-    fn from(found: TotalsAnswer) -> Answer {
-        let Answer { number, place, .. } = found.check.into();
-        Answer {
-            number,
-            place,
-            told: Told::Totals(found.words),
-        }
+    // Whether the sheet and the words are these
+    fn is(&self, sheet: &[u8], words: &[u64]) -> bool {
+        (self.sheet[..] == sheet[..]) & (self.words[..] == words[..])
     }
-}
 
-// The call itself, where it is an arrival or a departure
-fn changed(sheet: &mut [u8], owners: &[u8], words: &mut [u64], who: u64, call: Call) -> Check {
-    match call {
-        Call::Arrive(row, vehicles) => {
-            shared_ledger_calls::arrive(sheet, owners, words, who, row, vehicles)
-        }
-        Call::Depart(row, vehicles) => {
-            shared_ledger_calls::depart(sheet, owners, words, who, row, vehicles)
-        }
-        Call::Row(_) | Call::Totals => Ok(()),
+    // Whether these words are in the buffer from a place on
+    fn has(&self, place: usize, words: &[u64]) -> bool {
+        self.words
+            .get(place..)
+            .is_some_and(|rest| rest.starts_with(words))
     }
-}
 
-// A change, and whether it is refused and has changed a byte or a word
-fn of_change(sheet: &mut [u8], owners: &[u8], words: &mut [u64], who: u64, call: Call) -> Answer {
-    let (n, m) = (sheet.len().min(LONGEST), words.len().min(WORDS));
-    let mut bytes = room();
-    bytes[..n].copy_from_slice(&sheet[..n]);
-    let mut old = [0u64; WORDS];
-    old[..m].copy_from_slice(&words[..m]);
-    let mut answer = Answer::from(changed(sheet, owners, words, who, call));
-    let same = (sheet[..] == bytes[..n]) & (words[..] == old[..m]);
-    if (answer.number != 0) & !same {
-        answer.told = Told::Changed;
+    // Whether a reply is the one that is expected: a read that is accepted returns the words of the buffer, and any other call nothing.
+    pub fn is_right(&self, reply: Reply, asked: Asked) -> bool {
+        let returned = match reply.returned {
+            Returned::Nothing => true,
+            Returned::Row(count, words) => (count == asked.count) & self.has(asked.at, &words),
+            Returned::Totals(words) => self.has(asked.at, &words),
+        };
+        (reply.answer == asked.answer) & !reply.spoilt & returned
     }
-    answer
-}
-
-// Makes a call: what it is answered.
-pub fn answer_of(sheet: &mut [u8], owners: &[u8], words: &mut [u64], asked: Asked) -> Answer {
-    let who = asked.who;
-    match asked.call {
-        Call::Arrive(_, _) | Call::Depart(_, _) => {
-            of_change(sheet, owners, words, who, asked.call)
-        }
-        Call::Row(row) => shared_ledger_calls::read_row(sheet, owners, words, who, row).into(),
-        Call::Totals => shared_ledger_calls::read_totals(sheet, owners, words, who).into(),
-    }
-}
-
-impl Told {
-    // Whether nothing is told: a read that is refused tells zeros.
-    fn is_nothing(self) -> bool {
-        match self {
-            Told::Nothing => true,
-            Told::Changed => false,
-            Told::Row(count, words) => (count == 0) & (words == [0; 6]),
-            Told::Totals(words) => words == [0; 26],
-        }
-    }
-}
-
-// Whether a read told the words that stand in the buffer, and any other call and any refusal nothing
-fn tells(words: &[u64], answer: Answer, asked: Asked) -> bool {
-    match answer.told {
-        Told::Row(count, told) if answer.number == 0 => {
-            (count == asked.count) & stands(words, asked.at, &told)
-        }
-        Told::Totals(told) if answer.number == 0 => stands(words, asked.at, &told),
-        told => told.is_nothing(),
-    }
-}
-
-// Whether an answer is the one that is expected
-pub fn is_expected(words: &[u64], answer: Answer, asked: Asked) -> bool {
-    let numbers = (answer.number == asked.number) & (answer.place == asked.place);
-    numbers & tells(words, answer, asked)
 }

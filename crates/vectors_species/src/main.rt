@@ -47,7 +47,7 @@ fn report(rt: &impl Print, input: &[u8]) -> io::Result<()> {
     let tally = tally_of(vectors, |_, vector: Vector| {
         Ok(Tally::from(as_given(vector)))
     })?;
-    println!(rt; "totals: {} split as given {}", tally.tried, tally.right)
+    println!(rt; "totals: {}", tally.counts("split as given"))
 }
 
 fn main(rt: HostRuntime) -> io::Result<()> {

@@ -7,6 +7,6 @@ use Rattle.evaporation.proofs.evp_factor.Goals as goal
 pub returns : goal.returns
 returns c =
     let a = c.factor.ensures in
-    let e = c.factor_numbers.ensures in
+    let e = c.from.ensures in
     let n = e ∙ factor-is _ in
     record { answer-is = e ∙ ap factor_numbers a.answer-is; says = rw n a.says; band = rw n a.band }

@@ -7,7 +7,7 @@ use Rattle.evaporation.proofs.evp_report.Goals as goal
 pub returns : goal.returns
 returns c =
     let a = c.report.ensures in
-    let e = c.check_numbers.ensures in
+    let e = c.from.ensures in
     let n = e ∙ check-is _ in
     record {
       answer-is = e ∙ ap check_numbers a.answer-is;

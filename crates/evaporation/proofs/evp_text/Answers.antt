@@ -5,4 +5,4 @@ use Rattle.evaporation.proofs.evp_text.Goals as goal
 
 pub returns : goal.returns
 returns c =
-    text-numbers c.report_check-check.ensures c.report_text.ensures c.text_numbers.ensures
+    text-numbers c.report_check-check.ensures c.report_text-written.ensures.call (rw c.length_of.ensures at c.from.ensures)

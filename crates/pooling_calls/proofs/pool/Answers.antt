@@ -15,8 +15,14 @@ returns-in_err-pool_answer c =
 
 pub returns : goal.returns
 unfolding check_of
-returns c = pool-reply (sym c.in_ok-pool_answer.was ∙ c.pool_answer.ensures) c.write_pool.ensures
+returns c =
+    pool-reply (sym c.in_ok-pool_answer.was ∙ c.pool_answer.ensures) (rw (c.of.ensures.0, c.of.ensures.1) at c.write.ensures)
 
-pub write_pool-requires : goal.write_pool-requires
+pub of-requires : goal.of-requires
 unfolding check_of
-write_pool-requires c = answer-passes (sym c.in_ok-pool_answer.was ∙ c.pool_answer.ensures) refl
+of-requires c = (answer-passes (sym c.in_ok-pool_answer.was ∙ c.pool_answer.ensures) refl).0
+
+pub write-requires : goal.write-requires
+unfolding check_of
+write-requires c =
+    rw (c.of.ensures.0, c.of.ensures.1) (answer-passes (sym c.in_ok-pool_answer.was ∙ c.pool_answer.ensures) refl).1

@@ -22,20 +22,19 @@ fits s words there room = omega (arith, room, mul-le-mul_left (6 * rows_of s + 2
 
 pub write_season-requires : goal.write_season-requires
 write_season-requires c =
-    let there : c.loop-j.j < seasons_of c.args.s.now = omega arith in
-    let end = fits _ c.args.words.now there c.requires.2 in
+    let there : c.loop-j.j < seasons_of c.args.loaded.now.sheet.bytes.now = omega arith in
+    let end = fits _ c.args.words.now there c.requires in
     let counted = c.rows_of.ensures.0 in
-    let p = c.requires in
-    rw counted (p.0, there, simp (length-take, length-drop) (omega (arith, end, c.loop-j.invariant.0)), p.1)
+    rw counted (there, simp (length-take, length-drop) (omega (arith, end, c.loop-j.invariant.0)))
 
 pub loop-j-preserved : goal.loop-j-preserved
 loop-j-preserved c =
-    let there : c.loop-j.j < seasons_of c.args.s.now = omega arith in
-    let end = fits _ c.args.words.now there c.requires.2 in
+    let there : c.loop-j.j < seasons_of c.args.loaded.now.sheet.bytes.now = omega arith in
+    let end = fits _ c.args.words.now there c.requires in
     let counted = c.rows_of.ensures.0 in
     let l = c.loop-j in
     let x = c.args in
-    let s = x.s.now in
+    let s = x.loaded.now.sheet.bytes.now in
     let n = 6 * c.rows_of.result + 26 in
     let left : n * l.j + n - n * l.j ≡ n = omega arith in
     let next = blocks-put (season_report s) (6 * rows_of s + 26) (block-length s) x.words.now l.j (n * l.j) (n * l.j + n - n * l.j) l.words
@@ -48,51 +47,51 @@ loop-j-preserved c =
 pub returns : goal.returns
 returns c =
     let l = c.loop-j in
-    let s = c.args.s.now in
+    let s = c.args.loaded.now.sheet.bytes.now in
     let all : l.j ≡ seasons_of s = omega arith in
     l.invariant.1 ∙ all-written s l.j _ all
 
 pub rows_of-requires : goal.rows_of-requires
-rows_of-requires c = omega (arith, parking-there _ c.requires.0.passes)
+rows_of-requires c = omega (arith, parking-there _ c.args.loaded.now.sheet.passes)
 
 pub overflow_mul-size : goal.overflow_mul-size
-overflow_mul-size c = omega (arith, c.rows_of.ensures.0, rows_fit _ c.requires.0.passes)
+overflow_mul-size c = omega (arith, c.rows_of.ensures.0, rows_fit _ c.args.loaded.now.sheet.passes)
 
 pub overflow_add-size : goal.overflow_add-size
-overflow_add-size c = omega (arith, c.rows_of.ensures.0, rows_fit _ c.requires.0.passes)
+overflow_add-size c = omega (arith, c.rows_of.ensures.0, rows_fit _ c.args.loaded.now.sheet.passes)
 
 pub seasons_of-seasons-requires : goal.seasons_of-seasons-requires
-seasons_of-seasons-requires c = omega (arith, parking-there _ c.requires.0.passes)
+seasons_of-seasons-requires c = omega (arith, parking-there _ c.args.loaded.now.sheet.passes)
 
 pub loop-j-init : goal.loop-j-init
-loop-j-init c = let s = c.args.s.now in (refl, blocks-none _ (6 * rows_of s + 26) (block-length s) _)
+loop-j-init c = let s = c.args.loaded.now.sheet.bytes.now in (refl, blocks-none _ (6 * rows_of s + 26) (block-length s) _)
 
 pub overflow_mul-start : goal.overflow_mul-start
 overflow_mul-start c =
-    let there : c.loop-j.j < seasons_of c.args.s.now = omega arith in
-    let end = fits _ c.args.words.now there c.requires.2 in
+    let there : c.loop-j.j < seasons_of c.args.loaded.now.sheet.bytes.now = omega arith in
+    let end = fits _ c.args.words.now there c.requires in
     let counted = c.rows_of.ensures.0 in
     rw counted (record { fits = omega (arith, end) })
 
 pub overflow_add-end : goal.overflow_add-end
 overflow_add-end c =
-    let there : c.loop-j.j < seasons_of c.args.s.now = omega arith in
-    let end = fits _ c.args.words.now there c.requires.2 in
+    let there : c.loop-j.j < seasons_of c.args.loaded.now.sheet.bytes.now = omega arith in
+    let end = fits _ c.args.words.now there c.requires in
     let counted = c.rows_of.ensures.0 in
     rw counted (record { fits = omega (arith, end) })
 
 pub offset_bounds-words-start : goal.offset_bounds-words-start
 offset_bounds-words-start c =
-    let there : c.loop-j.j < seasons_of c.args.s.now = omega arith in
-    let p = c.requires.0.passes in
+    let there : c.loop-j.j < seasons_of c.args.loaded.now.sheet.bytes.now = omega arith in
+    let p = c.args.loaded.now.sheet.passes in
     -- there are at most 12 seasons
     let few : c.loop-j.j ≤ 12 = omega (arith, there, (accepted _ p).seasons-most) in
     rw c.rows_of.ensures.0 (record { fits = omega (arith, rows_fit _ p, mul-le-mul (rows_fit _ p) few, few) })
 
 pub slice_bounds-write_season-end : goal.slice_bounds-write_season-end
 slice_bounds-write_season-end c =
-    let there : c.loop-j.j < seasons_of c.args.s.now = omega arith in
-    let end = fits _ c.args.words.now there c.requires.2 in
+    let there : c.loop-j.j < seasons_of c.args.loaded.now.sheet.bytes.now = omega arith in
+    let end = fits _ c.args.words.now there c.requires in
     let counted = c.rows_of.ensures.0 in
     let within : (6 * c.rows_of.result + 26) * c.loop-j.j + (6 * c.rows_of.result + 26) ≤ length c.loop-j.words =
     rw counted (omega (arith, end, c.loop-j.invariant.0)) in

@@ -10,4 +10,5 @@ use Rattle.season_report.proofs.write_seasons.Given as goal
 
 abbrev pub invariant-loop-j : goal.invariant-loop-j
 invariant-loop-j l = (length l.words ≡ length l.initial.words)
-    × (l.words ≡ filled_blocks (season_report l.s) (6 * rows_of l.s + 26) (block-length l.s) l.initial.words l.j)
+    × (let s = l.loaded.sheet.bytes.now in
+    l.words ≡ filled_blocks (season_report s) (6 * rows_of s + 26) (block-length s) l.initial.words l.j)

@@ -3,6 +3,7 @@
 use mathlib.Core.Path.{◌≡◌, refl, sym, ◌∙◌}
 use Rattle.std.proofs.Common.{Err, rules}
 use Rattle.refusals.specs.Check.{Check}
+use Rattle.shared_ledger.specs.Caller.{who_of}
 use Rattle.shared_ledger_calls.proofs.Outcome.{change-refused, change-allowed, change-done}
 use Rattle.shared_ledger_calls.proofs.change.Goals as goal
 
@@ -14,7 +15,7 @@ returns-in_err-change_check c =
 pub apply-requires : goal.apply-requires
 apply-requires c =
     let x = c.args in
-    change-allowed x.s.now x.owners.now x.words.now x.who x.call c.change_check.ensures c.in_ok-change_check.was
+    change-allowed x.sheet.now x.owners.now x.words.now (who_of x.who) x.call c.change_check.ensures c.in_ok-change_check.was
 
 pub returns : goal.returns
 returns c =

@@ -4,12 +4,14 @@
 use mathlib.Core.Path.{refl, sym, subst}
 use native.Mathlib.Omega.{arith}
 use Rattle.numbers.proofs.Lists.{filled_none, filled_more, filled-all, sum-none}
+use Rattle.speciation.specs.Table.{alkanes, alkenes, alkines, aromatics, table, shares}
 use Rattle.speciation.specs.Split.{share_at, species_masses, SpeciesPromise}
 use Rattle.speciation.proofs.Promised.{next_fits, next-mass, next-reached, promised}
 use Rattle.speciation.proofs.split.Goals as goal
 
 pub loop-i-init : goal.loop-i-init
-loop-i-init c = (filled_none _ _ refl, record { sum_is = sum-none share_at; column-is = c.share_table-table.ensures })
+unfolding shares table alkanes alkenes alkines aromatics
+loop-i-init c = (filled_none _ _ refl, record { sum_is = sum-none share_at; column-is = refl })
 
 pub mass_of-requires : goal.mass_of-requires
 mass_of-requires c = next_fits c.loop-i.invariant.1 (omega arith)

@@ -1,26 +1,16 @@
--- `species_report::species_text` meets its contract: the length comes first, and the text where it fits.
+-- `species_report::species_text` meets its contract: the text of these lines is written whole.
 -- Assumes nothing.
-use native.Mathlib.Omega.{arith}
-use Rattle.species_report.proofs.Answered.{species-length}
-use Rattle.species_report.proofs.SpeciesPrinted.{head-there, text-kept, text-put}
+use mathlib.Core.Path.{ap, ◌∙◌}
+use lib.ListN.{length}
+use Rattle.species_report.proofs.Answered.{species-found}
+use Rattle.species_report.proofs.SpeciesPrinted.{text-call}
 use Rattle.species_report.proofs.species_text.Goals as goal
 
-pub put_text-length-requires : goal.put_text-length-requires
-put_text-length-requires c =
-    let found = c.species_of-found.ensures in
-    (head-there found, omega (arith, species-length found))
+pub lines_of-requires : goal.lines_of-requires
+lines_of-requires c = species-found c.species_of-found.ensures
 
-pub returns-then-out-length : goal.returns-then-out-length
-returns-then-out-length c =
-    let found = c.species_of-found.ensures in
-    text-kept found c.put_text-length.ensures (omega (arith, c.if-out-length.true))
-
-pub put_text-requires : goal.put_text-requires
-put_text-requires c =
-    let found = c.species_of-found.ensures in
-    (head-there found, omega (arith, species-length found))
-
-pub returns : goal.returns
-returns c =
-    let found = c.species_of-found.ensures in
-    text-put found c.put_text-length.ensures (omega (arith, c.if-out-length.false)) c.put_text.ensures.0
+pub returns-clause-call : goal.returns-clause-call
+returns-clause-call c =
+    let lines = c.lines_of.ensures in
+    let whole = c.write_whole.ensures in
+    text-call c.species_of-found.ensures (whole.length ∙ ap length lines.text) lines.most (rw lines.text at whole.text)

@@ -1,9 +1,16 @@
 -- `boundary_calls::filed::mark_in` meets its contract.
-use Rattle.boundary.proofs.MarkNumbers.{marked-in, not-marked}
+use Rattle.std.proofs.Common.{◌∙◌, ap}
+use Rattle.marking.specs.declared.Filed.{Filed}
+use Rattle.marking.specs.Verdicts.{verdict}
+use Rattle.boundary.specs.MarkExport.{handed_verdict}
 use Rattle.boundary_calls.proofs.filed.mark_in.Goals as goal
 
-pub returns-in_default : goal.returns-in_default
-returns-in_default c = not-marked _ _ _ _ c.in_default.is
+pub returns-in-Ok : goal.returns-in-Ok
+unfolding handed_verdict
+returns-in-Ok c =
+    let e = c.in-Ok.ensures in
+    rw e.0 (c.mark.ensures.0 ∙ ap (λ (f : Filed). verdict f c.args.low c.args.high) e.1)
 
-pub returns : goal.returns
-returns c = marked-in _ _ _ _ _ c.in-Some.is c.mark.ensures.0
+pub returns-in-Err : goal.returns-in-Err
+unfolding handed_verdict
+returns-in-Err c = rw c.in-Err.ensures

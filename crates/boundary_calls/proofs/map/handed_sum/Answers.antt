@@ -1,12 +1,20 @@
 -- `boundary_calls::map::handed_sum` meets its contract.
-use Rattle.boundary.proofs.CellNumbers.{first-none, second_none, both-given}
+use Rattle.std.proofs.lemmas.Result.{err_from_is_err_and}
+use Rattle.boundary.specs.Cells.{handed_sum}
 use Rattle.boundary_calls.proofs.map.handed_sum.Goals as goal
 
-pub returns-in_default : goal.returns-in_default
-returns-in_default c = first-none _ c.in_default.is
+pub returns-in_err-first : goal.returns-in_err-first
+unfolding handed_sum
+returns-in_err-first c =
+    let p = err_from_is_err_and c.from_residual.result c.from_residual.ensures.1 in
+    rw (p.1, p.2, c.in_err-first.ensures.0, c.in_err-first.ensures.1)
 
-pub returns-in_default-b : goal.returns-in_default-b
-returns-in_default-b c = second_none _ c.in-Some.is c.in_default-b.is
+pub returns-in_err-second : goal.returns-in_err-second
+unfolding handed_sum
+returns-in_err-second c =
+    let p = err_from_is_err_and c.from_residual-in_err-second.result c.from_residual-in_err-second.ensures.1 in
+    rw (p.1, p.2, c.in_ok-first.ensures, c.in_err-second.ensures.0, c.in_err-second.ensures.1)
 
 pub returns : goal.returns
-returns c = both-given _ c.in-Some.is _ c.in-Some-b.is c.add_cells.ensures.0
+unfolding handed_sum
+returns c = rw (c.in_ok-first.ensures, c.in_ok-second.ensures) c.add_cells.ensures.0

@@ -1,41 +1,23 @@
 -- `bounds::short::short` meets its contract: the products fit, and the short exponential encloses the exact one.
-use mathlib.Core.Path.{◌≡◌}
-use mathlib.Core.List.{List}
-use Prim.Native.Nat.{ℕ, ◌<◌, ◌+◌, ◌*◌, ◌/◌, ◌%◌, ◌^◌}
-use native.Mathlib.Omega.{arith}
-use lib.ListN.{get_or}
-use Rattle.bounds.specs.Short.{short_fine, short, short_limit}
-use Rattle.bounds.specs.Exponential.{high, finest, entries}
-use Rattle.bounds.proofs.Tables.{high-at, finest-at}
+use Rattle.std.proofs.Common.{◌≡◌, ℕ, ◌*◌, ◌+◌, ◌/◌, ◌%◌, ◌^◌, refl, arith}
+use Rattle.bounds.specs.Exponential.{high, finest}
+use Rattle.bounds.specs.Short.{short_fine, short}
 use Rattle.bounds.proofs.ShortBound.{finest-product, short-product, short-size, short-within}
 use Rattle.bounds.proofs.short.short.Goals as goal
 
--- the two entries that are read
-first : (t : List ℕ) (x : ℕ) → t ≡ entries → x < short_limit → get_or t (578 + x / 2 ^ 49) 0 ≡ high (x / 2 ^ 49)
-first t x e h = rw e (high-at _ (omega arith))
-
-second : (t : List ℕ) (x : ℕ) → t ≡ entries → x < short_limit → get_or t (883 + x / 2 ^ 39 % 2 ^ 10) 0 ≡ finest (x / 2 ^ 39 % 2 ^ 10)
-second t x e h = rw e (finest-at _ (omega arith))
-
--- the product of the second with 1 + ρ, cut
-middle : (t : List ℕ) (x : ℕ) → t ≡ entries → x < short_limit
-    → get_or t (883 + x / 2 ^ 39 % 2 ^ 10) 0 * (2 ^ 32 + x / 2 ^ 21 % 2 ^ 18) / 2 ^
-    31 ≡ short_fine (x / 2 ^ 39 % 2 ^ 10) (x / 2 ^ 21 % 2 ^ 18)
+-- the product of the second entry with 1 + ρ, cut
+middle : (x : ℕ) → finest (x / 2 ^ 39 % 2 ^ 10) * (2 ^ 32 + x / 2 ^ 21 % 2 ^ 18) / 2 ^ 31 ≡ short_fine (x / 2 ^ 39 % 2 ^ 10) (x / 2 ^ 21 % 2 ^ 18)
 unfolding short_fine
-middle t x e h = rw (second t x e h)
+middle x = refl
 
 pub overflow_mul-result : goal.overflow_mul-result
 overflow_mul-result c =
-    rw (second c.args.tables.now c.args.x c.requires.0 c.requires.1)
-    (omega (
-      arith,
-      finest-product (c.args.x / 2 ^ 39 % 2 ^ 10)
-          (c.args.x / 2 ^ 21 % 2 ^ 18) (omega arith) (omega arith),
-    ))
+    rw c.finest.ensures
+    (omega (arith, finest-product (c.args.x / 2 ^ 39 % 2 ^ 10) (c.args.x / 2 ^ 21 % 2 ^ 18) (omega arith) (omega arith)))
 
 pub overflow_mul-result-2 : goal.overflow_mul-result-2
 overflow_mul-result-2 c =
-    rw (first c.args.tables.now c.args.x c.requires.0 c.requires.1, middle c.args.tables.now c.args.x c.requires.0 c.requires.1)
+    rw (c.high.ensures, c.finest.ensures, middle c.args.x)
     (omega (
       arith,
       short-product (c.args.x / 2 ^ 49)
@@ -44,17 +26,12 @@ overflow_mul-result-2 c =
     ))
 
 -- the result is the short exponential
-same : (t : List ℕ) (x : ℕ) → t ≡ entries → x < short_limit
-    → get_or t (578 + x / 2 ^ 49) 0 *
-    (get_or t (883 + x / 2 ^ 39 % 2 ^ 10) 0 * (2 ^ 32 + x / 2 ^ 21 % 2 ^ 18) /
-    2 ^ 31) / 2 ^ 22 ≡ short x
+same : (x : ℕ) → high (x / 2 ^ 49) * (finest (x / 2 ^ 39 % 2 ^ 10) * (2 ^ 32 + x / 2 ^ 21 % 2 ^ 18) / 2 ^ 31) / 2 ^ 22 ≡ short x
 unfolding short
-same t x e h = rw (first t x e h, middle t x e h)
+same x = rw (middle x) refl
 
 pub returns : goal.returns
 returns c =
-    let l = c.requires.1 in (
-      same c.args.tables.now c.args.x c.requires.0 c.requires.1,
-      rw (same c.args.tables.now c.args.x c.requires.0 c.requires.1) (short-size _ l),
-      rw (same c.args.tables.now c.args.x c.requires.0 c.requires.1) (short-within _ l),
-    )
+    let l = c.requires in
+    let e = same c.args.x in
+    rw (c.high.ensures, c.finest.ensures) (e, rw e (short-size _ l), rw e (short-within _ l))

@@ -1,9 +1,9 @@
 -- `breakthrough::losses::through_list` meets its contract: the sum so far is that of the first entries.
-use mathlib.Core.Path.{◌≡◌}
+use Rattle.std.proofs.Common.{◌≡◌}
 use Rattle.numbers.specs.Lists as lists
-use Rattle.numbers.specs.Lists.{at}
-use Rattle.breakthrough.proofs.Listed.{part}
+use Rattle.parking.specs.SeasonList.{part}
+use Rattle.breakthrough.proofs.Listed.{each}
 use Rattle.breakthrough.proofs.losses.through_list.Given as goal
 
 abbrev pub invariant-loop-k : goal.invariant-loop-k
-invariant-loop-k l = l.sum ≡ lists.sum (part l.list l.c) l.k
+invariant-loop-k l = l.sum ≡ lists.sum (part (each l.c.by_distance) l.list.entries) l.k

@@ -1,9 +1,8 @@
--- `checks::head::letters_missing` meets its contract.
+-- `checks::head::letters_missing` meets its contract: the first three bytes are compared with the letters.
 -- Assumes nothing.
-use mathlib.Core.Path.{refl}
-use Rattle.sheet.specs.Sheet.{letters_missing}
+use native.Mathlib.Omega.{arith}
+use Rattle.checks.proofs.Letters.{letters}
 use Rattle.checks.proofs.head.letters_missing.Goals as goal
 
 pub returns : goal.returns
-unfolding letters_missing
-returns c = refl
+returns c = letters _ (omega arith) c.starts_with.ensures.value

@@ -8,4 +8,5 @@ use Rattle.sheet.specs.RunningSums.{vehicles_before}
 use Rattle.checks.proofs.rows.rows_check.Given as goal
 
 abbrev pub invariant-loop-i : goal.invariant-loop-i
-invariant-loop-i l = (each (row_check l.s) l.i ≡ Pass) × (l.before ≡ vehicles_before l.s l.i) × (l.before ≤ l.i * 2 ^ 32)
+invariant-loop-i l =
+    (each (row_check l.seasons.sheet.now) l.i ≡ Pass) × (l.before ≡ vehicles_before l.seasons.sheet.now l.i) × (l.before ≤ l.i * 2 ^ 32)

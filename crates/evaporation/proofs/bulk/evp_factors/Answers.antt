@@ -3,4 +3,4 @@ use Rattle.boundary.proofs.BulkNumbers.{factors-numbers}
 use Rattle.evaporation.proofs.bulk.evp_factors.Goals as goal
 
 pub returns : goal.returns
-returns c = factors-numbers c.factors.ensures c.check_numbers.ensures
+returns c = factors-numbers c.factors.ensures c.from.ensures

@@ -3,4 +3,4 @@ use Rattle.boundary.proofs.BulkNumbers.{seasons-numbers}
 use Rattle.evaporation.proofs.bulk.evp_report_seasons.Goals as goal
 
 pub returns : goal.returns
-returns c = seasons-numbers c.report_seasons.ensures c.check_numbers.ensures
+returns c = seasons-numbers c.report_seasons.ensures c.from.ensures

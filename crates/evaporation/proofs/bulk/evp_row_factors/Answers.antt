@@ -3,4 +3,4 @@ use Rattle.boundary.proofs.BulkNumbers.{row-factors-numbers}
 use Rattle.evaporation.proofs.bulk.evp_row_factors.Goals as goal
 
 pub returns : goal.returns
-returns c = row-factors-numbers c.row_factors.ensures c.row_factors_numbers.ensures
+returns c = row-factors-numbers c.row_factors.ensures c.from.ensures

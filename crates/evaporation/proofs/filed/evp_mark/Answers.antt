@@ -5,6 +5,4 @@ use Rattle.boundary.proofs.MarkNumbers.{mark-numbers}
 use Rattle.evaporation.proofs.filed.evp_mark.Goals as goal
 
 pub returns : goal.returns
-returns c =
-    let u = c.unit_handed-unit.ensures in
-    mark-numbers _ _ _ (c.verdict_numbers.ensures ∙ ap verdict_numbers (rw u at c.mark_in.ensures))
+returns c = mark-numbers _ _ _ (c.from.ensures ∙ ap verdict_numbers c.mark_in.ensures)

@@ -5,7 +5,4 @@ use Rattle.boundary.proofs.CellNumbers.{sum-numbers-kept}
 use Rattle.evaporation.proofs.map.evp_add_cells.Goals as goal
 
 pub returns : goal.returns
-returns c =
-    let e = c.cell_handed.ensures in
-    let f = c.cell_handed-2.ensures in
-    sum-numbers-kept _ _ (c.sum_numbers.ensures ∙ ap sum_numbers (rw (e, f) at c.handed_sum.ensures))
+returns c = sum-numbers-kept _ _ (c.from.ensures ∙ ap sum_numbers c.handed_sum.ensures)

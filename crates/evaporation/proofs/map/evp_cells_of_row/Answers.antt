@@ -5,6 +5,4 @@ use Rattle.boundary.proofs.CellNumbers.{row-numbers-kept}
 use Rattle.evaporation.proofs.map.evp_cells_of_row.Goals as goal
 
 pub returns : goal.returns
-returns c =
-    let e = c.travel_handed.ensures in
-    row-numbers-kept _ _ (c.row_numbers.ensures ∙ ap row_numbers (rw e at c.handed_row.ensures))
+returns c = row-numbers-kept _ _ (c.from.ensures ∙ ap row_numbers c.handed_row.ensures)

@@ -3,4 +3,4 @@ use Rattle.boundary.proofs.ChangeNumbers.{change-numbers}
 use Rattle.evaporation.proofs.registrations.evp_depart.Goals as goal
 
 pub returns : goal.returns
-returns c = change-numbers c.depart.ensures c.check_numbers.ensures
+returns c = change-numbers c.change.ensures c.from.ensures

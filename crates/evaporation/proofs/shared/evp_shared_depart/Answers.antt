@@ -4,4 +4,4 @@ use Rattle.boundary.proofs.SharedNumbers.{shared-numbers}
 use Rattle.evaporation.proofs.shared.evp_shared_depart.Goals as goal
 
 pub returns : goal.returns
-returns c = shared-numbers c.depart.ensures c.check_numbers.ensures
+returns c = rw c.from.ensures at (shared-numbers c.change.ensures c.from-2.ensures)

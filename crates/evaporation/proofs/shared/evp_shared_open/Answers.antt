@@ -4,4 +4,4 @@ use Rattle.boundary.proofs.SharedNumbers.{open-numbers}
 use Rattle.evaporation.proofs.shared.evp_shared_open.Goals as goal
 
 pub returns : goal.returns
-returns c = open-numbers c.open.ensures c.check_numbers.ensures
+returns c = open-numbers c.open.ensures c.from.ensures

@@ -4,4 +4,4 @@ use Rattle.boundary.proofs.SharedNumbers.{row_told}
 use Rattle.evaporation.proofs.shared.evp_shared_row.Goals as goal
 
 pub returns : goal.returns
-returns c = row_told c.read_row.ensures c.row_numbers.ensures
+returns c = rw c.from.ensures at (row_told c.read_row.ensures c.from-2.ensures)

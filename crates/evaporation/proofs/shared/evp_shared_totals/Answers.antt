@@ -4,4 +4,4 @@ use Rattle.boundary.proofs.SharedNumbers.{totals-told}
 use Rattle.evaporation.proofs.shared.evp_shared_totals.Goals as goal
 
 pub returns : goal.returns
-returns c = totals-told c.read_totals.ensures c.totals_numbers.ensures
+returns c = rw c.from.ensures at (totals-told c.read_totals.ensures c.from-2.ensures)

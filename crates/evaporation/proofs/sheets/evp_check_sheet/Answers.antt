@@ -8,5 +8,5 @@ use Rattle.evaporation.proofs.sheets.evp_check_sheet.Goals as goal
 pub returns : goal.returns
 returns c =
     let a = c.check_sheet.ensures in
-    let e = c.check_numbers.ensures in
+    let e = c.from.ensures in
     record { answer-is = e ∙ ap check_numbers a.0; says = rw (e ∙ check-is _) a.1 }

@@ -1,11 +1,7 @@
--- `evaporation::species::evp_species` meets its contract: a short buffer is left, and one with room gets the masses.
+-- `evaporation::species::evp_species` meets its contract: what holds of the answer holds of its numbers.
 -- Assumes nothing.
-use native.Mathlib.Omega.{arith}
-use Rattle.boundary.proofs.MassesWritten.{short, written_out}
+use Rattle.boundary.proofs.MassesWritten.{species-numbers}
 use Rattle.evaporation.proofs.species.evp_species.Goals as goal
 
-pub returns-then-milligrams-lt29 : goal.returns-then-milligrams-lt29
-returns-then-milligrams-lt29 c = short _ _ (omega (arith, c.if-milligrams-lt29.true))
-
 pub returns : goal.returns
-returns c = written_out _ _ (omega arith) c.write_masses.ensures
+returns c = species-numbers _ _ c.write_species.ensures.answer c.write_species.ensures.words c.from.ensures

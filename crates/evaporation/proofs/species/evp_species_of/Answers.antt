@@ -4,4 +4,4 @@ use Rattle.boundary.proofs.CompositionNumbers.{composition-numbers}
 use Rattle.evaporation.proofs.species.evp_species_of.Goals as goal
 
 pub returns : goal.returns
-returns c = composition-numbers c.species_of.ensures c.composition_numbers.ensures
+returns c = composition-numbers c.species_of.ensures c.from.ensures

@@ -1,4 +1,4 @@
--- `explanation::head::mark_finding` meets its contract: under 8 bytes number 1 is the answer, and from 8 on the letters are read.
+-- `explanation::head::mark_finding` meets its contract: under 8 bytes the line of number 1 is found.
 -- Assumes nothing.
 use borrow.Author.Tests.{lt-ltb}
 use Rattle.sheet.specs.Sheet.{outside}
@@ -8,8 +8,4 @@ use Rattle.explanation.proofs.head.mark_finding.Goals as goal
 
 pub returns-then-n-lt-HEAD : goal.returns-then-n-lt-HEAD
 unfolding mark_finding line chosen outside ◌or_else◌
-returns-then-n-lt-HEAD c = rw (c.judge-short.ensures, lt-ltb _ _ c.if-n-lt-HEAD.true)
-
-pub returns : goal.returns
-unfolding mark_finding
-returns c = rw (c.or_else.ensures, c.letters_finding.ensures, c.judge-short.ensures)
+returns-then-n-lt-HEAD c = rw (c.judge_sheet.ensures, c.between-whole.ensures, lt-ltb _ _ c.if-n-lt-HEAD.true)

@@ -10,4 +10,5 @@ use Rattle.factor_table.proofs.table.all_factors.Given as goal
 
 abbrev pub invariant-loop-j : goal.invariant-loop-j
 invariant-loop-j l = (length l.words ≡ length l.initial.words)
-    × (l.words ≡ filled_blocks (season_factors l.s) (14 * rows_of l.s) (season-length l.s) l.initial.words l.j)
+    × (let s = l.loaded.sheet.bytes.now in
+    l.words ≡ filled_blocks (season_factors s) (14 * rows_of s) (season-length s) l.initial.words l.j)

@@ -8,4 +8,4 @@ use Rattle.factor_table.proofs.table.season_factors.Given as goal
 
 abbrev pub invariant-loop-i : goal.invariant-loop-i
 invariant-loop-i l = (length l.words ≡ length l.initial.words)
-    × (l.words ≡ filled_blocks (band_words l.s l.j) 14 (bands-length l.s l.j) l.initial.words l.i)
+    × (l.words ≡ filled_blocks (band_words l.loaded.sheet.bytes.now l.j) 14 (bands-length l.loaded.sheet.bytes.now l.j) l.initial.words l.i)

@@ -2,6 +2,7 @@
 -- Assumes nothing.
 use mathlib.Core.Path.{◌≡◌, ◌∙◌, ap}
 use Prim.Native.Nat.{ℕ}
+use native.Mathlib.Omega.{arith}
 use mathlib.Core.List.{List}
 use Rattle.ledger.specs.declared.Call.{Call}
 use Rattle.sheet.specs.Counts.{counts_of, with_count}
@@ -10,7 +11,7 @@ use Rattle.report_sums.specs.Renewed.{renewed}
 use Rattle.inventory.proofs.CallConditions.{report-sheet}
 use Rattle.ledger.specs.Machine.{row_of, new_count}
 use Rattle.ledger.specs.Ledger.{sheet_after, words_after}
-use Rattle.ledger_calls.proofs.Outcome.{right-room, row-named-there, with-count-same}
+use Rattle.ledger_calls.proofs.Outcome.{right-room, row-named-there, new-most, with-count-same}
 use Rattle.ledger_calls.proofs.steps.apply.Goals as goal
 
 pub count_after-new-requires : goal.count_after-new-requires
@@ -20,7 +21,12 @@ pub set_vehicles-requires : goal.set_vehicles-requires
 set_vehicles-requires c =
     let p = c.requires in
     let pass = report-sheet _ _ p.0 in
-    rw c.row_named-i.ensures (row-there _ pass (row-named-there _ pass _ p.1))
+    rw c.row-i.ensures (row-there _ pass (row-named-there _ pass _ p.1))
+
+pub overflow_cast-new : goal.overflow_cast-new
+overflow_cast-new c =
+    let p = c.requires in
+    record { fits = omega (arith, c.count_after-new.ensures, new-most _ (report-sheet _ _ p.0) _ p.1) }
 
 -- the sheet has the new count: v is what `count_after` returned, and i the row that `row_named` did
 stored_is : (s t : List ℕ) (call : Call) {i v : ℕ} → t ≡ with_count s i v → i ≡ row_of call → v ≡ new_count (counts_of s) call
@@ -30,14 +36,14 @@ stored_is s t call set named count = set ∙ with-count-same s named count
 pub renew_row-requires : goal.renew_row-requires
 renew_row-requires c =
     let x = c.args in
-    rw (stored_is _ _ x.call c.set_vehicles.ensures c.row_named-i.ensures c.count_after-new.ensures, c.row_named-i.ensures)
+    rw (stored_is _ _ x.call c.set_vehicles.ensures c.row-i.ensures c.count_after-new.ensures, c.row-i.ensures)
     (right-room x.s.now x.words.now x.call c.requires.0 c.requires.1)
 
 pub returns : goal.returns
 unfolding sheet_after words_after
 returns c =
     let x = c.args in
-    let named = c.row_named-i.ensures in (
+    let named = c.row-i.ensures in (
       stored_is _ _ x.call c.set_vehicles.ensures named c.count_after-new.ensures,
       c.renew_row.ensures ∙ ap (λ (i : ℕ). renewed c.set_vehicles.new.s i x.words.now) named,
     )

@@ -21,7 +21,7 @@ use Rattle.ledger_calls.proofs.steps.count_after.Goals as goal
 pub vehicles_of-v-requires : goal.vehicles_of-v-requires
 vehicles_of-v-requires c =
     let p = c.requires in
-    rw c.row_named.ensures (row-there _ p.0 (row-named-there _ p.0 _ p.1))
+    rw c.row.ensures (row-there _ p.0 (row-named-there _ p.0 _ p.1))
 
 module _ (s : List ℕ) (pass : sheet_check s ≡ Pass) (call : Call) (right : wrong (has_many_rows s) (counts_of s) call ≡ false)
     {row v : ℕ} (named : row ≡ row_of call) (is : v ≡ (row_at s row).vehicles) where
@@ -39,17 +39,17 @@ module _ (s : List ℕ) (pass : sheet_check s ≡ Pass) (call : Call) (right : w
 pub overflow_add-result : goal.overflow_add-result
 overflow_add-result c =
     let p = c.requires in
-    record { fits = omega (arith, arrival-fits _ _ _ c.in-Arrival.is (within _ p.0 _ p.1 c.row_named.ensures c.vehicles_of-v.ensures.0)) }
+    record { fits = omega (arith, arrival-fits _ _ _ c.in-Arrival.is (within _ p.0 _ p.1 c.row.ensures c.vehicles_of-v.ensures.0)) }
 
 pub overflow_sub-result : goal.overflow_sub-result
 overflow_sub-result c =
     let p = c.requires in
-    departure-fits _ _ _ c.in-Departure.is (within _ p.0 _ p.1 c.row_named.ensures c.vehicles_of-v.ensures.0)
+    departure-fits _ _ _ c.in-Departure.is (within _ p.0 _ p.1 c.row.ensures c.vehicles_of-v.ensures.0)
 
 pub returns-in-Arrival : goal.returns-in-Arrival
 unfolding moved
-returns-in-Arrival c = let p = c.requires in cc (entry _ p.0 _ p.1 c.row_named.ensures c.vehicles_of-v.ensures.0)
+returns-in-Arrival c = let p = c.requires in cc (entry _ p.0 _ p.1 c.row.ensures c.vehicles_of-v.ensures.0)
 
 pub returns-in-Departure : goal.returns-in-Departure
 unfolding moved
-returns-in-Departure c = let p = c.requires in cc (entry _ p.0 _ p.1 c.row_named.ensures c.vehicles_of-v.ensures.0)
+returns-in-Departure c = let p = c.requires in cc (entry _ p.0 _ p.1 c.row.ensures c.vehicles_of-v.ensures.0)

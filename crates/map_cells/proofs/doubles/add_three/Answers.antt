@@ -4,4 +4,4 @@ use Rattle.map_cells.proofs.WholeDoubles.{add-exact}
 use Rattle.map_cells.proofs.doubles.add_three.Goals as goal
 
 pub returns : goal.returns
-returns c = rw (c.add_whole.ensures, c.double_of.ensures) (add-exact _ _ (omega arith) (omega arith))
+returns c = rw (c.add_whole-two.ensures, c.from.ensures) (add-exact _ _ (omega arith) (omega arith))

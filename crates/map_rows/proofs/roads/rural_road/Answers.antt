@@ -7,6 +7,6 @@ use Rattle.map_rows.proofs.roads.rural_road.Goals.{then-t, else-t}
 pub returns : goal.returns
 unfolding rural_road
 returns c =
-    let soak : c.if-t.soak ≡ cond c.args.t.town 0 1 =
+    let soak : c.if-t.soak ≡ cond c.args.t.travel.town 0 1 =
     elim c.if-t.branch [ then-t w ↦ rw w.if-t.true w.soak-is | else-t w ↦ rw w.if-t.false w.soak-is ] in
     rw (soak, c.rest_part.ensures, c.rural_time.ensures.0, c.mileage_part.ensures)

@@ -7,7 +7,7 @@ use Rattle.map_rows.proofs.roads.urban_road.Goals.{then-t, else-t, then-t-2, els
 pub returns : goal.returns
 unfolding urban_road
 returns c =
-    let town = c.args.t.town in
+    let town = c.args.t.travel.town in
     let diurnal : c.if-t.diurnal ≡ cond town 11 0 =
     elim c.if-t.branch [ then-t w ↦ rw w.if-t.true w.diurnal-is | else-t w ↦ rw w.if-t.false w.diurnal-is ] in
     let soak : c.if-t-2.soak ≡ cond town 1 0 =

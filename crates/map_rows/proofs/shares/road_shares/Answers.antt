@@ -9,4 +9,4 @@ returns c =
     let d = c.span_share-diurnal.ensures in
     let s = c.span_share-soak.ensures in
     let r = c.span_share-running.ensures in
-    (rw (d, s, r), rw (d, s, r) (shares-in _ _ c.requires.0 c.requires.1))
+    (rw (d, s, r), rw (d, s, r) (shares-in _ _ c.args.w.within c.requires))

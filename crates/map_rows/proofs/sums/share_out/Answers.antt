@@ -1,9 +1,9 @@
 -- `map_rows::sums::share_out` meets its contract.
-use Rattle.map_rows.proofs.SharedOut.{limits-in, out-over, all_fit, out-cells}
+use Rattle.map_rows.proofs.SharedOut.{out-over, all_fit, out-cells}
 use Rattle.map_rows.proofs.sums.share_out.Goals as goal
 
 pub returns-then-over : goal.returns-then-over
-returns-then-over c = out-over _ c.requires c.over.ensures c.over-2.ensures c.over-3.ensures c.if-over.true
+returns-then-over c = rw c.cell_refusal.ensures (out-over _ c.requires c.over.ensures c.over-2.ensures c.over-3.ensures c.if-over.true)
 
 -- Where the test fails, every sum is at most 2⁵³.
 
@@ -15,15 +15,6 @@ limits-requires-2 c = (all_fit _ c.requires c.over.ensures c.over-2.ensures c.ov
 
 pub limits-requires-3 : goal.limits-requires-3
 limits-requires-3 c = (all_fit _ c.requires c.over.ensures c.over-2.ensures c.over-3.ensures c.if-over.false).highway-fits
-
-pub cells_of-requires : goal.cells_of-requires
-cells_of-requires c =
-    let all = all_fit _ c.requires c.over.ensures c.over-2.ensures c.over-3.ensures c.if-over.false in
-    record {
-      urban-in = limits-in _ all.urban-fits c.limits.ensures;
-      rural-in = limits-in _ all.rural-fits c.limits-2.ensures;
-      highway-in = limits-in _ all.highway-fits c.limits-3.ensures;
-    }
 
 pub returns : goal.returns
 returns c =

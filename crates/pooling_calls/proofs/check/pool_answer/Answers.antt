@@ -1,30 +1,38 @@
 -- `pooling_calls::check::pool_answer` meets its contract: the first sheet, the second, and the two together; the first that refuses is the answer.
 -- Assumes nothing.
-use mathlib.Core.Path.{sym, ◌∙◌}
-use Rattle.pooling.proofs.PoolAnswers.{first-is, second_is, pooled-is, accepted-is}
+use mathlib.Core.Path.{◌≡◌, refl, sym, ap, ◌∙◌}
+use Rattle.std.proofs.Common.{Err, rules}
+use Rattle.pooling.specs.declared.PoolRefusal.TheVariants.{First, Second, Pooled}
+use Rattle.pooling.specs.PoolCall.{PoolAnswer}
+use Rattle.pooling.proofs.PoolAnswers.{named, named-is, in-turn, answer-in-turn, named-passes}
 use Rattle.pooling_calls.proofs.check.pool_answer.Goals as goal
 
-pub returns-in-Err : goal.returns-in-Err
-returns-in-Err c = first-is _ _ _ (sym c.region_check.ensures ∙ c.in-Err.is)
+pub returns-in_err-map_err : goal.returns-in_err-map_err
+unfolding in-turn
+returns-in_err-map_err c =
+    let handed : ◌≡◌ {A = PoolAnswer} c.from_residual.result (Err c.in_err-map_err.field-0.0) = search rules in
+    let first = named-is First _ _ c.map_err.ensures.cases ∙ ap (named First) c.region_check.ensures in
+    handed ∙ answer-in-turn _ _ _ (sym c.in_err-map_err.was ∙ first) refl refl
 
--- the first sheet has passed,
-pub returns-in-Err-region_check : goal.returns-in-Err-region_check
-returns-in-Err-region_check c =
-    second_is _ _ _ (sym c.region_check.ensures ∙ c.in_default.is) (sym c.region_check-2.ensures ∙ c.in-Err-region_check.is)
+pub returns-in_err-map_err-2 : goal.returns-in_err-map_err-2
+unfolding in-turn
+returns-in_err-map_err-2 c =
+    let handed : ◌≡◌ {A = PoolAnswer} c.from_residual-in_err-map_err-2.result (Err c.in_err-map_err-2.field-0.0) = search rules in
+    let first = named-is First _ _ c.map_err.ensures.cases ∙ ap (named First) c.region_check.ensures in
+    let second = named-is Second _ _ c.map_err-2.ensures.cases ∙ ap (named Second) c.region_check-2.ensures in
+    handed ∙ answer-in-turn _ _ _ (sym c.in_ok-map_err.was ∙ first) (sym c.in_err-map_err-2.was ∙ second) refl
 
--- and the second
-pub pair_check-requires : goal.pair_check-requires
-pair_check-requires c = record {
-  first = sym c.region_check.ensures ∙ c.in_default.is;
-  second = sym c.region_check-2.ensures ∙ c.in_default-region_check.is;
-}
-
-pub returns-in-Err-pair_check : goal.returns-in-Err-pair_check
-returns-in-Err-pair_check c =
-    pooled-is _ _ _ (sym c.region_check.ensures ∙ c.in_default.is) (sym c.region_check-2.ensures ∙ c.in_default-region_check.is)
-    (sym c.pair_check.ensures ∙ c.in-Err-pair_check.is)
+pub of-requires : goal.of-requires
+of-requires c =
+    let first = named-is First _ _ c.map_err.ensures.cases ∙ ap (named First) c.region_check.ensures in
+    let second = named-is Second _ _ c.map_err-2.ensures.cases ∙ ap (named Second) c.region_check-2.ensures in
+    record { first = named-passes First _ first c.in_ok-map_err.was; second = named-passes Second _ second c.in_ok-map_err-2.was }
 
 pub returns : goal.returns
+unfolding in-turn
 returns c =
-    accepted-is _ _ _ (sym c.region_check.ensures ∙ c.in_default.is) (sym c.region_check-2.ensures ∙ c.in_default-region_check.is)
-    (sym c.pair_check.ensures ∙ c.in_default-pair_check.is)
+    let first = named-is First _ _ c.map_err.ensures.cases ∙ ap (named First) c.region_check.ensures in
+    let second = named-is Second _ _ c.map_err-2.ensures.cases ∙ ap (named Second) c.region_check-2.ensures in
+    let check = rw (c.of.ensures.0, c.of.ensures.1) at c.check.ensures in
+    let together = named-is Pooled _ _ c.map_err-3.ensures.cases ∙ ap (named Pooled) check in
+    answer-in-turn _ _ _ (sym c.in_ok-map_err.was ∙ first) (sym c.in_ok-map_err-2.was ∙ second) together

@@ -1,8 +1,8 @@
--- `program::sources::read` meets its contract: each read that gives some adds to the front of the buffer.
+-- `program::sources::read` meets its contract: each read that gives some adds to the front of the buffer, and that front is what was read.
 use Rattle.std.proofs.Common.{subst, sym, arith, rules}
 use Rattle.std.specs.Io.KnownBytes.{Consumes}
 use Rattle.std.proofs.KnownBytes.{Consumes-trans}
-use Rattle.program.proofs.Taking.{unread_any, taken_front}
+use Rattle.program.specs.Reads.{taken}
 use Rattle.program.proofs.Fronts.{front_filled}
 use Rattle.program.proofs.sources.read.Goals as goal
 
@@ -15,11 +15,5 @@ loop-done-preserved g c = record {
       (Consumes-trans _ _ _ _ _ c.loop-done.invariant.taken c.in_ok-n.ensures.bytes.0);
 }
 
-pub returns-in_err-n-clause-unread : goal.returns-in_err-n-clause-unread
-returns-in_err-n-clause-unread g c = unread_any _ _
-
-pub returns-then-n-eq0-clause-taken : goal.returns-then-n-eq0-clause-taken
-returns-then-n-eq0-clause-taken g c = taken_front _ _ _ (search rules)
-
-pub returns-after-loop-done-clause-taken : goal.returns-after-loop-done-clause-taken
-returns-after-loop-done-clause-taken g c = taken_front _ _ _ (search rules)
+pub invariant_of-result : goal.invariant_of-result
+invariant_of-result g c = record { is_taken = taken _ _ }

@@ -7,7 +7,7 @@ use Rattle.program.proofs.sources.read.Given as goal
 abbrev pub invariant-loop-done : goal.invariant-loop-done
 invariant-loop-done g l = record {
   within : l.done ≤ length l.buffer;
-  taken : Consumes (g.R.Read.remaining l.fn.source) (g.R.Read.remaining l.source) (take l.done l.buffer);
+  taken : Consumes (g.R.Read.remaining l.fn.from) (g.R.Read.remaining l.from) (take l.done l.buffer);
 }
 
 abbrev pub decreases-loop-done : goal.decreases-loop-done

@@ -19,7 +19,7 @@ pub loop-m-preserved : goal.loop-m-preserved
 loop-m-preserved c =
     let figure : let x = c.args in
     get_or c.year_of-year.result c.loop-m.m 0 ≡ row_year x.s.now x.i (seasons_of x.s.now) c.loop-m.m =
-    rw c.year_of-year.ensures (get_d-tab _ 6 c.loop-m.m (omega arith)) in
+    rw (c.year_of-year.ensures, c.new.ensures) (get_d-tab _ 6 c.loop-m.m (omega arith)) in
     let l = c.loop-m in
     let x = c.args in
     filled_more l.invariant (omega arith)

@@ -14,36 +14,34 @@ slice_bounds-add_days-end c = rw c.loop-j.invariant (sym (tab-length _ 6))
 pub add_days-requires : goal.add_days-requires
 add_days-requires c =
     let l = c.loop-j in
-    let s = c.args.s.now in
-    let bytes : Bytes s = record { byte = λ k. (c.shared_slice_known-1.given k).fits } in
+    let sheet = c.args.sheet.now in
+    let s = sheet.bytes.now in
+    let bytes : Bytes s = record { byte = sheet.are_bytes.byte } in
     let long : length l.year ≡ 6 = rw l.invariant (tab-length _ 6) in
-    rw (c.season_at.ensures.0, c.day_of-figures.ensures)
-    (omega arith, season-fits s c.args.i l.j l.invariant bytes (accepted s c.requires.0.passes) c.requires.1 (omega arith))
+    rw (c.season_at-days.ensures.0, c.day_of-figures.ensures)
+    (omega arith, season-fits s c.args.i l.j l.invariant bytes (accepted s sheet.passes) c.requires (omega arith))
 
 pub loop-j-preserved : goal.loop-j-preserved
 loop-j-preserved c =
     let l = c.loop-j in
-    rw (c.season_at.ensures.0, c.day_of-figures.ensures) at c.add_days.ensures ∙
-    season-more c.args.s.now c.args.i l.j l.invariant
+    rw (c.season_at-days.ensures.0, c.day_of-figures.ensures) at c.add_days.ensures ∙
+    season-more c.args.sheet.now.bytes.now c.args.i l.j l.invariant
 
 pub returns : goal.returns
 returns c =
     let l = c.loop-j in
-    let s = c.args.s.now in
+    let s = c.args.sheet.now.bytes.now in
     let all : l.j ≡ seasons_of s = omega arith in
     rw all at l.invariant
 
-pub row_kept-kept-requires : goal.row_kept-kept-requires
-row_kept-kept-requires c = let p = c.requires in (p.0.tables-are, p.0.passes, p.1)
-
 pub seasons_of-seasons-requires : goal.seasons_of-seasons-requires
-seasons_of-seasons-requires c = omega (arith, parking-there _ c.requires.0.passes)
+seasons_of-seasons-requires c = omega (arith, parking-there _ c.args.sheet.now.passes)
 
 pub loop-j-init : goal.loop-j-init
 loop-j-init c = year-none _ _
 
 pub day_of-figures-requires : goal.day_of-figures-requires
-day_of-figures-requires c = let p = c.requires in (p.0, omega arith, p.1, c.row_kept-kept.ensures)
+day_of-figures-requires c = (omega arith, c.requires, c.row-row.ensures)
 
-pub season_at-requires : goal.season_at-requires
-season_at-requires c = season-there _ c.requires.0.passes (omega arith)
+pub season_at-days-requires : goal.season_at-days-requires
+season_at-days-requires c = season-there _ c.args.sheet.now.passes (omega arith)

@@ -14,24 +14,19 @@ use Rattle.report_words.proofs.year.add_seasons.Goals as goal
 
 pub add_season-requires : goal.add_season-requires
 add_season-requires c =
-    let bytes : Bytes c.args.s.now = record { byte = λ k. (c.shared_slice_known-1.given k).fits } in
+    let sheet = c.args.loaded.now.sheet in
+    let s = sheet.bytes.now in
+    let bytes : Bytes s = record { byte = sheet.are_bytes.byte } in
     let l = c.loop-j in
-    let p = c.requires in
-    let n = 6 * rows_of c.args.s.now in
+    let n = 6 * rows_of s in
     let first = ap (take n) l.invariant.1 ∙ filled-less _ _ n n (omega arith) in
-    let s = c.args.s.now in
-    let a = accepted s p.0.passes in (
-      p.0,
-      omega arith,
-      omega (arith, p.1.room),
-      season-fits s l.words l.j refl first bytes a (omega arith),
-      p.2,
-    )
+    let a = accepted s sheet.passes in
+    (omega arith, omega (arith, c.requires.room), season-fits s l.words l.j refl first bytes a (omega arith))
 
 pub loop-j-preserved : goal.loop-j-preserved
 loop-j-preserved c =
     let l = c.loop-j in
-    let s = c.args.s.now in
+    let s = c.args.loaded.now.sheet.bytes.now in
     let n = 6 * rows_of s in
     let first = ap (take n) l.invariant.1 ∙ filled-less _ _ n n (omega arith) in
     let one : filled (season_added s (season_at s l.j) l.words) n l.words ≡ filled (year_word s (l.j + 1)) n l.words
@@ -41,15 +36,15 @@ loop-j-preserved c =
 pub returns : goal.returns
 returns c =
     let l = c.loop-j in
-    let s = c.args.s.now in
+    let s = c.args.loaded.now.sheet.bytes.now in
     let all : l.j ≡ seasons_of s = omega arith in
     rw all at l.invariant.1
 
 pub seasons_of-seasons-requires : goal.seasons_of-seasons-requires
-seasons_of-seasons-requires c = omega (arith, parking-there _ c.requires.0.passes)
+seasons_of-seasons-requires c = omega (arith, parking-there _ c.args.loaded.now.sheet.passes)
 
 pub loop-j-init : goal.loop-j-init
-loop-j-init c = (refl, filled-same _ _ _ c.requires.1.words_are)
+loop-j-init c = (refl, filled-same _ _ _ c.requires.words_are)
 
 pub shape_of-words : goal.shape_of-words
 shape_of-words c = c.loop-j.invariant.0

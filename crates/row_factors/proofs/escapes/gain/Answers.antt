@@ -15,7 +15,7 @@ product : (c : goal.After-exponential)
     c.exponential.result ≤ 150000 * 2 ^ 46
 product c =
     let share : (100 - c.args.row.fill) * c.args.row.tank ≤ percent_limit * tank_limit =
-    mul-le-mul {n₂ = percent_limit} {m₂ = tank_limit} (omega arith) c.requires.2.tank-most in
+    mul-le-mul {n₂ = percent_limit} {m₂ = tank_limit} (omega arith) c.requires.1.tank-most in
     mul-le-mul {n₂ = 150000} {m₂ = 2 ^ 46} share (le_of_lt c.exponential.ensures.1)
 
 -- the result is the gain
@@ -31,4 +31,4 @@ same c =
 
 pub returns : goal.returns
 returns c =
-    (same c, rw (same c) (gain-most c.requires.1 c.requires.2))
+    (same c, rw (same c) (gain-most c.requires.0 c.requires.1))

@@ -1,78 +1,57 @@
 -- `row_factors::season::means_of` meets its contract: each mean is the one of its definition.
 use mathlib.Core.Bool.{true, false}
-use mathlib.Core.Path.{◌∙◌, ap}
-use Prim.Native.Nat.{ℕ, ◌/◌}
-use native.Mathlib.Omega.{arith}
+use Rattle.std.proofs.Common.{◌∙◌, ap, ℕ, ◌/◌, arith}
 use Rattle.parking.proofs.Weighted.{mean-tab, mean-ext, mean-marks}
-use Rattle.row_factors.proofs.Escaping.{raises-alike, rates-alike, raise-list-fits, rate-list-most}
-use Rattle.row_factors.proofs.Escaping.{rate-list-fits, rates-plain, rates-in, rises-most}
+use Rattle.row_factors.proofs.Escaping.{raises-alike, rates-alike, raise-list-fits, rate-list-most, rate-list-fits, rates-in, rises-most}
 use Rattle.row_factors.proofs.season.means_of.Goals as goal
 
 pub returns : goal.returns
 returns c =
-    let p = c.requires.1 in
+    let p = c.requires.0 in
     let a = p.marks-are in
-    let l = c.requires.0.cells-in.length-is in
     record {
-      rise-is = c.mean_by_cell.ensures ∙ mean-tab _ _ l c.requires.2;
+      rise-is = c.mean_by_cell.ensures ∙ mean-tab _ _ c.args.grid.now.cells.in_range.length-is c.requires.1;
       permeation-is = c.permeation_mean.ensures ∙ mean-ext _ (λ cell. ap (λ (x : ℕ). x / 2) (rates-in p.season-in a.rate-is cell));
-      soak-is = c.mean_by_mark.ensures ∙ mean-marks _ false _ (rates-alike _ 110) a.soak-is;
-      run_is = c.mean_by_mark-2.ensures ∙ mean-marks _ true _ (rates-alike _ 150) a.run_is;
-      end10-is = c.mean_by_mark-3.ensures ∙ mean-marks _ true _ (raises-alike _ 10) a.raise10-is;
-      start15-is = c.mean_by_mark-4.ensures ∙ mean-marks _ false _ (raises-alike _ 15) a.raise15-is;
-      end25-is = c.mean_by_mark-5.ensures ∙ mean-marks _ true _ (raises-alike _ 25) a.raise25-is;
-      start35-is = c.mean_by_mark-6.ensures ∙ mean-marks _ false _ (raises-alike _ 35) a.raise35-is;
-      start45-is = c.mean_by_mark-7.ensures ∙ mean-marks _ false _ (raises-alike _ 45) a.raise45-is;
-      end50-is = c.mean_by_mark-8.ensures ∙ mean-marks _ true _ (raises-alike _ 50) a.raise50-is;
-      start60-is = c.mean_by_mark-9.ensures ∙ mean-marks _ false _ (raises-alike _ 60) a.raise60-is;
+      soak-is = c.mean_by_distance.ensures ∙ mean-marks _ false _ (rates-alike _ 110) a.soak-is;
+      run_is = c.mean_by_distance-2.ensures ∙ mean-marks _ true _ (rates-alike _ 150) a.run_is;
+      end10-is = c.mean_by_distance-3.ensures ∙ mean-marks _ true _ (raises-alike _ 10) a.raise10-is;
+      start15-is = c.mean_by_distance-4.ensures ∙ mean-marks _ false _ (raises-alike _ 15) a.raise15-is;
+      end25-is = c.mean_by_distance-5.ensures ∙ mean-marks _ true _ (raises-alike _ 25) a.raise25-is;
+      start35-is = c.mean_by_distance-6.ensures ∙ mean-marks _ false _ (raises-alike _ 35) a.raise35-is;
+      start45-is = c.mean_by_distance-7.ensures ∙ mean-marks _ false _ (raises-alike _ 45) a.raise45-is;
+      end50-is = c.mean_by_distance-8.ensures ∙ mean-marks _ true _ (raises-alike _ 50) a.raise50-is;
+      start60-is = c.mean_by_distance-9.ensures ∙ mean-marks _ false _ (raises-alike _ 60) a.raise60-is;
     }
 
 pub mean_by_cell-requires : goal.mean_by_cell-requires
-mean_by_cell-requires c = (c.requires.0, record { at_most = λ k. omega (arith, (rises-most c.requires.1.season-in c.requires.2).at_most k) })
+mean_by_cell-requires c = record { at_most = λ k. omega (arith, (rises-most c.requires.0.season-in c.requires.1).at_most k) }
 
 pub permeation_mean-requires : goal.permeation_mean-requires
-permeation_mean-requires c =
-    let p = c.requires in (
-      p.0,
-      rate-list-most p.1.season-in 0 (omega arith)
-          (rates-plain p.1.season-in p.1.marks-are.rate-is),
-    )
+permeation_mean-requires c = let p = c.requires.0 in rate-list-most p.season-in p.marks-are.rate-is
 
-pub mean_by_mark-requires : goal.mean_by_mark-requires
-mean_by_mark-requires c = let p = c.requires in (p.0, rate-list-fits p.1.season-in 110 (omega arith) p.1.marks-are.soak-is)
+pub mean_by_distance-requires : goal.mean_by_distance-requires
+mean_by_distance-requires c = let p = c.requires.0 in rate-list-fits p.season-in 110 (omega arith) p.marks-are.soak-is
 
-pub mean_by_mark-requires-2 : goal.mean_by_mark-requires-2
-mean_by_mark-requires-2 c =
-    let p = c.requires in
-    (p.0, rate-list-fits p.1.season-in 150 (omega arith) p.1.marks-are.run_is)
+pub mean_by_distance-requires-2 : goal.mean_by_distance-requires-2
+mean_by_distance-requires-2 c = let p = c.requires.0 in rate-list-fits p.season-in 150 (omega arith) p.marks-are.run_is
 
-pub mean_by_mark-requires-3 : goal.mean_by_mark-requires-3
-mean_by_mark-requires-3 c =
-    let p = c.requires in
-    (p.0, raise-list-fits p.1.season-in 10 (omega arith) p.1.marks-are.raise10-is)
+pub mean_by_distance-requires-3 : goal.mean_by_distance-requires-3
+mean_by_distance-requires-3 c = let p = c.requires.0 in raise-list-fits p.season-in 10 (omega arith) p.marks-are.raise10-is
 
-pub mean_by_mark-requires-4 : goal.mean_by_mark-requires-4
-mean_by_mark-requires-4 c = let p = c.requires in (p.0, raise-list-fits p.1.season-in 15 (omega arith) p.1.marks-are.raise15-is)
+pub mean_by_distance-requires-4 : goal.mean_by_distance-requires-4
+mean_by_distance-requires-4 c = let p = c.requires.0 in raise-list-fits p.season-in 15 (omega arith) p.marks-are.raise15-is
 
-pub mean_by_mark-requires-5 : goal.mean_by_mark-requires-5
-mean_by_mark-requires-5 c =
-    let p = c.requires in
-    (p.0, raise-list-fits p.1.season-in 25 (omega arith) p.1.marks-are.raise25-is)
+pub mean_by_distance-requires-5 : goal.mean_by_distance-requires-5
+mean_by_distance-requires-5 c = let p = c.requires.0 in raise-list-fits p.season-in 25 (omega arith) p.marks-are.raise25-is
 
-pub mean_by_mark-requires-6 : goal.mean_by_mark-requires-6
-mean_by_mark-requires-6 c =
-    let p = c.requires in
-    (p.0, raise-list-fits p.1.season-in 35 (omega arith) p.1.marks-are.raise35-is)
+pub mean_by_distance-requires-6 : goal.mean_by_distance-requires-6
+mean_by_distance-requires-6 c = let p = c.requires.0 in raise-list-fits p.season-in 35 (omega arith) p.marks-are.raise35-is
 
-pub mean_by_mark-requires-7 : goal.mean_by_mark-requires-7
-mean_by_mark-requires-7 c = let p = c.requires in (p.0, raise-list-fits p.1.season-in 45 (omega arith) p.1.marks-are.raise45-is)
+pub mean_by_distance-requires-7 : goal.mean_by_distance-requires-7
+mean_by_distance-requires-7 c = let p = c.requires.0 in raise-list-fits p.season-in 45 (omega arith) p.marks-are.raise45-is
 
-pub mean_by_mark-requires-8 : goal.mean_by_mark-requires-8
-mean_by_mark-requires-8 c =
-    let p = c.requires in
-    (p.0, raise-list-fits p.1.season-in 50 (omega arith) p.1.marks-are.raise50-is)
+pub mean_by_distance-requires-8 : goal.mean_by_distance-requires-8
+mean_by_distance-requires-8 c = let p = c.requires.0 in raise-list-fits p.season-in 50 (omega arith) p.marks-are.raise50-is
 
-pub mean_by_mark-requires-9 : goal.mean_by_mark-requires-9
-mean_by_mark-requires-9 c =
-    let p = c.requires in
-    (p.0, raise-list-fits p.1.season-in 60 (omega arith) p.1.marks-are.raise60-is)
+pub mean_by_distance-requires-9 : goal.mean_by_distance-requires-9
+mean_by_distance-requires-9 c = let p = c.requires.0 in raise-list-fits p.season-in 60 (omega arith) p.marks-are.raise60-is

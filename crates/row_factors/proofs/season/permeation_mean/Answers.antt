@@ -1,9 +1,8 @@
 -- `row_factors::season::permeation_mean` meets its contract.
-use mathlib.Core.Path.{◌≡◌, ◌∙◌, ap}
-use Prim.Native.Nat.{ℕ, ◌/◌, ◌^◌}
-use native.Mathlib.Omega.{arith}
-use Rattle.numbers.specs.Lists.{tab}
+use Rattle.std.proofs.Common.{◌≡◌, ◌∙◌, ap, ℕ, ◌/◌, ◌^◌, arith, rules}
+use Rattle.numbers.specs.Lists.{tab, at}
 use Rattle.numbers.proofs.Lists.{get_d-tab, tab-ext, tab-at-most}
+use Rattle.numbers.proofs.Made.{made-all}
 use Rattle.parking.specs.Grid.{passed_in}
 use Rattle.parking.proofs.Passed.{passed_in-most}
 use Rattle.parking.proofs.Weighted.{mean-tab}
@@ -12,16 +11,22 @@ use Rattle.row_factors.proofs.season.permeation_mean.Goals as goal
 
 pub mean_by_cell-requires : goal.mean_by_cell-requires
 mean_by_cell-requires c =
-    let halved-known : c.halved-halves.result ≡ tab (λ (cell : ℕ). passed_in c.args.rates.now cell / 2) 576 = c.halved-halves.ensures ∙
+    let made : c.from_fn-halves.result ≡ tab (λ (cell : ℕ). at c.walk-all.result.passed cell / 2) 576
+    = made-all _ _ _ (λ i y q w. search rules) c.from_fn-halves.ensures.items in
+    let halved : c.from_fn-halves.result ≡ tab (λ (cell : ℕ). passed_in c.args.rates.now cell / 2) 576
+    = made ∙
     tab-ext 576 (λ cell h. ap (λ (x : ℕ). x / 2)
     (rw (c.walk-all.ensures.0 ∙ walked-is _)
     (get_d-tab (passed_in c.args.rates.now) 576 cell h))) in
-    (c.requires.0, tab-at-most _ 576 halved-known (λ cell _. omega (arith, passed_in-most c.args.rates.now (2 ^ 40) cell c.requires.1)))
+    tab-at-most _ 576 halved (λ cell _. omega (arith, passed_in-most c.args.rates.now (2 ^ 40) cell c.requires))
 
 pub returns : goal.returns
 returns c =
-    let halved-known : c.halved-halves.result ≡ tab (λ (cell : ℕ). passed_in c.args.rates.now cell / 2) 576 = c.halved-halves.ensures ∙
+    let made : c.from_fn-halves.result ≡ tab (λ (cell : ℕ). at c.walk-all.result.passed cell / 2) 576
+    = made-all _ _ _ (λ i y q w. search rules) c.from_fn-halves.ensures.items in
+    let halved : c.from_fn-halves.result ≡ tab (λ (cell : ℕ). passed_in c.args.rates.now cell / 2) 576
+    = made ∙
     tab-ext 576 (λ cell h. ap (λ (x : ℕ). x / 2)
     (rw (c.walk-all.ensures.0 ∙ walked-is _)
     (get_d-tab (passed_in c.args.rates.now) 576 cell h))) in
-    c.mean_by_cell.ensures ∙ mean-tab _ _ c.requires.0.cells-in.length-is halved-known
+    c.mean_by_cell.ensures ∙ mean-tab _ _ c.args.grid.now.cells.in_range.length-is halved

@@ -1,21 +1,24 @@
--- `species_report::composition::species_of` meets its contract: a refusal with zeros, or the last word of the report split.
+-- `species_report::composition::species_of` meets its contract: the refusal of the report, or its last word split.
 -- Assumes nothing.
-use mathlib.Core.Path.{refl}
+use mathlib.Core.Path.{◌≡◌, refl}
+use Rattle.std.proofs.Common.{Err, rules}
+use Rattle.refusals.specs.Check.{Answer}
+use Rattle.species_report.specs.declared.composition.Composition.{Composition}
 use Rattle.species_report.proofs.Answered.{refusal_is, head-there, last-there, species-are}
 use Rattle.species_report.proofs.composition.species_of.Goals as goal
 
-pub returns-in-Err : goal.returns-in-Err
-returns-in-Err c = refusal_is c.report-check.ensures c.in-Err.is
+pub returns-in_err-report : goal.returns-in_err-report
+returns-in_err-report c =
+    let handed : ◌≡◌ {A = Answer Composition} c.from_residual.result (Err c.in_err-report.field-0.0) = search rules in
+    rw handed (refusal_is c.report.ensures c.in_err-report.was)
 
 pub rows_of-requires : goal.rows_of-requires
-rows_of-requires c = head-there c.report-check.ensures c.in_default.is
+rows_of-requires c = head-there c.report.ensures c.in_ok-report.was
 
 pub bounds-words-last : goal.bounds-words-last
-bounds-words-last c =
-    rw c.rows_of.ensures.0 (last-there c.report-check.ensures c.in_default.is)
+bounds-words-last c = rw c.rows_of.ensures.0 (last-there c.report.ensures c.in_ok-report.was)
 
 pub returns : goal.returns
 returns c =
     let split = c.split.ensures in
-    let reported = c.report-check.ensures in
-    species-are reported c.in_default.is (rw c.rows_of.ensures.0 refl) split.0 split.1
+    species-are c.report.ensures c.in_ok-report.was (rw c.rows_of.ensures.0 refl) split.0 split.1

@@ -4,4 +4,4 @@ use Rattle.species_report.proofs.SpeciesPrinted.{text-first}
 use Rattle.species_run.proofs.SpeciesSheetText.put.Goals as goal
 
 pub returns-clause-put : goal.returns-clause-put
-returns-clause-put c = rw c.requires.0 at (text-first c.species_text.ensures (omega arith))
+returns-clause-put c = rw c.length_of.ensures (rw c.requires.0 at (text-first c.species_text.ensures.call (omega arith)))

@@ -10,22 +10,22 @@ use Rattle.starting_loads.proofs.loads.loaded.Goals as goal
 
 pub line-x-requires : goal.line-x-requires
 line-x-requires c =
-    let b = c.requires.1 in
-    (b.base-below, omega (arith, b.growth-most), omega (arith, c.requires.2, b.saturation-below))
+    let b = c.requires.0 in
+    (b.base-below, omega (arith, b.growth-most), omega (arith, c.requires.1, b.saturation-below))
 
 -- it is at most that at saturation
 held : (c : goal.After-line-x) → c.line-x.result ≤ 16 * 2 ^ 53
 held c =
     let s = c.before in
-    omega (arith, c.line-x.ensures.0, s.requires.1.exponent-most, line-mono s.args.c.base s.args.c.growth s.requires.2)
+    omega (arith, c.line-x.ensures.0, s.requires.0.exponent-most, line-mono s.args.c.base s.args.c.growth s.requires.1)
 
 pub short-y-requires : goal.short-y-requires
-short-y-requires c = (c.requires.0, omega (arith, held c))
+short-y-requires c = omega (arith, held c)
 
 pub loss-requires : goal.loss-requires
 loss-requires c =
     let s = c.before.before in
-    (s.requires.0, s.requires.1.growth-most, omega (arith, c.short-y.ensures.0, short-most-1 _ (held c.before)))
+    (s.requires.0.growth-most, omega (arith, c.short-y.ensures.0, short-most-1 _ (held c.before)))
 
 pub returns : goal.returns
 unfolding loaded

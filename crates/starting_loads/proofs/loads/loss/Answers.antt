@@ -11,5 +11,5 @@ pub returns : goal.returns
 unfolding loss
 returns c = (
   ap (λ (x : ℕ). c.args.y * x / 2 ^ 23) (c.theta.ensures.0 ∙ ap theta c.feedback.ensures.0),
-  omega (arith, mul-le-mul c.requires.2 c.theta.ensures.1),
+  omega (arith, mul-le-mul c.requires.1 c.theta.ensures.1),
 )

@@ -1,0 +1,5 @@
+pub mod GridOrLists
+pub mod Letters
+pub mod OneMore
+pub mod Reading
+pub mod RowTests

@@ -1,0 +1,19 @@
+-- `marks::warmths::Warmths::heats` meets its contract: at each distance stands E(0.0716·T).
+use Rattle.std.proofs.Common.{◌≡◌, ℕ, arith, rules}
+use Rattle.numbers.specs.Lists.{tab, at}
+use Rattle.numbers.proofs.Lists.{tab-at-most}
+use Rattle.numbers.proofs.Made.{made-all}
+use Rattle.marks.specs.Marks.{heat}
+use Rattle.marks.proofs.Heat.{raised-most}
+use Rattle.marks.proofs.warmths.Warmths.heats.Goals as goal
+
+made : (c : goal.After-from_fn) → c.from_fn.result ≡ tab (λ (d : ℕ). heat (at c.args.self.now.by_distance d)) 25
+made c = made-all _ _ _ (λ i y q w. search rules) c.from_fn.ensures.items
+
+pub invariant_of-result : goal.invariant_of-result
+invariant_of-result c = record {
+  moderate = tab-at-most _ 25 (made c) (λ d h. raised-most _ (omega (arith, c.args.self.now.temperate.at_most d)));
+}
+
+pub returns : goal.returns
+returns c = made c.before

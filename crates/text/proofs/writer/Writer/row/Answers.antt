@@ -1,0 +1,9 @@
+-- `text::writer::Writer::row` meets its contract: the name, the number, the words and the line feed.
+-- Assumes nothing.
+use Rattle.text.specs.Lines.{line}
+use Rattle.text.proofs.Putting.{◌and◌}
+use Rattle.text.proofs.writer.Writer.row.Goals as goal
+
+pub returns : goal.returns
+unfolding line
+returns c = c.text.ensures and c.number.ensures and c.fields.ensures and c.text-2.ensures

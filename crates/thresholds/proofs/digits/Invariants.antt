@@ -1,8 +1,0 @@
--- `thresholds::digits` meets its contract. The loop's invariant: what the digits left find from d is what all of them find from 0.
-use mathlib.Core.Path.{◌≡◌}
-use Prim.Native.Nat.{◌+◌, ◌-◌, ◌^◌, ◌≤◌}
-use Rattle.thresholds.specs.Thresholds.{digits}
-use Rattle.thresholds.proofs.digits.Given as goal
-
-abbrev pub invariant-loop-found : goal.invariant-loop-found
-invariant-loop-found l = (digits l.mileage l.c (47 - l.found) l.d ≡ digits l.mileage l.c 47 0) × (l.d + 2 ^ (47 - l.found) ≤ 2 ^ 47)
