@@ -55,7 +55,7 @@ extern "C" {
 
 uint64_t evp_library_version(void);
 
-/* A thread whose whole stack has so many bytes can make every call: measured are at most 119,176, the thread's own
+/* A thread whose whole stack has so many bytes can make every call: measured are at most 119,128, the thread's own
  * among them, for the calls that make a report or a factor, and at most 7,848 for all others. */
 #define EVP_STACK_BYTES 163840
 

@@ -41,7 +41,7 @@ DEMANDS: dict[str, dict[str, str]] = {
 # or that two calls have the same words, and is understood without the inside of the function, which is method.
 COMPUTED = {
     "report_words": "report words_of subtotal subtotals grand_total",
-    "inventory": "report_check factor_check factor_answer units_at",
+    "inventory": "report_check room_check factor_check factor_answer units_at band",
     "sheet": "sheet_check",
     "factors": "factor_units low_micrograms high_micrograms",
     "masses": "row_figures",

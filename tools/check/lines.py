@@ -115,7 +115,7 @@ def long_lines(text: str, suffix: str) -> Iterator[int]:
     if suffix != ".md":
         limit = RATTLE_LIMIT if suffix in RATTLE else LIMIT
         yield from (number for number, line in enumerate(text.splitlines(), 1)
-                    if len(line) > limit and not (suffix == ".rt" and line.startswith(TACTIC)))
+                    if len(line) > limit and not (suffix == ".rt" and line.lstrip(" ").startswith(TACTIC)))
         return
     for block in blocks(text):
         for number, line in enumerate(block.lines, block.first):

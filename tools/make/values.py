@@ -17,7 +17,7 @@ from tools.command import MadeFile
 from tools.make.error import MakeError
 
 PATH = "crates/exact/proofs/Values.antt"
-CANISTERS = ("None", "Small", "Medium", "Large")
+CANISTERS = ("None", "Some Small", "Some Medium", "Some Large")
 
 
 class Scene(NamedTuple):
@@ -163,12 +163,13 @@ HEAD = """\
 -- Exact factors and masses of small sheets and starting loads for small n, in grams, calculated apart from these
 -- definitions: tools/make/values.py wrote this file from tools/reckoning. antt computes each value anew.
 -- Assumes nothing.
+use Rattle.std.proofs.Common.{Some, None}
 use mathlib.Core.Bool.{Bool, true, false, ◌&&◌}
 use mathlib.Core.List.{List, [], ◌∷◌, map}
 use Prim.Native.Nat.{ℕ, ◌+◌, ◌*◌}
 use lib.Dec.{T, eqb}
 use Rattle.numbers.specs.Fraction.{Fraction, whole, negᶠ, ◌over◌}
-use Rattle.exact.specs.declared.Canister.TheVariants.{None, Small, Medium, Large}
+use Rattle.exact.specs.declared.Canister.TheVariants.{Small, Medium, Large}
 use Rattle.exact.specs.declared.Season.{Season}
 use Rattle.exact.specs.declared.Row.{Row}
 use Rattle.exact.specs.Mileage.{starting_load}

@@ -1,11 +1,10 @@
 -- What holds of the answers in bulk holds of the numbers that leave the library.
 use Rattle.std.proofs.Common.{Ok, Err}
-use mathlib.Core.List.{List, [], ◌∷◌}
+use mathlib.Core.List.{List}
 use mathlib.Core.Path.{◌≡◌, refl, sym, ◌∙◌, ap}
-use Prim.Native.Nat.{ℕ, suc, zero, ◌+◌, ◌*◌, ◌-◌, ◌≤◌}
+use Prim.Native.Nat.{ℕ, ◌-◌, ◌≤◌}
 use native.Mathlib.Omega.{arith}
-use lib.ListN.{length, get_or-replicate}
-use Rattle.std.proofs.Common.{slice_index_or}
+use lib.ListN.{get_or-replicate}
 use Rattle.numbers.specs.Lists.{at}
 use Rattle.refusals.specs.declared.Refusal.{Refusal}
 use Rattle.refusals.specs.Rule.{number}
@@ -15,45 +14,13 @@ use Rattle.inventory.specs.declared.Band.{Band}
 use Rattle.inventory.specs.FactorBand.{FactorBand}
 use Rattle.factor_table.specs.RowFactors.{RowFactors, low_place, high_place, band_at, one_of, RowFactorsCall}
 use Rattle.factor_table.specs.Factors.{FactorsCall}
+use Rattle.factor_table.proofs.SevenBands.{low_at, high_at}
 use Rattle.season_report.specs.Seasons.{SeasonsCall}
 use Rattle.boundary.specs.declared.EvpCheck.{EvpCheck}
 use Rattle.boundary.specs.declared.EvpRowFactors.{EvpRowFactors}
 use Rattle.boundary.specs.Export.{check_numbers, factor_numbers}
-use Rattle.boundary.specs.Bulk.{in_words, row_factors_numbers, RowFactorsNumbers, FactorsNumbers, SeasonsNumbers}
+use Rattle.boundary.specs.Bulk.{row_factors_numbers, RowFactorsNumbers, FactorsNumbers, SeasonsNumbers}
 use Rattle.boundary.proofs.Numbers.{check-is}
-
--- where a band's low and high stand among the words
-low_at : (v : List Band) (i : ℕ) → at (in_words v) (2 * i) ≡ (slice_index_or v i (record { low = 0; high = 0 })).low
-unfolding in_words
-low_at [] i = refl
-low_at (band ∷ bands) zero = refl
-low_at (band ∷ bands) (suc i) = let e : 2 * suc i ≡ suc (suc (2 * i)) = omega arith in rw e (low_at bands i)
-
-high_at : (v : List Band) (i : ℕ) → at (in_words v) (2 * i + 1) ≡ (slice_index_or v i (record { low = 0; high = 0 })).high
-unfolding in_words
-high_at [] i = refl
-high_at (band ∷ bands) zero = refl
-high_at (band ∷ bands) (suc i) = let e : 2 * suc i + 1 ≡ suc (suc (2 * i + 1)) = omega arith in rw e (high_at bands i)
-
--- band k of those that the code takes apart
-abbrev pub band_of : List Band → ℕ → Band
-band_of v k = slice_index_or v k (record { low = 0; high = 0 })
-
--- seven bands are fourteen words
-pub seven-words : (v : List Band) → length v ≡ 7 →
-    (band_of v 0).low ∷ (band_of v 0).high ∷ (band_of v 1).low ∷ (band_of v 1).high ∷ (band_of v 2).low ∷ (band_of v 2).high ∷
-    (band_of v 3).low ∷ (band_of v 3).high ∷ (band_of v 4).low ∷ (band_of v 4).high ∷ (band_of v 5).low ∷ (band_of v 5).high ∷
-    (band_of v 6).low ∷ (band_of v 6).high ∷ [] ≡ in_words v
-unfolding in_words
-seven-words (a ∷ b ∷ c ∷ d ∷ e ∷ f ∷ g ∷ []) long = refl
-seven-words [] long = absurd (omega arith)
-seven-words (a ∷ []) long = absurd (omega arith)
-seven-words (a ∷ b ∷ []) long = absurd (omega arith)
-seven-words (a ∷ b ∷ c ∷ []) long = absurd (omega arith)
-seven-words (a ∷ b ∷ c ∷ d ∷ []) long = absurd (omega arith)
-seven-words (a ∷ b ∷ c ∷ d ∷ e ∷ []) long = absurd (omega arith)
-seven-words (a ∷ b ∷ c ∷ d ∷ e ∷ f ∷ []) long = absurd (omega arith)
-seven-words (a ∷ b ∷ c ∷ d ∷ e ∷ f ∷ g ∷ h ∷ v) long = absurd (omega arith)
 
 -- the number and the place of either outcome
 numbers-same : (a : RowFactors) → ((row_factors_numbers a).number ≡ number_of a) × ((row_factors_numbers a).place ≡ place_of a)

@@ -1,26 +1,20 @@
 -- What a program in another language gets of the calls that answer in bulk: all factors of a row or of a sheet, and the report of each season.
 -- Definitions only.
-use Rattle.std.specs.Prelude.{List, [], ◌∷◌, Ok, Err, replicate, ◌≡◌, ℕ, ◌+◌, ◌*◌, ◌≤◌, ◌<◌, length, drop}
+use Rattle.std.specs.Prelude.{List, Ok, Err, replicate, ◌≡◌, ℕ, ◌+◌, ◌*◌, ◌≤◌, ◌<◌, length, drop}
 use Rattle.numbers.specs.Lists.{at}
 use Rattle.sheet.specs.Bytes.{seasons_of, rows_of}
 use Rattle.refusals.specs.Rule.{number}
 use Rattle.sheet.specs.Demands.{Says}
 use Rattle.report_words.specs.Categories.{report_length}
-use Rattle.inventory.specs.declared.Band.{Band}
 use Rattle.inventory.specs.FactorAnswers.{factor_answer}
 use Rattle.inventory.specs.FactorBand.{FactorBand}
 use Rattle.inventory.specs.ReportCall.{written}
-use Rattle.factor_table.specs.RowFactors.{RowFactors, low_place, high_place, row_demands, row_answer}
+use Rattle.factor_table.specs.RowFactors.{RowFactors, in_words, low_place, high_place, row_demands, row_answer}
 use Rattle.factor_table.specs.Factors.{all_factors, factors_check, factors_demands, row_start}
 use Rattle.season_report.specs.Seasons.{report_seasons, seasons_check, seasons_demands, SeasonPromise}
 use Rattle.boundary.specs.declared.EvpCheck.{EvpCheck}
 use Rattle.boundary.specs.declared.EvpRowFactors.{EvpRowFactors}
 use Rattle.boundary.specs.Export.{check_numbers, factor_numbers}
-
--- bands as words, each low before its high
-unfoldable pub in_words : List Band → List ℕ
-in_words [] = []
-in_words (band ∷ bands) = band.low ∷ band.high ∷ in_words bands
 
 -- the number and the place of an answer, and the bands; zeros for a refusal
 unfoldable pub row_factors_numbers : RowFactors → EvpRowFactors

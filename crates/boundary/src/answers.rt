@@ -1,66 +1,59 @@
 // The answers of the calls on sheets as numbers.
 ghost use Rattle.std.specs.Prelude.{◌≡◌, Err};
-ghost use Rattle.boundary.specs.Bulk.{in_words, row_factors_numbers};
+ghost use Rattle.refusals.specs.Check.{number_of, place_of};
+ghost use Rattle.boundary.specs.Bulk.{row_factors_numbers};
 ghost use Rattle.boundary.specs.Export.{check_numbers, factor_numbers};
 ghost use Rattle.boundary.specs.PoolExport.{pool_numbers};
 ghost use Rattle.boundary.specs.TextExport.{text_numbers};
 
 use crate::{EvpCheck, EvpFactor, EvpPool, EvpRowFactors, EvpText};
+use factor_table::bands::in_words;
 use inventory::Band;
 use pooling::PoolRefusal;
 use refusals::{Check, Refusal};
 
+// The number and the place of an answer, whatever it is of; both are 0 where it is no refusal.
+#[tactic(auto, unfolding(refusals::specs::Check::number_of, refusals::specs::Check::place_of))]
+pub(crate) fn told<T>(answer: &Result<T, Refusal>) -> EvpCheck
+    ensures { result ≡ record { number = number_of answer.now; place = place_of answer.now } }
+{
+    match answer {
+        Ok(_) => EvpCheck {
+            number: 0,
+            place: 0,
+        },
+        Err(why) => EvpCheck {
+            number: why.rule.number(),
+            place: why.place,
+        },
+    }
+}
+
 impl From<Check> for EvpCheck {
     ghost from_gives = { λ c r. r ≡ check_numbers c };
 
-    #[tactic(auto, unfolding(crate::specs::Export::check_numbers))]
+    #[tactic(auto, using(crate::proofs::Numbers::check_told))]
     fn from(c: Check) -> EvpCheck {
-        match c {
-            Ok(()) => EvpCheck {
-                number: 0,
-                place: 0,
-            },
-            Err(why) => EvpCheck {
-                number: why.rule.number(),
-                place: why.place,
-            },
-        }
+        told(&c)
     }
 }
 
 impl From<Result<Band, Refusal>> for EvpFactor {
     ghost from_gives = { λ a r. r ≡ factor_numbers a };
 
-    #[tactic(auto, unfolding(crate::specs::Export::factor_numbers))]
     fn from(a: Result<Band, Refusal>) -> EvpFactor {
-        match a {
-            Err(refusal) => EvpFactor {
-                number: refusal.rule.number(),
-                place: refusal.place,
-                low: 0,
-                high: 0,
-            },
-            Ok(band) => EvpFactor {
-                number: 0,
-                place: 0,
-                low: band.low,
-                high: band.high,
-            },
+        let EvpCheck { number, place } = told(&a);
+        let Band { low, high } = a.unwrap_or(Band { low: 0, high: 0 });
+        EvpFactor {
+            number,
+            place,
+            low,
+            high,
         }
     }
 }
 
-// Seven bands as words, each low before its high.
-fn in_words(bands: [Band; 7]) -> [u64; 14]
-    ensures { result ≡ in_words bands }
-{
-    let [a, b, c, d, e, f, g] = bands;
-    [
-        a.low, a.high, b.low, b.high, c.low, c.high, d.low, d.high, e.low, e.high, f.low, f.high,
-        g.low, g.high,
-    ]
-}
-
+// Both cases stand here whole: the bands are turned into words, and beside a refusal there are none to turn.
 impl From<Result<[Band; 7], Refusal>> for EvpRowFactors {
     ghost from_gives = { λ a r. r ≡ row_factors_numbers a };
 

@@ -7,9 +7,9 @@ ghost use Rattle.boundary.specs.Cells.{cell_numbers, no_cell, row_numbers, sum_n
 
 use crate::{EvpCell, EvpCellSum, EvpRowCells, EvpTravel};
 use map_cells::{Cell, cell_refusal};
-use map_rows::{RowCells, travel_refusal};
+use map_rows::RowCells;
 use map_shares::Travel;
-use refusals::Refusal;
+use refusals::{Refusal, Rule, refuse};
 
 impl From<Cell> for EvpCell {
     ghost from_gives = { λ c r. r ≡ cell_numbers c };
@@ -35,6 +35,7 @@ impl From<Cell> for EvpCell {
 impl Default for EvpCell {
     ghost is_default = { λ c. c ≡ no_cell };
 
+    #[tactic(auto, unfolding(crate::specs::Cells::no_cell))]
     fn default() -> EvpCell {
         EvpCell {
             kind: 3,
@@ -44,6 +45,7 @@ impl Default for EvpCell {
     }
 }
 
+// Here and in the sum below both cases stand whole: cells are turned into those of C, and beside a refusal there are none to turn.
 impl From<Result<RowCells, Refusal>> for EvpRowCells {
     ghost from_gives = { λ a r. r ≡ row_numbers a };
 
@@ -115,9 +117,7 @@ impl TryFrom<EvpTravel> for Travel {
     ghost try_from_gives = { λ t r. Taken (λ x. x) travel_refusal (travel_handed t) r };
 
     fn try_from(t: EvpTravel) -> Result<Travel, Refusal> {
-        if 1 < t.town {
-            return Err(travel_refusal());
-        }
+        refuse(1 < t.town, Rule::Travel, 0)?;
         Ok(Travel {
             town: t.town == 1,
             mileage: t.mileage,

@@ -2,7 +2,8 @@
 ghost use Rattle.std.specs.Prelude.{◌≡◌};
 ghost use Rattle.boundary.specs.CompositionExport.{composition_numbers};
 
-use crate::EvpComposition;
+use crate::answers::told;
+use crate::{EvpCheck, EvpComposition};
 use refusals::Refusal;
 use species_report::composition::Composition;
 
@@ -10,24 +11,17 @@ use species_report::composition::Composition;
 impl From<Result<Composition, Refusal>> for EvpComposition {
     ghost from_gives = { λ a r. r ≡ composition_numbers a };
 
-    #[tactic(auto, unfolding(crate::specs::CompositionExport::composition_numbers))]
     fn from(a: Result<Composition, Refusal>) -> EvpComposition {
-        match a {
-            Ok(found) => {
-                let milligrams = found.milligrams;
-                EvpComposition {
-                    number: 0,
-                    place: 0,
-                    total: found.total,
-                    milligrams,
-                }
-            }
-            Err(refusal) => EvpComposition {
-                number: refusal.rule.number(),
-                place: refusal.place,
-                total: 0,
-                milligrams: [0; 29],
-            },
+        let EvpCheck { number, place } = told(&a);
+        let Composition { total, milligrams } = a.unwrap_or(Composition {
+            total: 0,
+            milligrams: [0; 29],
+        });
+        EvpComposition {
+            number,
+            place,
+            total,
+            milligrams,
         }
     }
 }

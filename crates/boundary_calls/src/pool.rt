@@ -9,7 +9,8 @@ use pooling::PoolRefusal;
 use pooling_calls::length::pool_length;
 
 // What pooling two sheets with this much room was answered, and how many bytes it wrote. No `From` of the answer: the bytes are those of
-// the two sheets, which the answer does not have.
+// the two sheets, which the answer does not have. `pool` does not return the length: it is asked for only where both sheets pass, so it never
+// stands beside a refusal.
 pub fn pool_numbers(
     answer: Result<(), PoolRefusal>,
     first: &[u8],

@@ -1,16 +1,16 @@
 -- Bounds of E at a sum of exponents, from bounds at its parts: what a product of table entries and a short polynomial says of E,
 -- for every n of 40 or more. Scales and denominators are parameters.
 use mathlib.Core.Path.{◌≡◌, refl}
-use Prim.Native.Nat.{ℕ, zero, suc, ◌+◌, ◌*◌, ◌^◌, ◌-◌, ◌/◌, ◌≤◌, ◌<◌}
+use Prim.Native.Nat.{ℕ, ◌+◌, ◌*◌, ◌^◌, ◌-◌, ◌/◌, ◌≤◌, ◌<◌}
 use native.Mathlib.Decide.{dec_le}
 use native.Mathlib.Omega.{arith}
-use native.Mathlib.Nat.{pow-zero, pow-suc, mul-zero, mul-sub, mul-pos, mul-le-mul, mul-le-mul_left, mul-le-mul_right}
+use native.Mathlib.Nat.{pow-zero, pow-suc, mul-zero, mul-sub, mul-pos, mul-le-mul, mul-le-mul_left, mul-le-mul_right, one-le-pow}
 use native.Mathlib.Nat.{le_of_mul-le-mul_left, le_of_mul-le-mul_right, le_trans, div-mul-le_self, lt-div-mul-add}
 use Rattle.bounds.specs.Enclosure.{Within}
 use Rattle.numbers.proofs.Order.{via}
 use Rattle.bounds.proofs.Within.{ratio-within}
-use Rattle.bounds.proofs.Product.{den, acc, num, den_pos, num-zero, num-scale, den-scale, product-above, product-below}
-use Rattle.bounds.proofs.Tail.{Near, top, tail}
+use Rattle.bounds.proofs.Product.{den, acc, num, den_pos, num-zero, num-two, den-two, num-scale, den-scale, product-above, product-below}
+use Rattle.bounds.proofs.Tail.{Near, top, tail, quadratic-tail}
 use Rattle.bounds.proofs.Exponential.{quotient}
 use Rattle.bounds.proofs.Entries.{from}
 
@@ -96,18 +96,13 @@ small-weaken {q} {k} lo' v' a h g = record {
   below = λ n l. le_trans (a.below n l) (mul-le-mul_right (den q n) g);
 }
 
--- a power of a positive number
-pow_pos : {c : ℕ} → 0 < c → (k : ℕ) → 0 < c ^ k
-pow_pos {c} h zero = rw (pow-zero c) (omega arith)
-pow_pos {c} h (suc k) = rw (pow-suc c k) (mul-pos (pow_pos h k) h)
-
 -- over the denominator before a common factor
 pub small-unscale : (c : ℕ) {q k w d lo v : ℕ} → 0 < c → Small (c * q) k w (c * d) lo v → Small q k w d lo v
 small-unscale c {q} {k} {w} {d} {lo} {v} c0 a = record {
   above =
-      le_of_mul-le-mul_left (omega (arith, rw (num-scale c q d k, den-scale c q k) at a.above)) (pow_pos c0 k);
+      le_of_mul-le-mul_left (omega (arith, rw (num-scale c q d k, den-scale c q k) at a.above)) (one-le-pow k c c0);
   below =
-      λ n h. le_of_mul-le-mul_left (omega (arith, rw (num-scale c q d n, den-scale c q n) at (a.below n h))) (pow_pos c0 n);
+      λ n h. le_of_mul-le-mul_left (omega (arith, rw (num-scale c q d n, den-scale c q n) at (a.below n h))) (one-le-pow n c c0);
 }
 
 -- an entry of a table whose exponents are 0 or more
@@ -210,37 +205,11 @@ module _ (q o c a d k W w lo v t n : ℕ) (q0 : 0 < c * q) (dc : d < c) (few : k
 
 -- The quadratic 1 + ρ + ρ²/2 at ρ = r/q, with w·ρ known as g and w·ρ²/2 as c.
 
--- q²·2·S₂(r/q)
-num-two : (q r : ℕ) → num q r 2 ≡ 2 * (q * q) + 2 * (q * r) + r * r
-unfolding num acc
-num-two q r = rw (pow-zero r, pow-suc r 1, pow-suc r 0, pow-zero r) (omega arith)
-
--- q²·2
-den-two : (q : ℕ) → den q 2 ≡ 2 * (q * q)
-unfolding den
-den-two q = omega arith
-
--- r²
-square : (r : ℕ) → r ^ 2 ≡ r * r
-square r = rw (pow-suc r 1, pow-suc r 0, pow-zero r) (omega arith)
-
 -- w + g + c ≤ w·S₂(ρ)
 quadratic-above : (q w r g c : ℕ) → 0 < w → g * q ≤ w * r → c * (2 * w) ≤ g * g → (w + g + c) * den q 2 ≤ w * num q r 2
 quadratic-above q w r g c w0 h k =
     rw (den-two q, num-two q r)
     (le_of_mul-le-mul_right {k = w} (omega (arith, mul-le-mul_left (2 * q * w) h, mul-le-mul h h, mul-le-mul_left (q * q) k)) w0)
-
--- the tail after the square is at most the square's term over b
-quadratic-tail : (q r b n : ℕ) → 2 ≤ n → (1 + b) * r ≤ q * 3
-    → 2 * (q * q) * b * num q r n ≤ den q n * (b * (2 * (q * q) + 2 * (q * r) + r * r) + r * r)
-unfolding top
-quadratic-tail q r b n le t =
-    let h : den q 2 * (b * num q r n) ≤ den q n * (b * num q r 2 + 1 * r ^ 2) = tail q r 1 b 2 n (omega (arith, t)) le in
-    shape (2 * (q * q)) (num q r n) (den q n) (b * (2 * (q * q) + 2 * (q * r) + r * r)) (r * r)
-    (rw (den-two q, num-two q r, square r) at h)
-  where
-    shape : (u N D x y : ℕ) → u * (b * N) ≤ D * (x + 1 * y) → u * b * N ≤ D * (x + y)
-    shape u N D x y h = omega (arith, h)
 
 -- x = w·q·r and y = w·r², in units of u = q²: rounding ρ, rounding ρ²/2 and the tail cost 1, 5/4 and 11/4 at most
 quadratic-units : (u b w g c x y : ℕ) → x ≤ (g + 1) * u → 4 * y ≤ (4 * c + 5) * (2 * u) → 4 * c + 5 ≤ 11 * b

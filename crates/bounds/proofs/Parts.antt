@@ -1,16 +1,20 @@
 -- Products in parts: a number n is n / k parts of k and n % k more, so that a product is cut part by part, for every width k of a part.
 use mathlib.Core.Path.{◌≡◌, sym, ◌∙◌, ap}
 use Prim.Native.Nat.{ℕ, ◌+◌, ◌*◌, ◌-◌, ◌/◌, ◌%◌, ◌≤◌, ◌<◌}
-use native.Mathlib.Nat.{mul_assoc, mul_comm, mul_left_comm, add-mul, mul-add, div-add-mod', mul-add-div_right}
+use native.Mathlib.Nat.{add-zero, mul_comm, mul-add, div-add-mod', mul-add-div_right}
 use native.Mathlib.Nat.{div-div-eq-div-mul, div-lt_iff_lt-mul, mul-le-mul, lt_of_le_of_lt}
 use native.Mathlib.Omega.{arith}
 
--- ⌊a·b/k⌋, with a in parts
-pub cut_product : (k a b : ℕ) → 0 < k → a / k * b + a % k * b / k ≡ a * b / k
-cut_product k a b pos =
+-- ⌊(a·b + r)/k⌋, with a in parts
+pub cut_sum : (k a b r : ℕ) → 0 < k → a / k * b + (a % k * b + r) / k ≡ (a * b + r) / k
+cut_sum k a b r pos =
     sym
-    (ap (λ (n : ℕ). n / k) (ap (λ (n : ℕ). n * b) (sym (div-add-mod' a k)) ∙ simp (add-mul, mul_assoc, mul_comm, mul_left_comm))
-    ∙ mul-add-div_right pos (a / k * b) (a % k * b))
+    (ap (λ (n : ℕ). (n * b + r) / k) (sym (div-add-mod' a k)) ∙ ap (λ (n : ℕ). n / k) (omega arith)
+    ∙ mul-add-div_right pos (a / k * b) (a % k * b + r))
+
+-- ⌊a·b/k⌋
+cut_product : (k a b : ℕ) → 0 < k → a / k * b + a % k * b / k ≡ a * b / k
+cut_product k a b pos = rw (add-zero (a % k * b), add-zero (a * b)) at (cut_sum k a b 0 pos)
 
 -- ⌊a·b/k⌋, with both in parts: the product of the high parts, and the lower ones
 both-cut : (k a b : ℕ) → 0 < k → a / k * (b / k) * k + (a / k * (b % k) + a % k * (b / k) + a % k * (b % k) / k) ≡ a * b / k

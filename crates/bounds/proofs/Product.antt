@@ -7,6 +7,7 @@ use Prim.Native.Nat.{ℕ, zero, suc, ◌+◌, ◌*◌, ◌^◌, ◌≤◌, ◌<�
 use native.Mathlib.Nat.{pow-suc, pow-succ', pow-zero, add-suc, add-zero, le_dest, mul-le-mul_left, mul-le-mul_right}
 use native.Mathlib.Nat.{mul-pos, not-suc-le-zero, le_of_suc-le-suc, le_refl, le_trans, one-le-pow, pow-le-pow_left}
 use native.Mathlib.Omega.{arith}
+use Rattle.std.proofs.lemmas.Nat.{mul-pow}
 use Rattle.numbers.specs.Fraction.{◌≈ᶠ◌, ◌+ᶠ◌, ◌*ᶠ◌, ◌^ᶠ◌, ◌over◌, whole}
 use Rattle.bounds.specs.Series.{S, term, factorial}
 use Rattle.numbers.proofs.Order.{ratio, idle, ≈-refl, ≈-trans, +-cong, *-cong, over-cong}
@@ -287,14 +288,19 @@ unfolding num acc den
 num-zero q zero = refl
 num-zero q (suc n) = rw (num-zero q n, pow-suc 0 n) (omega arith)
 
+-- q²·2·S₂(r/q)
+pub num-two : (q r : ℕ) → num q r 2 ≡ 2 * (q * q) + 2 * (q * r) + r * r
+unfolding num acc
+num-two q r = rw (pow-zero r, pow-suc r 1, pow-suc r 0, pow-zero r) (omega arith)
+
+-- q²·2
+pub den-two : (q : ℕ) → den q 2 ≡ 2 * (q * q)
+unfolding den
+den-two q = omega arith
+
 -- 0 < Sₙ(p/q)
 pub num_pos : (q p n : ℕ) → 0 < q → 0 < num q p n
 num_pos q p n h = le_trans (rw (num-zero q n) (den_pos q n h)) (num-mono q {p = 0} n (omega arith))
-
--- (c·p)ⁿ = cⁿ·pⁿ
-mul-pow : (c p n : ℕ) → (c * p) ^ n ≡ c ^ n * p ^ n
-mul-pow c p zero = simp pow-zero
-mul-pow c p (suc n) = simp pow-suc (rw (mul-pow c p n) (omega arith))
 
 -- Sₙ(cp/cq) = Sₙ(p/q): the numerators
 pub num-scale : (c q p n : ℕ) → num (c * q) (c * p) n ≡ c ^ n * num q p n

@@ -5,6 +5,7 @@ use Prim.Native.Nat.{ℕ, ◌+◌, ◌*◌, ◌-◌, ◌^◌, ◌/◌, ◌%◌, 
 use native.Mathlib.Omega.{arith}
 use native.Mathlib.Nat.{mul-le-mul, mul_comm, div-add-mod}
 use lib.ListN.{get_or}
+use Rattle.std.proofs.lemmas.Nat.{mod-pow-add, field_of}
 use Rattle.bounds.specs.Series.{E, two_pos}
 use Rattle.bounds.specs.Enclosure.{Within, WithinAll}
 use Rattle.bounds.specs.Exponential.{coarse, fine, high, finest}
@@ -104,13 +105,6 @@ short-at n h d t f l n40 k e s =
     (composed 16 256 (2 ^ 49) h d 11 (2 ^ 27) (2 ^ 41) (f * 2 ^ 10) 7993 t n (two_pos 53) l (omega arith) n40 e s)))
     (omega arith)
 
--- where the parts of an exponent stand
-parts : (x : ℕ) → 2 ^ 39 * (x / 2 ^ 39 % 2 ^ 10) + x % 2 ^ 39 ≡ x % 2 ^ 49
-parts x = omega arith
-
-rest-parts : (x : ℕ) → x % 2 ^ 39 / 2 ^ 21 ≡ x / 2 ^ 21 % 2 ^ 18
-rest-parts x = omega arith
-
 -- the two cuts as one
 shifted : (t f : ℕ) → t * (f * 2 ^ 10) / 2 ^ 32 ≡ t * f / 2 ^ 22
 shifted t f = once (t * f) (omega arith)
@@ -127,7 +121,7 @@ short-within x l =
     let j : ℕ = x / 2 ^ 39 % 2 ^ 10 in
     let p : ℕ = x / 2 ^ 21 % 2 ^ 18 in
     let s : Small (2 ^ 53) 11 (2 ^ 41) d (short_fine j p * 2 ^ 10) 7993 =
-    rw (parts x, rest-parts x) at (short_fine-near j (x % 2 ^ 39) (omega arith) (omega arith)) in
+    rw (mul_comm (2 ^ 39) j, ← mod-pow-add x 10 39, field_of x 18 21) at (short_fine-near j (x % 2 ^ 39) (omega arith) (omega arith)) in
     record {
       at = λ n n40.
           rw (shifted (high h) (short_fine j p), div-add-mod x (2 ^ 49)) at

@@ -1,11 +1,12 @@
 -- The tail of the truncated exponential: what one sum and its last term say of every longer sum, and the test that computes it.
 use mathlib.Core.Bool.{Bool}
+use mathlib.Core.Path.{◌≡◌}
 use Prim.Native.Nat.{ℕ, zero, suc, ◌+◌, ◌*◌, ◌^◌, ◌-◌, ◌≤◌, ◌<◌}
-use native.Mathlib.Nat.{pow-suc, add-suc, add-zero, add-sub_of_le, le_dest, mul-le-mul_left, mul-pos}
+use native.Mathlib.Nat.{pow-zero, pow-suc, add-suc, add-zero, add-sub_of_le, le_dest, mul-le-mul_left, mul-pos}
 use native.Mathlib.Nat.{le_of_mul-le-mul_left, le_refl, le_trans, le_of_lt, sub-pos_iff_lt}
 use native.Mathlib.Omega.{arith}
 use lib.Dec.{T, leb, leb→le}
-use Rattle.bounds.proofs.Product.{den, acc, num, den_pos, num-grow}
+use Rattle.bounds.proofs.Product.{den, acc, num, den_pos, num-two, den-two, num-grow}
 use Rattle.bounds.proofs.Table.{both, both_left, both_right}
 
 -- b·Sₙ + a·tₙ over the denominator of Sₙ, with tₙ the last term
@@ -32,6 +33,21 @@ tail q p a b N n h le =
     let d = le_dest le in
     let w = rw d.1 at (top-falls q p a b N h d.0) in
     omega arith
+
+-- the tail after the square is at most the square's term over b
+pub quadratic-tail : (q r b n : ℕ) → 2 ≤ n → (1 + b) * r ≤ q * 3
+    → 2 * (q * q) * b * num q r n ≤ den q n * (b * (2 * (q * q) + 2 * (q * r) + r * r) + r * r)
+unfolding top
+quadratic-tail q r b n le t =
+    let h : den q 2 * (b * num q r n) ≤ den q n * (b * num q r 2 + 1 * r ^ 2) = tail q r 1 b 2 n (omega (arith, t)) le in
+    shape (2 * (q * q)) (num q r n) (den q n) (b * (2 * (q * q) + 2 * (q * r) + r * r)) (r * r)
+    (rw (den-two q, num-two q r, square) at h)
+  where
+    square : r ^ 2 ≡ r * r
+    square = rw (pow-suc r 1, pow-suc r 0, pow-zero r) (omega arith)
+
+    shape : (u N D x y : ℕ) → u * (b * N) ≤ D * (x + 1 * y) → u * b * N ≤ D * (x + y)
+    shape u N D x y h = omega (arith, h)
 
 -- x·Sₙ(r/q) ≤ y·Sₙ(p/q) for every n ≥ N, as a comparison at N: the tail on the left is at most t_N·r/(q·(N + 1) − r).
 -- Who opens it has opened all that it computes with.

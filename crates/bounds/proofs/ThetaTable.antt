@@ -7,7 +7,7 @@ use mathlib.Core.List.{List, [], ◌∷◌}
 use mathlib.Core.Path.{◌≡◌, refl}
 use Prim.Native.Nat.{ℕ, zero, suc, ◌+◌, ◌*◌, ◌-◌, ◌/◌, ◌%◌, ◌^◌, ◌≤◌, ◌<◌}
 use native.Mathlib.Omega.{arith}
-use native.Mathlib.Nat.{div-mul-le_self, pow-zero, pow-suc, add-zero, mul-pos, mul-le-mul, mul-le-mul_left}
+use native.Mathlib.Nat.{div-mul-le_self, add-zero, mul-pos, mul-le-mul, mul-le-mul_left}
 use native.Mathlib.Nat.{le_of_mul-le-mul_left, le_dest, le_of_suc-le-suc, not-suc-le-zero}
 use lib.Dec.{T, leb, leb→le, lit<, lit≤}
 use lib.ListN.{length, get_or}
@@ -16,10 +16,9 @@ use Rattle.numbers.proofs.Order.{via, ≤-by, ≤-refl, ≤_trans, ≈-refl, ≈
 use Rattle.numbers.proofs.Order.{ratio-sum, ratio-product}
 use Rattle.bounds.specs.Series.{E, two_pos}
 use Rattle.bounds.specs.Enclosure.{Within}
-use Rattle.bounds.proofs.Product.{den, acc, num, den_pos, num-zero, num-scale, den-scale, product-above}
-use Rattle.bounds.proofs.Product.{product-below}
+use Rattle.bounds.proofs.Product.{den, num, den_pos, num-zero, num-two, den-two, num-scale, den-scale, product-above, product-below}
 use Rattle.bounds.proofs.Table.{both, both_left, both_right}
-use Rattle.bounds.proofs.Tail.{Near, near, near_test, top, tail}
+use Rattle.bounds.proofs.Tail.{Near, near, near_test, quadratic-tail}
 use Rattle.bounds.proofs.Exponential.{E-at, E-mono}
 use Rattle.bounds.proofs.Units.{unit-pos, units}
 use Rattle.bounds.specs.Theta.{thetas, coefficient, on_cell, theta, on_cell_exact, scale-pos, theta_exact}
@@ -146,32 +145,6 @@ cancel-high s f w P D M e z x b s0 f0 b0 a g c =
 
 -- Sums.
 
--- q²·2·S₂(r/q)
-num-two : (q r : ℕ) → num q r 2 ≡ 2 * (q * q) + 2 * (q * r) + r * r
-unfolding num acc
-num-two q r = rw (pow-zero r, pow-suc r 1, pow-suc r 0, pow-zero r) (omega arith)
-
--- q²·2
-den-two : (q : ℕ) → den q 2 ≡ 2 * (q * q)
-unfolding den
-den-two q = omega arith
-
--- r²
-square : (r : ℕ) → r ^ 2 ≡ r * r
-square r = rw (pow-suc r 1, pow-suc r 0, pow-zero r) (omega arith)
-
--- the tail after u²
-tail-two : (q r n : ℕ) → 2 ≤ n → (1 + few) * r ≤ 1 * (q * 3)
-    → 2 * (q * q) * few * num q r n ≤ den q n * (few * (2 * (q * q) + 2 * (q * r) + r * r) + r * r)
-unfolding top
-tail-two q r n le t =
-    let h : den q 2 * (few * num q r n) ≤ den q n * (few * num q r 2 + 1 * r ^ 2) = tail q r 1 few 2 n t le in
-    shape (2 * (q * q)) (num q r n) (den q n) (few * (2 * (q * q) + 2 * (q * r) + r * r)) (r * r)
-    (rw (den-two q, num-two q r, square r) at h)
-  where
-    shape : (u N D x y : ℕ) → u * (few * N) ≤ D * (x + 1 * y) → u * few * N ≤ D * (x + y)
-    shape u N D x y h = omega (arith, h)
-
 -- E at a sum, over the denominator c·q: e is just below 2⁴⁰·E(i/q)
 module _ (q c i e r n : ℕ) (p : 0 < c * q) (n40 : 40 ≤ n) (near-e : Near q 14 (2 ^ 40) i 0 e) where
   sum-least : e * (2 * (c * q * (c * q)) + 2 * (c * q * r) + r * r) * den (c * q) n ≤ 2 ^ 40 * (2 * (c * q * (c * q))) * num (c * q) (c * i + r) n
@@ -195,7 +168,7 @@ module _ (q c i e r n : ℕ) (p : 0 < c * q) (n40 : 40 ≤ n) (near-e : Near q 1
       rw (num-scale c q i n, den-scale c q n)
       (omega (arith, mul-le-mul_left (c ^ n) (rw num-zero at (near-e.below n (omega arith))))) in
       shape (num (c * q) (c * i) n) (num (c * q) r n) _ _ (den (c * q) n) (num (c * q) (c * i + r) n) (den_pos (c * q) n p) a
-      (tail-two (c * q) r n (omega arith) h) (product-above (c * q) (c * i) r n)
+      (quadratic-tail (c * q) r few n (omega arith) (omega (arith, h))) (product-above (c * q) (c * i) r n)
     where
       shape : (N R x w D M : ℕ) → 0 < D → 2 ^ 40 * N ≤ (e + 1) * D → w * R ≤ D * x → D * M ≤ N * R → 2 ^ 40 * w * M ≤ (e + 1) * x * D
       shape N R x w D M d0 a b g =

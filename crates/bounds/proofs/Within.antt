@@ -9,7 +9,7 @@ use Rattle.numbers.specs.Fraction.{Fraction, ◌≤ᶠ◌, ◌≈ᶠ◌, ◌+ᶠ
 use Rattle.bounds.specs.Enclosure.{Within, WithinAll}
 use Rattle.numbers.proofs.Order.{NonNegative, via, sub-mul, idle, ratio, ≈-refl, ≈-sym, *-cong, decimal-is}
 
--- ⌊a/k⌋ grows with a
+-- ⌊a/k⌋ grows with a. Of std's lemmas on quotients none says this.
 pub div_mono : {a b : ℕ} (k : ℕ) → 0 < k → a ≤ b → a / k ≤ b / k
 div_mono {a} {b} k p h = (le-div_iff_mul-le p).1 (omega (arith, div-mul-le_self a k))
 

@@ -1,6 +1,6 @@
 -- The truncated exponential and the cut root of document 01, "Exact masses", n a parameter of each. Definitions only.
 use Rattle.std.specs.Prelude.{true, false, ℕ, suc, zero, ◌+◌, ◌*◌, ◌-◌, ◌^◌, ◌/◌, ◌≤◌, ◌<◌, leb}
-use Rattle.std.proofs.Common.{arith}
+use Rattle.std.proofs.lemmas.Nat.{pow_pos}
 use Rattle.numbers.specs.Fraction.{Fraction, ◌≤ᶠ◌, ◌+ᶠ◌, negᶠ, ◌*ᶠ◌, ◌^ᶠ◌, whole, ◌over◌, inverse, ◌≤?◌, ratio}
 
 unfoldable pub factorial : ℕ → ℕ
@@ -36,8 +36,7 @@ unfoldable pub root : ℕ → ℕ
 root x = root_from x x
 
 pub two_pos : (n : ℕ) → 0 < 2 ^ n
-two_pos zero = omega arith
-two_pos (suc n) = omega (arith, two_pos n)
+two_pos n = pow_pos n
 
 -- a multiple of 2⁻ⁿ: k of them
 abbrev pub multiple : ℕ → ℕ → Fraction

@@ -28,6 +28,7 @@ pub const ONE: u64 = 1099511627776;
 const TWO: u64 = 2199023255552;
 
 // p in units of 2^-40, for r = p * 10^14
+#[tactic(auto, unfolding(crate::specs::Exponential::rest))]
 fn rest(r: u64) -> u64
     requires { r < 24414062500 }
     ensures { (result ≡ rest r) × (result < 2 ^ 28) }

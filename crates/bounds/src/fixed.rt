@@ -1,5 +1,5 @@
 // Products that would not fit 64 bits, each taken in parts that do, and cut once at the end.
-ghost use Rattle.std.specs.Prelude.{◌≡◌, ◌*◌, ◌/◌, ◌^◌, ◌<◌, ◌≤◌};
+ghost use Rattle.std.specs.Prelude.{◌≡◌, ◌+◌, ◌*◌, ◌/◌, ◌^◌, ◌<◌, ◌≤◌};
 
 use crate::exp::ONE;
 
@@ -27,4 +27,13 @@ pub fn mul_above(a: u64, b: u64) -> u64
     let a1 = a / HALF;
     let a0 = a % HALF;
     a + (a1 * f + a0 * f / HALF) / HALF
+}
+
+// x c + r over k, cut, where x c is too large: x is taken in parts of k.
+#[inline]
+pub fn mul_add_div(x: u64, c: u64, r: u64, k: u64) -> u64
+    requires { (0 < k) × (k * c + r < 2 ^ 64) × (x * c + r < 2 ^ 64 * k) }
+    ensures { result ≡ (x * c + r) / k }
+{
+    x / k * c + (x % k * c + r) / k
 }

@@ -17,6 +17,7 @@ const WEIGHTS: [u64; 48] = [
 
 // The weights as a value, to be made once: the constant itself would be built anew wherever it is read. It is no static, unlike the tables
 // of the exponentials, since the customer's paper asks for a constant.
+#[tactic(auto, unfolding(crate::specs::Weights::weights))]
 pub fn weights_table() -> [u64; 48]
     ensures { result ≡ weights }
 {

@@ -1,13 +1,13 @@
 // The short exponential, in units of 2^-36, for an exponent in binary: z is held as x = (z + 16) * 2^53. With
 // z = (h - 256) / 16 + j / 16384 + p and p below 1 / 16384, E(z) is close to the product of two table entries, at h and at j, and
 // of 1 + p. Two multiplications; every step cuts downwards.
-ghost use Rattle.std.specs.Prelude.{◌≡◌, ◌+◌, ◌*◌, ◌/◌, ◌%◌, ◌^◌, ◌<◌, ◌≤◌, min};
+ghost use Rattle.std.specs.Prelude.{◌≡◌, ◌+◌, ◌*◌, ◌/◌, ◌^◌, ◌<◌, ◌≤◌, min};
 ghost use Rattle.bounds.specs.Series.{E};
 ghost use Rattle.bounds.specs.Enclosure.{WithinAll};
 ghost use Rattle.bounds.specs.Exponential.{high, finest};
 ghost use Rattle.bounds.specs.Short.{short_exponent, short, short_limit, short_error, binary, line_of};
 
-use crate::fixed::mul_shift;
+use crate::fixed::{mul_add_div, mul_shift};
 
 // 1 / 16 and 1 / 16384, the steps of the two tables, in units of 2^-53, and how many of these the second table has
 const HIGH_STEP: u64 = 562949953421312;
@@ -37,7 +37,7 @@ const FIVE_14: u64 = 6103515625;
 // From units of 2^-44 to units of 2^-53
 const TWO_9: u64 = 512;
 
-// Where a factor of an exponent is cut into parts
+// From units of 2^-76 to units of 2^-53
 const TWO_23: u64 = 8388608;
 
 // The entry of the first table at h, and of the second at j.
@@ -66,12 +66,12 @@ pub fn short(x: u64) -> u64
     high(h) * (finest(j) * (TWO_32 + p) / TWO_31) / TWO_22
 }
 
-// Units of 10^-14 in units of 2^-44, in parts that fit
+// Units of 10^-14 in units of 2^-44
 pub fn binary(x: u64) -> u64
     requires { x < 2 ^ 50 }
     ensures { (result ≡ binary x) × (result < 2 ^ 48) }
 {
-    x / FIVE_14 * TWO_30 + x % FIVE_14 * TWO_30 / FIVE_14
+    mul_add_div(x, TWO_30, 0, FIVE_14)
 }
 
 // a + b m as an exponent, for a + 16 in units of 2^-44, 2 b in the same and m in units of 2^-40
@@ -82,12 +82,12 @@ pub fn line(a: u64, k: u64, m: u64) -> u64
     (a + mul_shift(k, m) / 2) * TWO_9
 }
 
-// z + k r for k in units of 2^-36 and r in units of 2^-40, up to the exponent top: r is cut into parts
+// z + k r for k in units of 2^-36 and r in units of 2^-40, up to the exponent top
 pub fn risen(z: u64, k: u64, r: u64, top: u64) -> u64
     requires { (z < 2 ^ 62) × (k ≤ 9 * 2 ^ 36) × (r ≤ 72 * 2 ^ 40) }
     ensures { result ≡ min (z + k * r / 2 ^ 23) top }
 {
-    u64::min(z + (r / TWO_23 * k + r % TWO_23 * k / TWO_23), top)
+    u64::min(z + mul_add_div(r, k, 0, TWO_23), top)
 }
 
 // just below 2^27 E((h - 256) / 16), for h from 0 to 304

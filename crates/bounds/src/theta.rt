@@ -6,6 +6,7 @@ ghost use Rattle.bounds.specs.Theta.{coefficient, theta, on_cell};
 const CELL: u64 = 536870912;
 
 // A coefficient of a cell: 0 is the value at its start, 1 and 2 those of the first and the second power.
+#[tactic(auto, unfolding(crate::specs::Theta::thetas))]
 fn coefficient(cell: usize, power: usize) -> u64
     requires { (cell < 513) × (power < 3) }
     ensures { result ≡ coefficient cell power }
@@ -31,6 +32,7 @@ fn on_cell(cell: usize, rest: u64) -> u64
 }
 
 // Θ(t) in units of 2^-31, for t in units of 2^-40.
+#[tactic(auto, unfolding(crate::specs::Theta::theta))]
 pub fn theta(t: u64) -> u64
     requires { t ≤ 2 ^ 38 }
     ensures { (result ≡ theta t) × (result ≤ 23 * 2 ^ 27) }

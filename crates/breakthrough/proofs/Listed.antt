@@ -28,7 +28,7 @@ pub list-fits : (list : SeasonList) (curves : List Curve) → ((d : ℕ) → d <
 list-fits list curves r l =
     let entry : ℕ → Entry = entry_at list.entries in
     let below : (k : ℕ) → k < list.length → each curves (entry k).kind.start (entry k).kind.rise ≤ 2 ^ 42 = (λ k h.
-    let inside : k < 577 = omega (arith, l.length-most) in
+    let inside : k < 576 = omega (arith, l.length-most) in
     let ready = r (entry k).kind.start (l.starts-below k inside) in
     omega (arith, through-most (curve_at curves (entry k).kind.start) (entry k).kind.rise ready (l.rises-most k inside))) in
     omega (

@@ -44,6 +44,7 @@ const NO_CURVE: Curve = Curve {
 };
 
 // a and 2 b s at a temperature, for 2 s = times.
+#[tactic(auto, unfolding(crate::specs::Lines::line_of_warmth, factors::specs::Escape::base))]
 fn line_of_warmth(warmth: u64, vp: u64, times: u64) -> Line
     requires { (warmth ≤ 80 * 10 ^ 10) × (vp ≤ vp_limit) × (times ≤ 4) }
     ensures { result ≡ line_of_warmth vp times warmth }

@@ -1,12 +1,12 @@
 // What breaks through a row's canister: in the parkings of a season's list, and over a raise at their starts or ends.
 ghost use Rattle.std.specs.Prelude.{◌≡◌, ℕ, ◌*◌, ◌/◌, ◌^◌};
-ghost use Rattle.numbers.specs.Lists.{AllAtMost};
 ghost use Rattle.parking.specs.Grid.{is_end};
 ghost use Rattle.parking.specs.SeasonList.{by_entry, ListFits};
 ghost use Rattle.breakthrough.specs.Through.{curve_at, through, raise_through};
 
 use crate::curve::through;
 use crate::curves::Curves;
+use marks::warmths::Raises;
 use parking::cells::Moment;
 use parking::grid::Grid;
 use parking::season_list::SeasonList;
@@ -29,12 +29,10 @@ pub fn through_list(list: &SeasonList, c: &Curves) -> u64
     sum
 }
 
-// Of the rise when the temperature at the start, or the end, of each parking is raised, the mean in units of 2^-28 g. The raises stand by
-// distance from 14:00.
-pub fn through_raises(grid: &Grid, moment: Moment, raises: &[u64; 25], c: &Curves) -> u64
-    requires { AllAtMost (56 * 2 ^ 40) raises.now }
-    ensures { result ≡ raise_through grid.now.cells.counts (is_end moment) raises.now c.now.by_distance }
+// Of the rise when the temperature at the start, or the end, of each parking is raised, the mean in units of 2^-28 g.
+pub fn through_raises(grid: &Grid, moment: Moment, raises: &Raises, c: &Curves) -> u64
+    ensures { result ≡ raise_through grid.now.cells.counts (is_end moment) raises.now.by_distance c.now.by_distance }
 {
-    let losses = array::from_fn(|d| through(c.by_distance[d], raises[d]));
+    let losses = array::from_fn(|d| through(c.by_distance[d], raises.by_distance[d]));
     grid.mean_by_distance(moment, &losses)
 }

@@ -1,3 +1,4 @@
+pub mod Fleet
 pub mod GridOrLists
 pub mod Letters
 pub mod OneMore

@@ -6,7 +6,7 @@ use Rattle.sheet.specs.Bytes.{season_at}
 use Rattle.sheet.specs.Sheet.{season_check}
 use Rattle.sheet.specs.RunningSums.{days_before}
 use Rattle.sheet.proofs.Conditions.{season-judged}
-use Rattle.sheet.proofs.Stages.{each_none, each_more}
+use Rattle.refusals.proofs.Chain.{each_none, each_more}
 use Rattle.sheet.proofs.Fleet.{vehicles-none, vehicles-more}
 
 -- the days of no season, and of one season more

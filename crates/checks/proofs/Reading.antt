@@ -1,18 +1,13 @@
 -- What an accepted sheet has, for the functions that read it.
 -- Assumes nothing.
-use Rattle.std.proofs.Common.{Bool, false, List, ◌≡◌, ℕ, ◌+◌, ◌*◌, ◌<◌, ◌≤◌, length}
-use Rattle.exact.specs.declared.Season.{Season}
-use Rattle.refusals.specs.declared.Rule.{Rule}
-use Rattle.refusals.specs.Check.{Pass, refuse, each}
+use Rattle.std.proofs.Common.{List, ◌≡◌, ℕ, ◌+◌, ◌*◌, ◌<◌, ◌≤◌, length}
+use Rattle.refusals.specs.Check.{Pass}
 use Rattle.sheet.specs.Versions.{seasons_start}
-use Rattle.sheet.specs.Bytes.{seasons_of, rows_of, season_at, row_at}
-use Rattle.sheet.specs.Range.{SeasonInRange}
-use Rattle.sheet.specs.Sheet.{mark_check, head_check, length_check, season_check, sheet_check}
+use Rattle.sheet.specs.Bytes.{seasons_of, rows_of, row_at}
+use Rattle.sheet.specs.Sheet.{mark_check, head_check, length_check, sheet_check}
 use Rattle.sheet.proofs.Places.{head_there, length_is, parking-there, grid-there, rows_fit}
-use Rattle.sheet.proofs.Versions.{start_between}
-use Rattle.sheet.proofs.Checks.{refuse-pass, each-pass}
+use Rattle.sheet.proofs.Checks.{refuse-pass}
 use Rattle.sheet.proofs.Conditions.{mark-judged, head-judged, length-judged}
-use Rattle.sheet.proofs.InRange.{passed-in-range}
 use Rattle.sheet.proofs.Accepted.{accepted}
 
 pub seasons_fit : (s : List ℕ) → sheet_check s ≡ Pass → seasons_of s ≤ 12
@@ -24,14 +19,6 @@ vehicles_fit s h i l = ((accepted s h).row i l).vehicles-most
 -- for `using` on the functions that read an accepted sheet
 pub ruleset reading = (head_there, length_is, parking-there, grid-there, rows_fit, seasons_fit, vehicles_fit)
 
--- a season that passed its checks is in range
-pub season-passed : (s : List ℕ) → each (season_check s) (seasons_of s) ≡ Pass → (j : ℕ) → j < seasons_of s → {season : Season}
-    → season ≡ season_at s j → season.lowest < 65536 → season.highest < 65536 → SeasonInRange season
-season-passed s passed j l is low high = passed-in-range s j (each-pass (season_check s) _ passed j l) is low high
-
--- for `using` on the functions that read a sheet whose seasons have passed
-pub ruleset of_seasons = (start_between, season-passed)
-
 -- what the head's checks and that of the length have shown where they passed
 pub mark_passed : (s : List ℕ) → mark_check s ≡ Pass → 8 ≤ length s
 mark_passed s h = ((mark-judged s).passes h).0
@@ -42,8 +29,5 @@ head_passed s h = ((head-judged s).passes h).0.0
 pub length_passed : (s : List ℕ) → length_check s ≡ Pass → length s ≡ seasons_start s + 8 * seasons_of s + 24 * rows_of s
 length_passed s h = (length-judged s).passes h
 
-pub test_passed : (b : Bool) (rule : Rule) (place : ℕ) → refuse b rule place ≡ Pass → b ≡ false
-test_passed b rule place h = refuse-pass b rule place h
-
 -- for `using` on the checks one after another
-pub ruleset shown = (mark_passed, head_passed, length_passed, test_passed)
+pub ruleset shown = (mark_passed, head_passed, length_passed, refuse-pass)

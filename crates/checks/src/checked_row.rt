@@ -4,7 +4,6 @@ ghost use Rattle.refusals.specs.Check.{refuse};
 ghost use Rattle.sheet.specs.Bytes.{equipment_at};
 ghost use Rattle.sheet.specs.Sheet.{is_absent};
 
-use crate::exponent::Saturation;
 use crate::passed_seasons::PassedSeasons;
 use exact::Row;
 use fields::row_bytes::RowBytes;
@@ -17,7 +16,6 @@ pub struct CheckedRow<'a> {
     pub start: usize,
     pub row: Row,
     pub ghost there: { start + 24 ≤ length seasons.sheet.now },
-    pub ghost saturation_bits: { row.saturation < 65536 },
 }
 
 impl<'a> CheckedRow<'a> {
@@ -36,16 +34,6 @@ impl<'a> CheckedRow<'a> {
         ensures { result ≡ is_absent (equipment_at self.entry.seasons.sheet.now self.entry.start) }
     {
         self.bytes().equipment().is_none()
-    }
-
-    // Its canister and saturating load.
-    pub fn saturation(self) -> Saturation
-        ensures { (result.canister ≡ self.entry.row.canister) × (result.load ≡ self.entry.row.saturation) }
-    {
-        Saturation {
-            canister: self.row.canister,
-            load: self.row.saturation,
-        }
     }
 
     // A rule applies to the row where its condition holds, and is returned with the row's place.

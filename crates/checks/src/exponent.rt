@@ -1,65 +1,107 @@
 // The exponent a + b·s·m of a row's saturating load m, in the seasons of its sheet: what numbers 20 and 25 demand of it.
-ghost use Rattle.std.specs.Prelude.{◌≡◌, ◌<◌, ◌≤◌};
+ghost use Rattle.std.specs.Prelude.{◌≡◌, ◌+◌, ◌*◌, ◌-◌, ◌/◌, ◌<◌, ◌≤◌, ltb, MatchOption};
 ghost use Rattle.sheet.specs.Bytes.{seasons_of};
-ghost use Rattle.sheet.specs.Range.{SeasonInRange};
+ghost use Rattle.sheet.specs.Range.{warmth, halves};
 ghost use Rattle.sheet.specs.Sheet.{saturation_above, some_season};
-ghost use Rattle.checks.specs.Exponent.{exponent_most};
 
 use crate::passed_seasons::PassedSeasons;
-use exact::{Canister, Season};
+use exact::Canister;
 use fields::classes::halves;
+use fields::range::CheckedSeason;
 use fields::warmth;
 
-// Of which rows the exponent is demanded to be low: at most 3 of every row, and at most 0 of one with a mileage.
+// What one season allows of a saturating load of m tenths of a gram, times 20,000,000: growth·m is at most room.
 #[derive(Clone, Copy)]
-pub enum Demand {
-    EveryRow,
-    WithMileage,
+struct Allowance {
+    growth: u64,
+    room: u64,
+    ghost growth_fits: { growth ≤ 480000 },
+    ghost room_fits: { room ≤ 352000000 },
 }
 
-impl Demand {
-    // The exponent that is allowed.
-    pub fn most(self) -> u64
-        ensures { (result ≡ exponent_most self) × (result ≤ 3) }
+impl Allowance {
+    // m is too much. A product that saturates is above every room.
+    fn is_exceeded(self, m: u64) -> bool
+        ensures { result ≡ ltb self.room (self.growth * m) }
     {
-        match self {
-            Demand::EveryRow => 3,
-            Demand::WithMileage => 0,
-        }
+        self.room < self.growth.saturating_mul(m)
+    }
+
+    // The largest m that is not; none where each is allowed.
+    fn largest(self) -> Option<u64>
+        ensures { MatchOption result (self.growth ≡ 0) (λ most. (0 < self.growth) × (most ≡ self.room / self.growth)) }
+    {
+        self.room.checked_div(self.growth)
     }
 }
 
-// A canister and its saturating load, in tenths of a gram.
+// What the saturating load of a row is held to: with its canister the exponent is at most the limit, in every season.
 #[derive(Clone, Copy)]
-pub struct Saturation {
-    pub canister: Canister,
-    pub load: u64,
-    pub ghost bits: { load < 65536 },
+pub struct Demand {
+    pub limit: u64,
+    pub canister: Option<Canister>,
+    ghost in_range: { limit ≤ 3 },
 }
 
-impl Saturation {
-    // In one season: at its highest temperature, a + b·s·m is above what is demanded, for m tenths of a gram.
-    // At h tenths above −30 °C, 20000000·a is 130000·h − 2000·(129500 + 15·vp), and 1000000·b is 112000 + 10·h − 15·vp.
-    // Without a canister s is 0, and a alone is below 0.
-    pub fn is_above(self, demand: Demand, season: Season) -> bool
-        requires { SeasonInRange season }
-        ensures { result ≡ saturation_above (exponent_most demand) self.canister self.load season }
+impl Demand {
+    // Beside a written load, and in a row without a mileage, the exponent is at most 3.
+    pub fn beside_load(canister: Option<Canister>) -> Demand
+        ensures { (result.limit ≡ 3) × (result.canister ≡ canister) }
     {
+        Demand { limit: 3, canister }
+    }
+
+    // Beside a mileage it is at most 0.
+    pub fn beside_mileage(canister: Option<Canister>) -> Demand
+        ensures { (result.limit ≡ 0) × (result.canister ≡ canister) }
+    {
+        Demand { limit: 0, canister }
+    }
+
+    // In one season, at its highest temperature. At h tenths above −30 °C, 20000000·a is 130000·h − 2000·(129500 + 15·vp), and 1000000·b
+    // is 112000 + 10·h − 15·vp. Without a canister s is 0, and a alone is below 0.
+    fn in_season(self, checked: CheckedSeason) -> Allowance
+        ensures { let h = warmth checked.season.highest in
+            (result.growth ≡ (112000 + 10 * h - 15 * checked.season.vp) * halves self.canister)
+            × (result.room ≡ self.limit * 20000000 + 2000 * (129500 + 15 * checked.season.vp) - 130000 * h) }
+    {
+        let season = checked.season;
         let highest = warmth(season.highest);
         let b = 112000 + 10 * highest - 15 * season.vp;
-        let most = demand.most() * 20000000 + 2000 * (129500 + 15 * season.vp);
-        most < b * halves(self.canister) * self.load + 130000 * highest
+        let most = self.limit * 20000000 + 2000 * (129500 + 15 * season.vp);
+        Allowance {
+            growth: b * halves(self.canister),
+            room: most - 130000 * highest,
+        }
+    }
+
+    // The largest m, in tenths of a gram, with which the exponent is not above the limit in this season. Without a canister there is none,
+    // since it never is.
+    pub fn largest_in(self, checked: CheckedSeason) -> Option<u64>
+        ensures { let h = warmth checked.season.highest in
+            let growth = (112000 + 10 * h - 15 * checked.season.vp) * halves self.canister in
+            MatchOption result (halves self.canister ≡ 0) (λ most. (0 < halves self.canister)
+            × (most ≡ (self.limit * 20000000 + 2000 * (129500 + 15 * checked.season.vp) - 130000 * h) / growth)) }
+    {
+        self.in_season(checked).largest()
+    }
+
+    // With m it is above the limit in this season.
+    pub fn is_above(self, m: u64, checked: CheckedSeason) -> bool
+        ensures { result ≡ saturation_above self.limit self.canister m checked.season }
+    {
+        self.in_season(checked).is_exceeded(m)
     }
 
     // In some season.
     #[tactic(auto, unfolding(sheet::specs::Sheet::some_season))]
-    pub fn is_above_in_some(self, demand: Demand, seasons: PassedSeasons) -> bool
+    pub fn is_above_in_some(self, m: u64, seasons: PassedSeasons) -> bool
         ensures { let s = seasons.entry.sheet.now in
-            result ≡ some_season (saturation_above (exponent_most demand) self.canister self.load) s (seasons_of s) }
+            result ≡ some_season (saturation_above self.limit self.canister m) s (seasons_of s) }
     {
         let mut above = false;
         for j in 0..seasons.count() {
-            above = above | self.is_above(demand, seasons.season(j));
+            above = above | self.is_above(m, seasons.season(j));
         }
         above
     }

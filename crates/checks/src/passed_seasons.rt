@@ -1,21 +1,19 @@
 // A sheet whose seasons have passed their own checks, which a row's checks ask about.
-ghost use Rattle.std.specs.Prelude.{◌≡◌, ◌<◌, ◌≤◌, length};
-ghost use Rattle.refusals.specs.Check.{Pass, each};
+ghost use Rattle.std.specs.Prelude.{◌≡◌, ℕ, ◌<◌, ◌≤◌, length};
 ghost use Rattle.sheet.specs.Bytes.{seasons_of, row_place, season_at};
-ghost use Rattle.sheet.specs.Sheet.{season_check};
 ghost use Rattle.sheet.specs.Range.{SeasonInRange};
 
-use exact::Season;
+use fields::range::CheckedSeason;
 
-// The bytes of a sheet whose seasons are there, and each has passed its own checks.
+// The bytes of a sheet whose seasons are there, and each is in range.
 #[derive(Clone, Copy)]
 pub struct PassedSeasons<'a> {
     pub sheet: &'a [u8],
     pub ghost there: { row_place sheet.now 0 ≤ length sheet.now },
-    pub ghost passed: { each (season_check sheet.now) (seasons_of sheet.now) ≡ Pass },
+    pub ghost in_range: { (j : ℕ) → j < seasons_of sheet.now → SeasonInRange (season_at sheet.now j) },
 }
 
-#[tactic(auto, using(crate::proofs::Reading::of_seasons))]
+#[tactic(auto, using(sheet::proofs::Versions::start_between))]
 impl PassedSeasons<'_> {
     // How many seasons there are.
     pub fn count(self) -> usize
@@ -25,10 +23,12 @@ impl PassedSeasons<'_> {
     }
 
     // Season j, counted from 0.
-    pub fn season(self, j: usize) -> Season
+    pub fn season(self, j: usize) -> CheckedSeason
         requires { j < seasons_of self.sheet.now }
-        ensures { (result ≡ season_at self.entry.sheet.now j) × SeasonInRange result }
+        ensures { result.season ≡ season_at self.entry.sheet.now j }
     {
-        fields::season_at(self.sheet, j)
+        CheckedSeason {
+            season: fields::season_at(self.sheet, j),
+        }
     }
 }

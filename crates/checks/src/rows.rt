@@ -39,14 +39,12 @@ fn percent_wrong(row: Row) -> bool
 
 // A load above the saturating load, or either of them with no canister. A load equal to it passes.
 #[tactic(auto, unfolding(sheet::specs::Sheet::load_wrong))]
-fn load_wrong(canister: Canister, load: u64, saturation: u64) -> bool
+fn load_wrong(canister: Option<Canister>, load: u64, saturation: u64) -> bool
     ensures { result ≡ load_wrong canister load saturation }
 {
     match canister {
-        Canister::None => (0 < load) | (0 < saturation),
-        Canister::Small => saturation < load,
-        Canister::Medium => saturation < load,
-        Canister::Large => saturation < load,
+        None => (0 < load) | (0 < saturation),
+        Some(_) => saturation < load,
     }
 }
 
@@ -59,9 +57,10 @@ impl CheckedRow<'_> {
     {
         let row = self.row;
         let none = no_canister(row.canister);
-        let above = self
-            .saturation()
-            .is_above_in_some(Demand::WithMileage, self.seasons);
+        let above = Demand::beside_mileage(row.canister).is_above_in_some(
+            row.saturation,
+            self.seasons,
+        );
         (MILEAGE_LIMIT < row.mileage) | ((1 <= row.mileage) & (none | (row.load != 0) | above))
     }
 
@@ -116,8 +115,7 @@ impl CheckedRow<'_> {
             Rule::Load,
         )?;
         self.refuse(
-            self.saturation()
-                .is_above_in_some(Demand::EveryRow, self.seasons),
+            Demand::beside_load(row.canister).is_above_in_some(row.saturation, self.seasons),
             Rule::Exponent,
         )
     }
@@ -136,7 +134,8 @@ impl CheckedRow<'_> {
     }
 }
 
-// Row i, after so many vehicles in the rows before.
+// Row i, after so many vehicles in the rows before. Its bytes are asked for, since a type that has them would be made from these same bounds
+// for one call: that all rows are there is known, but the sheet is not accepted yet.
 #[tactic(auto, using(refusals::proofs::Chain::chained, sheet::proofs::Stages::row_stages))]
 fn row_check(seasons: PassedSeasons, i: usize, before: u64) -> Check
     requires { (row_place seasons.sheet.now i + 24 ≤ length seasons.sheet.now) × (before ≡ vehicles_before seasons.sheet.now i) }
@@ -155,7 +154,7 @@ fn row_check(seasons: PassedSeasons, i: usize, before: u64) -> Check
 }
 
 // The rows one after another, with the vehicles before each. An iterator with that sum would be written for this loop alone.
-#[tactic(auto, using(refusals::proofs::Chain::chained, crate::proofs::Reading::of_seasons, crate::proofs::OneMore::rows_on))]
+#[tactic(auto, using(refusals::proofs::Chain::chained, crate::proofs::OneMore::rows_on, sheet::proofs::Versions::start_between))]
 pub fn rows_check(seasons: PassedSeasons) -> Check
     requires { row_place seasons.sheet.now (rows_of seasons.sheet.now) ≤ length seasons.sheet.now }
     ensures { result ≡ each (row_check seasons.entry.sheet.now) (rows_of seasons.entry.sheet.now) }

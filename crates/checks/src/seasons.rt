@@ -2,7 +2,7 @@
 ghost use Rattle.std.specs.Prelude.{◌≡◌, ◌+◌, ◌<◌, ◌≤◌, MatchResult, length};
 ghost use Rattle.sheet.specs.Limits.{days_limit};
 ghost use Rattle.sheet.specs.Bytes.{seasons_of, season_place, row_place};
-ghost use Rattle.refusals.specs.Check.{each};
+ghost use Rattle.refusals.specs.Check.{Pass, each};
 ghost use Rattle.sheet.specs.Sheet.{temperatures_wrong, season_check};
 ghost use Rattle.sheet.specs.RunningSums.{days_before};
 
@@ -23,7 +23,7 @@ fn temperatures_wrong(season: Season) -> bool
     (COLD_LIMIT + WARM_LIMIT < highest) | (highest < lowest)
 }
 
-// Season i, with the days of the seasons before it.
+// Season i, with the days of the seasons before it. Its bytes are asked for: it is what makes the sheet accepted.
 #[tactic(auto, using(refusals::proofs::Chain::chained), unfolding(sheet::specs::Sheet::season_check))]
 fn season_check(s: &[u8], i: usize, before: u64) -> Check
     requires { (season_place s.now i + 8 ≤ length s.now) × (before ≡ days_before s.now i) × (before ≤ days_limit) }
@@ -46,7 +46,8 @@ fn season_check(s: &[u8], i: usize, before: u64) -> Check
 #[tactic(auto, using(refusals::proofs::Chain::chained, sheet::proofs::Versions::start_between, crate::proofs::OneMore::seasons_on))]
 pub fn seasons_check(s: &[u8]) -> Result<PassedSeasons<'_>, Refusal>
     requires { row_place s.now 0 ≤ length s.now }
-    ensures { MatchResult result (λ seasons. seasons.sheet.now ≡ s.now) (λ refusal. each (season_check s.now) (seasons_of s.now) ≡ Err refusal) }
+    ensures { let checks = each (season_check s.now) (seasons_of s.now) in
+        MatchResult result (λ seasons. (seasons.sheet.now ≡ s.now) × (checks ≡ Pass)) (λ refusal. checks ≡ Err refusal) }
 {
     let mut before: u64 = 0;
     for i in 0..seasons_of(s) {

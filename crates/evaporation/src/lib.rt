@@ -24,6 +24,7 @@ pub mod species;
 const VERSION: u64 = 1001000;
 
 // The version of the library, which its header names too.
+#[tactic(auto, unfolding(boundary::specs::Version::version_number, boundary::specs::Version::library_version))]
 #[unsafe(no_mangle)]
 pub extern "C" fn evp_library_version() -> u64
     ensures { result ≡ library_version }

@@ -1,4 +1,5 @@
-// The ledger's calls for a program in another language. Opening a ledger is the report call.
+// The ledger's calls for a program in another language. Opening a ledger is the report call. C has a name for an arrival and one for a
+// departure, so each is a function here, and it hands over sheet and words, and row and vehicles, beside each other.
 ghost use Rattle.ledger.specs.declared.Call.TheVariants.{Arrival, Departure};
 ghost use Rattle.boundary.specs.Change.{ChangeNumbers};
 

@@ -1,4 +1,5 @@
-// The calls on a shared ledger for a program in another language.
+// The calls on a shared ledger for a program in another language. C has a name for an arrival and one for a departure, so each is a function
+// here, and it hands over beside each other what a struct holds elsewhere, as sheet, owners and words.
 ghost use Rattle.ledger.specs.declared.Call.TheVariants.{Arrival, Departure};
 ghost use Rattle.boundary.specs.Shared.{OpenNumbers, SharedNumbers, RowNumbers, TotalsNumbers};
 

@@ -1,5 +1,6 @@
 // The library for programs in another language: a static library, of which each export is the call of the crate `evaporation` with the same
-// name, and states its clauses again. A slice is passed as a pointer and a length.
+// name, and states its clauses again. A slice is passed as a pointer and a length. A static library exports only what stands in it, and no crate can
+// depend on one (the kit's UNSAFE.md), so each call stands in both crates.
 #![tactic(auto)]
 
 ghost use Rattle.std.specs.Prelude.{◌≡◌};

@@ -2,6 +2,7 @@
 -- soak, computed for n = 3, falls from 60 to 90 kPa.
 -- Assumes nothing.
 use mathlib.Core.Bool.{not}
+use Rattle.std.proofs.Common.{Some}
 use mathlib.Core.List.{List, [], ◌∷◌}
 use Prim.Native.Nat.{ℕ}
 use lib.Dec.{T}
@@ -34,7 +35,7 @@ counts = 1 ∷ []
 abbrev motorcycle : Row
 motorcycle = record {
   class = 9;
-  canister = Small;
+  canister = Some Small;
   carburettor = 0;
   hot = 0;
   fill = 40;

@@ -1,12 +1,13 @@
 -- Exact factors and masses of small sheets and starting loads for small n, in grams, calculated apart from these
 -- definitions: tools/make/values.py wrote this file from tools/reckoning. antt computes each value anew.
 -- Assumes nothing.
+use Rattle.std.proofs.Common.{Some, None}
 use mathlib.Core.Bool.{Bool, true, false, ◌&&◌}
 use mathlib.Core.List.{List, [], ◌∷◌, map}
 use Prim.Native.Nat.{ℕ, ◌+◌, ◌*◌}
 use lib.Dec.{T, eqb}
 use Rattle.numbers.specs.Fraction.{Fraction, whole, negᶠ, ◌over◌}
-use Rattle.exact.specs.declared.Canister.TheVariants.{None, Small, Medium, Large}
+use Rattle.exact.specs.declared.Canister.TheVariants.{Small, Medium, Large}
 use Rattle.exact.specs.declared.Season.{Season}
 use Rattle.exact.specs.declared.Row.{Row}
 use Rattle.exact.specs.Mileage.{starting_load}
@@ -64,7 +65,7 @@ abbrev breakthrough-below-season : Season
 breakthrough-below-season = record { days = 1; lowest = 100; highest = 300; vp = 600 }
 
 abbrev breakthrough-below-row : Row
-breakthrough-below-row = record { class = 1; canister = Small; carburettor = 0; hot = 0; fill = 35; tank = 500; vehicles = 0; trips = 0; minutes = 60; load = 300; saturation = 550; mileage = 0 }
+breakthrough-below-row = record { class = 1; canister = Some Small; carburettor = 0; hot = 0; fill = 35; tank = 500; vehicles = 0; trips = 0; minutes = 60; load = 300; saturation = 550; mileage = 0 }
 
 breakthrough-below : T (same (factors 3 breakthrough-below-cells breakthrough-below-season breakthrough-below-row) (
     (whole 41452837517408361175100987601408231559105291360130054971864856577287280949788546419310996184469464395175662138481499074859977271347752048241501125318285421547262770895329225885010642166218674009641602983483 over 306395456382822377770180120394241866853143082961041854349354005054209570777350229409645182375685532169565329498880535022911601805716503331233305871185864835717516986903683048739813325124094690562500000000000) ∷
@@ -88,7 +89,7 @@ abbrev overflow-season : Season
 overflow-season = record { days = 1; lowest = 200; highest = 350; vp = 900 }
 
 abbrev overflow-row : Row
-overflow-row = record { class = 3; canister = Large; carburettor = 0; hot = 0; fill = 0; tank = 750; vehicles = 0; trips = 0; minutes = 30; load = 600; saturation = 605; mileage = 0 }
+overflow-row = record { class = 3; canister = Some Large; carburettor = 0; hot = 0; fill = 0; tank = 750; vehicles = 0; trips = 0; minutes = 30; load = 600; saturation = 605; mileage = 0 }
 
 overflow : T (same (factors 2 overflow-cells overflow-season overflow-row) (
     (whole 4266555846548507636577332550839168856211326557704179745134958445334684763436533 over 715170725368056085943531975827573157663744482595344000000000000000000000000000) ∷
@@ -112,7 +113,7 @@ abbrev saturated-season : Season
 saturated-season = record { days = 1; lowest = 50; highest = 250; vp = 700 }
 
 abbrev saturated-row : Row
-saturated-row = record { class = 2; canister = Medium; carburettor = 0; hot = 0; fill = 40; tank = 600; vehicles = 0; trips = 0; minutes = 15; load = 500; saturation = 500; mileage = 0 }
+saturated-row = record { class = 2; canister = Some Medium; carburettor = 0; hot = 0; fill = 40; tank = 600; vehicles = 0; trips = 0; minutes = 15; load = 500; saturation = 500; mileage = 0 }
 
 saturated : T (same (factors 2 saturated-cells saturated-season saturated-row) (
     (whole 66933425967357614901050059 over 48828125000000000000000000) ∷
@@ -184,7 +185,7 @@ abbrev round-midnight-season : Season
 round-midnight-season = record { days = 1; lowest = 50; highest = 250; vp = 700 }
 
 abbrev round-midnight-row : Row
-round-midnight-row = record { class = 4; canister = Medium; carburettor = 0; hot = 0; fill = 50; tank = 600; vehicles = 0; trips = 0; minutes = 45; load = 100; saturation = 500; mileage = 0 }
+round-midnight-row = record { class = 4; canister = Some Medium; carburettor = 0; hot = 0; fill = 50; tank = 600; vehicles = 0; trips = 0; minutes = 45; load = 100; saturation = 500; mileage = 0 }
 
 round-midnight : T (same (factors 2 round-midnight-cells round-midnight-season round-midnight-row) (
     (whole 106994368707408052873930383126518849712698572253509356579687815564036365191169986637685663359562487253348173357271407 over 230411898403196073249559113101526285918127497974719363774112835375808820850197341691435733474962891495551250000000000) ∷
@@ -256,7 +257,7 @@ abbrev motorcycle-season : Season
 motorcycle-season = record { days = 1; lowest = 50; highest = 250; vp = 700 }
 
 abbrev motorcycle-row : Row
-motorcycle-row = record { class = 9; canister = Small; carburettor = 0; hot = 0; fill = 50; tank = 200; vehicles = 0; trips = 0; minutes = 45; load = 300; saturation = 560; mileage = 0 }
+motorcycle-row = record { class = 9; canister = Some Small; carburettor = 0; hot = 0; fill = 50; tank = 200; vehicles = 0; trips = 0; minutes = 45; load = 300; saturation = 560; mileage = 0 }
 
 motorcycle : T (same (factors 2 motorcycle-cells motorcycle-season motorcycle-row) (
     (whole 61151475566761915321789204426964180395804839202000613765525757468505279288590682729598960378459560870316168959109 over 689908890657205796838383152818736564080123762453942643348520383075615108743985008615154875610356843012500000000000) ∷
@@ -328,7 +329,7 @@ abbrev odometer-car-season : Season
 odometer-car-season = record { days = 1; lowest = 100; highest = 300; vp = 600 }
 
 abbrev odometer-car-row : Row
-odometer-car-row = record { class = 1; canister = Small; carburettor = 0; hot = 0; fill = 35; tank = 500; vehicles = 0; trips = 0; minutes = 60; load = 0; saturation = 53; mileage = 14 }
+odometer-car-row = record { class = 1; canister = Some Small; carburettor = 0; hot = 0; fill = 35; tank = 500; vehicles = 0; trips = 0; minutes = 60; load = 0; saturation = 53; mileage = 14 }
 
 odometer-car : T (same (factors 3 odometer-car-cells odometer-car-season odometer-car-row) (
     (whole 52959065074303907084501898191554102359426409012986726772697563893806032729076737222849947047484891381731982958897443833939106643209557638951416085828324678173548064182272596810946314829871948238371117077830121 over 957784380304976723774281289107353179551494318952250476774782281993935241403024735261827349307595674443963735560689634420008766011702240665413858667951158648573385751231790433018619276418661270029843750000000000) ∷
@@ -352,7 +353,7 @@ abbrev odometer-motorcycle-season : Season
 odometer-motorcycle-season = record { days = 1; lowest = 100; highest = 300; vp = 700 }
 
 abbrev odometer-motorcycle-row : Row
-odometer-motorcycle-row = record { class = 9; canister = Small; carburettor = 0; hot = 0; fill = 50; tank = 200; vehicles = 0; trips = 0; minutes = 45; load = 0; saturation = 70; mileage = 30 }
+odometer-motorcycle-row = record { class = 9; canister = Some Small; carburettor = 0; hot = 0; fill = 50; tank = 200; vehicles = 0; trips = 0; minutes = 45; load = 0; saturation = 70; mileage = 30 }
 
 odometer-motorcycle : T (same (factors 3 odometer-motorcycle-cells odometer-motorcycle-season odometer-motorcycle-row) (
     (whole 3003152143519980780329012092930011199457177755199482446262306324027859484801126118084358815348976166242041492003234237 over 2435902399182514269056279652673832588809344882431672156298903654599087146384875000000000000000000000000000000000000000) ∷
@@ -376,7 +377,7 @@ abbrev odometer-never-season : Season
 odometer-never-season = record { days = 1; lowest = 50; highest = 250; vp = 700 }
 
 abbrev odometer-never-row : Row
-odometer-never-row = record { class = 2; canister = Medium; carburettor = 0; hot = 0; fill = 40; tank = 600; vehicles = 0; trips = 0; minutes = 15; load = 0; saturation = 33; mileage = 1000000 }
+odometer-never-row = record { class = 2; canister = Some Medium; carburettor = 0; hot = 0; fill = 40; tank = 600; vehicles = 0; trips = 0; minutes = 15; load = 0; saturation = 33; mileage = 1000000 }
 
 odometer-never : T (same (factors 2 odometer-never-cells odometer-never-season odometer-never-row) (
     (whole 66933425967357614901050059 over 48828125000000000000000000) ∷
@@ -400,7 +401,7 @@ abbrev year-season : List Season
 year-season = (record { days = 200; lowest = 100; highest = 300; vp = 600 }) ∷ (record { days = 165; lowest = 65486; highest = 80; vp = 900 }) ∷ []
 
 abbrev year-row : Row
-year-row = record { class = 1; canister = Small; carburettor = 40; hot = 30; fill = 35; tank = 500; vehicles = 1000; trips = 250; minutes = 20; load = 300; saturation = 550; mileage = 0 }
+year-row = record { class = 1; canister = Some Small; carburettor = 40; hot = 30; fill = 35; tank = 500; vehicles = 1000; trips = 250; minutes = 20; load = 300; saturation = 550; mileage = 0 }
 
 year : T (same (masses 2 year-cells year-season year-row) (
     (whole 178321782617273521868425577140692296628904845356532393030203348723419832179141612759915377407321577994418811649053667118441044615747403824840017492310800968574354488829086685375881139234490329814574246758052399595043654941917347573013399375417524981632123413297337550066243769000767186728992587330849958408038169781170324234454010656393789496632358971350813360075834253128190052701467069009953816194097811179780149897366100147 over 8842269373460827931882881500630705741457496255529407208975784599586309284195134100370964328927470365296986212291382264894677369207155838533542794028774839172897215895551660072402283242792709380403757051852118890963375075586284112270738876990975026512928500543460073744127004903641977684241029080149397391353487236029552304201606511818732264922707712908515092269698896130903174555115281392783340912290879841787462500000000) ∷
@@ -440,7 +441,7 @@ abbrev odometer-year-season : List Season
 odometer-year-season = (record { days = 200; lowest = 100; highest = 300; vp = 600 }) ∷ (record { days = 165; lowest = 65486; highest = 80; vp = 900 }) ∷ []
 
 abbrev odometer-year-row : Row
-odometer-year-row = record { class = 9; canister = Small; carburettor = 40; hot = 30; fill = 35; tank = 200; vehicles = 1000; trips = 250; minutes = 20; load = 0; saturation = 150; mileage = 22 }
+odometer-year-row = record { class = 9; canister = Some Small; carburettor = 40; hot = 30; fill = 35; tank = 200; vehicles = 1000; trips = 250; minutes = 20; load = 0; saturation = 150; mileage = 22 }
 
 odometer-year : T (same (masses 2 odometer-year-cells odometer-year-season odometer-year-row) (
     (whole 339144414009635658772652760071358792988416117832349359807934401160968503796525116823807674914714528540809398141800212095603918676698329644570128344958083997679283629018399409438820747726270910043710712302152381043289640093535287 over 13393521078250549091799006227639877547612057028270772110357303811748619329530405261346720604910290164947536169958357869507173744945863523747350173703444154637776582104558408285264152681355133752490065804209369263611250000000) ∷

@@ -1,5 +1,6 @@
 -- A more volatile fuel gives factors and masses at least as large in a row without a canister, for every n and any cell weights.
 -- Assumes nothing.
+use Rattle.std.proofs.Common.{Option, None}
 use mathlib.Core.Bool.{Bool, true, false}
 use mathlib.Core.List.{List, [], ◌∷◌}
 use mathlib.Core.Path.{◌≡◌, sym, subst}
@@ -9,7 +10,6 @@ use Rattle.numbers.specs.Fraction.{Fraction, ◌≤ᶠ◌, ◌+ᶠ◌, whole, �
 use Rattle.numbers.proofs.Order.{NonNegative, ≤-refl, whole-NonNegative, decimal-NonNegative, decimal-mono, +-mono}
 use Rattle.numbers.proofs.Order.{+-grows, *-mono-right, over-mono, over-NonNegative, times-mono}
 use Rattle.exact.specs.declared.Canister.{Canister}
-use Rattle.exact.specs.declared.Canister.TheVariants.{None}
 use Rattle.exact.specs.declared.Season.{Season}
 use Rattle.exact.specs.declared.Row.{Row}
 use Rattle.exact.specs.Day.{temperature}
@@ -66,7 +66,7 @@ module _ (n : ℕ) (season : Season) (k : ℕ) (l : season.vp ≤ k) (row : Row)
       → open_vapour n season row row.canister T rise ≤ᶠ open_vapour n volatile row row.canister T rise
   unfolding open_vapour
   open_vapour-rises T {rise} h =
-      subst (λ (c : Canister). open_vapour n season row c T rise ≤ᶠ open_vapour n volatile row c T rise) (sym o.no-canister)
+      subst (λ (c : Option Canister). open_vapour n season row c T rise ≤ᶠ open_vapour n volatile row c T rise) (sym o.no-canister)
       (row_vapour-rises (+-grows T h))
 
   -- of a parking that ends at an hour after d half-hours: its temperatures are those of either season

@@ -1,9 +1,9 @@
 -- The carbon canister: what it loses, and what breaks through. Definitions only.
-use Rattle.std.specs.Prelude.{true, false, ℕ}
+use Rattle.std.specs.Prelude.{true, false, Option, Some, None, ℕ}
 use Rattle.numbers.specs.Fraction.{Fraction, ◌+ᶠ◌, ◌-ᶠ◌, negᶠ, ◌*ᶠ◌, whole, ◌/10^◌, ◌≤?◌}
 use Rattle.bounds.specs.Series.{E}
 use Rattle.exact.specs.declared.Canister.{Canister}
-use Rattle.exact.specs.declared.Canister.TheVariants.{None, Small, Medium, Large}
+use Rattle.exact.specs.declared.Canister.TheVariants.{Small, Medium, Large}
 
 -- "a = −11 − 0.015·vp + 0.065·T"
 unfoldable pub a : Fraction → Fraction → Fraction
@@ -14,11 +14,11 @@ unfoldable pub b : Fraction → Fraction → Fraction
 b vp T = 115 /10^ 3 -ᶠ 15 /10^ 5 *ᶠ vp +ᶠ 1 /10^ 4 *ᶠ T
 
 -- "s = 2, 1, 0.5 for small, medium, large"; without canister there is none, and nothing asks for it
-abbrev pub size : Canister → Fraction
+abbrev pub size : Option Canister → Fraction
 size None = whole 0
-size Small = whole 2
-size Medium = whole 1
-size Large = 5 /10^ 1
+size (Some Small) = whole 2
+size (Some Medium) = whole 1
+size (Some Large) = 5 /10^ 1
 
 -- vp in kPa, the size s, m_sat in grams, "T the temperature from which the escape starts"; loads and vapour in grams
 module _ (n : ℕ) (vp s saturation T : Fraction) where
@@ -36,8 +36,6 @@ module _ (n : ℕ) (vp s saturation T : Fraction) where
 
 module _ (n : ℕ) (vp saturation m1 T : Fraction) where
   -- " "Escape" is this with a canister, v without."
-  unfoldable pub escape : Canister → Fraction → Fraction
+  unfoldable pub escape : Option Canister → Fraction → Fraction
   escape None v = v
-  escape Small v = breakthrough n vp (size Small) saturation T m1 v
-  escape Medium v = breakthrough n vp (size Medium) saturation T m1 v
-  escape Large v = breakthrough n vp (size Large) saturation T m1 v
+  escape (Some c) v = breakthrough n vp (size (Some c)) saturation T m1 v

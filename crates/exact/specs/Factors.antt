@@ -1,8 +1,7 @@
 -- The seven emission factors, "each a weighted mean over the 576 cells". Definitions only.
-use Rattle.std.specs.Prelude.{true, false, List, [], ◌∷◌, map, ◌++◌, ℕ, suc, ◌+◌, ◌*◌, ◌%◌, ◌/◌, leb, eqb}
+use Rattle.std.specs.Prelude.{true, false, Option, Some, None, List, [], ◌∷◌, map, ◌++◌, ℕ, suc, ◌+◌, ◌*◌, ◌%◌, ◌/◌, leb, eqb}
 use Rattle.numbers.specs.Fraction.{Fraction, ◌+ᶠ◌, ◌*ᶠ◌, whole, ◌/10^◌, ◌over◌, ◌times◌}
 use Rattle.exact.specs.declared.Canister.{Canister}
-use Rattle.exact.specs.declared.Canister.TheVariants.{None, Small, Medium, Large}
 use Rattle.exact.specs.declared.Season.{Season}
 use Rattle.exact.specs.declared.Row.{Row}
 use Rattle.exact.specs.Day.{temperature, start_mark}
@@ -42,11 +41,9 @@ module _ (n : ℕ) (season : Season) (row : Row) where
   escape_over T rise = row_escape T (row_vapour T (T +ᶠ rise))
 
   -- "without canister the vapour from T2 to T2 + 1 or T2 + 5", here from T to T + rise
-  unfoldable pub open_vapour : Canister → Fraction → Fraction → Fraction
+  unfoldable pub open_vapour : Option Canister → Fraction → Fraction → Fraction
   open_vapour None T rise = row_vapour T (T +ᶠ rise)
-  open_vapour Small T rise = whole 0
-  open_vapour Medium T rise = whole 0
-  open_vapour Large T rise = whole 0
+  open_vapour (Some c) T rise = whole 0
 
   -- "hours per trip"
   unfoldable pub hours : Fraction

@@ -1,19 +1,18 @@
 // The values of a sheet that document 01's exact masses are functions of, in the units of the sheet.
 #![tactic(auto)]
 
-// A carbon canister, or none.
-#[derive(Clone, Copy)]
+// The size of a carbon canister.
+#[derive(Clone, Copy, Debug, PartialEq, Eq)]
 pub enum Canister {
-    None,
     Small,
     Medium,
     Large,
 }
 
-// What a class and technology of Table 3-11 are fitted with: a canister, and a tank in tenths of a litre.
+// What a class and technology of Table 3-11 are fitted with: a canister or none, and a tank in tenths of a litre.
 #[derive(Clone, Copy)]
 pub struct Fitted {
-    pub canister: Canister,
+    pub canister: Option<Canister>,
     pub tank: u64,
 }
 
@@ -31,8 +30,10 @@ pub struct Season {
 // One row, with the canister and the tank that count for it: the class's where the sheet leaves them to the class.
 #[derive(Clone, Copy)]
 pub struct Row {
+    // A number and no enum, since document 01 sums by ranges of it, "cars (1 to 3), light-duty (4), two-wheelers (5 to 9)", and since a row is read
+    // before its class is known to be in the table.
     pub class: u64,
-    pub canister: Canister,
+    pub canister: Option<Canister>,
     // Shares of carburettor vehicles and of hot trips, and the fill level, in percent.
     pub carburettor: u64,
     pub hot: u64,
@@ -47,6 +48,6 @@ pub struct Row {
     // Canister load at parking start and saturating load, in tenths of a gram.
     pub load: u64,
     pub saturation: u64,
-    // The odometer in km, 0 where the load is written.
+    // The odometer in km, 0 where the load is written. No enum of the two, since number 25 refuses a row that has a mileage beside a load.
     pub mileage: u64,
 }

@@ -1,4 +1,5 @@
-// Head and length: numbers 1 to 7.
+// Head and length: numbers 1 to 7. What reads the head asks for its eight bytes itself, as the functions of fields do: the table reads
+// sheets that are not accepted, and a type for the head would be made of this bound again.
 ghost use Rattle.std.specs.Prelude.{◌≡◌, ◌-◌, ◌<◌, ◌≤◌, length};
 ghost use Rattle.sheet.specs.Integers.{u8_at};
 ghost use Rattle.findings.specs.Lines.{site, field, limits, always, line};

@@ -23,8 +23,8 @@ fn stages(s: &[u8]) -> Judged
     numbers_finding(s)?;
     length_finding(s)?;
     parking_finding(s)?;
-    seasons_finding(s)?;
-    rows_finding(s)
+    let seasons = seasons_finding(s)?;
+    rows_finding(seasons)
 }
 
 // What is wrong on a sheet, where to look and what may stand there; all zeros where it is accepted.

@@ -1,5 +1,4 @@
-pub mod Pairs
-pub mod RowBands
+pub mod SevenBands
 pub mod RowPromise
 pub mod SheetTable
 pub mod TablePromise

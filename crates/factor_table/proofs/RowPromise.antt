@@ -2,31 +2,20 @@
 use Rattle.std.proofs.Common.{Ok, Err}
 use mathlib.Core.List.{List}
 use mathlib.Core.Path.{◌≡◌, refl, ◌∙◌}
-use Prim.Native.Nat.{ℕ, suc, zero, ◌≤◌}
+use Prim.Native.Nat.{ℕ, ◌≤◌}
 use native.Mathlib.Omega.{arith}
+use borrow.Author.Tests.{le-ltb}
 use Rattle.refusals.specs.declared.Refusal.{Refusal}
 use Rattle.refusals.specs.Check.{Check, Pass, number_of, place_of}
+use Rattle.sheet.specs.Sheet.{outside}
 use Rattle.sheet.proofs.Accepted.{Bytes}
 use Rattle.inventory.specs.declared.Band.{Band}
-use Rattle.inventory.specs.FactorAnswers.{units_at, factor_answer}
+use Rattle.inventory.specs.FactorAnswers.{factor_check, factor_answer}
 use Rattle.inventory.specs.FactorBand.{FactorBand, answer_low, answer_high}
 use Rattle.inventory.proofs.CallConditions.{factor-says}
 use Rattle.inventory.proofs.FactorPromise.{band-is, promised, refusal_is}
-use Rattle.factor_table.specs.RowFactors.{band, row_bands, band_at, RowFactors, row_check, row_answered, row_answer, one_of, RowFactorsCall}
-use Rattle.factor_table.proofs.Pairs.{check-same}
-
--- the band of factor k is its low and high
-band-at : (s : List ℕ) (season row k : ℕ) → 1 ≤ k → k ≤ 7 → band_at (row_bands s season row) k ≡ band (units_at s season row k)
-unfolding row_bands
-band-at s season row zero l m = absurd (omega arith)
-band-at s season row (suc zero) l m = refl
-band-at s season row (suc (suc zero)) l m = refl
-band-at s season row (suc (suc (suc zero))) l m = refl
-band-at s season row (suc (suc (suc (suc zero)))) l m = refl
-band-at s season row (suc (suc (suc (suc (suc zero))))) l m = refl
-band-at s season row (suc (suc (suc (suc (suc (suc zero)))))) l m = refl
-band-at s season row (suc (suc (suc (suc (suc (suc (suc zero))))))) l m = refl
-band-at s season row (suc (suc (suc (suc (suc (suc (suc (suc k)))))))) l m = absurd (omega arith)
+use Rattle.factor_table.specs.RowFactors.{row_bands, band_at, RowFactors, row_check, row_answered, row_answer, one_of, RowFactorsCall}
+use Rattle.factor_table.proofs.SevenBands.{band-at}
 
 -- the number and the place of either outcome
 numbers-same : (c : Check) (bands : List Band) → (number_of (row_answered c bands) ≡ number_of c) × (place_of (row_answered c bands) ≡ place_of c)
@@ -35,15 +24,18 @@ numbers-same (Ok _) bands = (refl, refl)
 numbers-same (Err refusal) bands = (refl, refl)
 
 module _ (s : List ℕ) (season row : ℕ) (bytes : Bytes s) where
+  -- the factor call makes the same checks, whichever of the seven is asked for
+  check-same : (k : ℕ) → 1 ≤ k → k ≤ 7 → factor_check s season row k ≡ row_check s season row
+  unfolding factor_check outside
+  check-same k least most = rw (le-ltb k 1 least, le-ltb 7 k most) refl
+
   module _ (k : ℕ) (least : 1 ≤ k) (most : k ≤ 7) (passed : row_check s season row ≡ Pass) where
     -- the factor call answers this band
-    band-same : Ok (band_at (row_bands s season row) k) ≡ factor_answer s season row k
-    band-same =
-        rw (band-at s season row k least most)
-        (band-is s season row k bytes (check-same s season row k least most ∙ passed) refl refl refl)
+    pub band-same : Ok (band_at (row_bands s season row) k) ≡ factor_answer s season row k
+    band-same = band-is s season row k bytes (check-same k least most ∙ passed) (band-at s season row k least most)
 
     -- and promises this of it
-    band-holds : FactorBand s season row k (band_at (row_bands s season row) k).low (band_at (row_bands s season row) k).high
+    pub band-holds : FactorBand s season row k (band_at (row_bands s season row) k).low (band_at (row_bands s season row) k).high
     unfolding number_of answer_low answer_high
     band-holds = (promised s season row k bytes band-same).band refl
 
@@ -58,7 +50,7 @@ module _ (s : List ℕ) (season row : ℕ) (bytes : Bytes s) where
   )
   kept (Err refusal) h e = (
     λ v f. let clash : ◌≡◌ {A = ℕ} 0 1 = cc in absurd (omega arith),
-    λ k l m. rw e (refusal_is s season row k bytes (check-same s season row k l m ∙ h)),
+    λ k l m. rw e (refusal_is s season row k bytes (check-same k l m ∙ h)),
   )
 
   -- an answer that is the definition's is what is promised

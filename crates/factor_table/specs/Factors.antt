@@ -1,14 +1,14 @@
 -- What the call for all factors of a sheet answers and what it leaves in the buffer. Definitions only.
-use Rattle.std.specs.Prelude.{List, ◌≡◌, ℕ, ◌+◌, ◌*◌, ◌≤◌, ◌<◌, ltb, length, Ok}
+use Rattle.std.specs.Prelude.{List, ◌≡◌, ℕ, ◌+◌, ◌*◌, ◌≤◌, ◌<◌, length, Ok}
 use Rattle.numbers.specs.Lists.{at}
 use Rattle.blocks.specs.Blocks.{blocks}
 use Rattle.refusals.specs.declared.Rule.TheVariants as rule
-use Rattle.refusals.specs.Check.{Check, refuse, ◌then◌, number_of, place_of}
+use Rattle.refusals.specs.Check.{Check, number_of, place_of}
 use Rattle.sheet.specs.Bytes.{seasons_of, rows_of}
-use Rattle.sheet.specs.Sheet.{sheet_check}
 use Rattle.sheet.specs.Demands.{Demands, demand, ◌next◌, Says, demands}
 use Rattle.inventory.specs.FactorAnswers.{factor_answer}
 use Rattle.inventory.specs.FactorBand.{FactorBand}
+use Rattle.inventory.specs.ReportAnswers.{room_check}
 use Rattle.inventory.specs.ReportCall.{written}
 use Rattle.factor_table.specs.RowFactors.{band_words, low_place, high_place}
 
@@ -26,7 +26,7 @@ all_factors s = blocks (season_factors s) (seasons_of s)
 
 -- number 22 where the buffer is short, after every check of the sheet
 unfoldable pub factors_check : List ℕ → ℕ → Check
-factors_check s room = sheet_check s then refuse (ltb room (factors_length s)) rule.Room 0
+factors_check s room = room_check factors_length s room
 
 abbrev pub factors_demands : List ℕ → ℕ → Demands
 factors_demands s room = demands s next demand rule.Room 0 (factors_length s ≤ room)

@@ -1,27 +1,12 @@
 -- What the call for all seven factors of a season and row answers. Definitions only.
-use Rattle.std.specs.Prelude.{List, [], ◌∷◌, ◌≡◌, ℕ, suc, zero, ◌+◌, ◌*◌, ◌-◌, ◌/◌, ◌%◌, ◌≤◌, slice_index_or, Ok, Err}
-use Rattle.numbers.specs.Lists.{tab, at}
+use Rattle.std.specs.Prelude.{List, [], ◌∷◌, ◌≡◌, ℕ, ◌+◌, ◌*◌, ◌-◌, ◌≤◌, slice_index_or, Ok, Err}
 use Rattle.refusals.specs.Check.{Answer, Check, number_of, place_of}
 use Rattle.sheet.specs.Demands.{Demands, Says}
-use Rattle.factors.specs.Units.{low_micrograms, high_micrograms}
 use Rattle.inventory.specs.declared.Band.{Band}
-use Rattle.inventory.specs.FactorAnswers.{factor_check, units_at, factor_answer}
+use Rattle.inventory.specs.FactorAnswers.{band, factor_check, units_at, factor_answer}
 use Rattle.inventory.specs.FactorBand.{FactorAnswer, factor_demands, FactorBand}
 
--- a factor in micrograms: 0 for its low, rounded down, and any other number for its high, rounded up
-unfoldable pub side : ℕ → ℕ → ℕ
-side zero = low_micrograms
-side (suc m) = high_micrograms
-
--- word m of the 14 made of seven factors in units of 2⁻²⁸ g
-abbrev pub band_of : List ℕ → ℕ → ℕ
-band_of units m = side (m % 2) (at units (m / 2))
-
--- the low and the high of factors 1 to 7 of a season and row, in micrograms
-unfoldable pub band_words : List ℕ → ℕ → ℕ → List ℕ
-band_words s season row = tab (λ (m : ℕ). side (m % 2) (units_at s season row (m / 2 + 1))) 14
-
--- where the low and the high of factor k stand among them
+-- where the low and the high of factor k stand among the words
 abbrev pub low_place : ℕ → ℕ
 low_place k = 2 * (k - 1)
 
@@ -35,11 +20,7 @@ row_check s season row = factor_check s season row 1
 abbrev pub row_demands : List ℕ → ℕ → ℕ → Demands
 row_demands s season row = factor_demands s season row 1
 
--- a factor's low and high in micrograms
-abbrev pub band : ℕ → Band
-band units = record { low = low_micrograms units; high = high_micrograms units }
-
--- those of factors 1 to 7 of a season and row
+-- the bands of factors 1 to 7 of a season and row
 unfoldable pub row_bands : List ℕ → ℕ → ℕ → List Band
 row_bands s season row =
     band (units_at s season row 1) ∷
@@ -49,6 +30,15 @@ row_bands s season row =
     band (units_at s season row 5) ∷
     band (units_at s season row 6) ∷
     band (units_at s season row 7) ∷ []
+
+-- bands as words, each low before its high
+unfoldable pub in_words : List Band → List ℕ
+in_words [] = []
+in_words (band ∷ bands) = band.low ∷ band.high ∷ in_words bands
+
+-- the low and the high of factors 1 to 7 of a season and row, in micrograms
+abbrev pub band_words : List ℕ → ℕ → ℕ → List ℕ
+band_words s season row = in_words (row_bands s season row)
 
 -- the band of factor k among them
 abbrev pub band_at : List Band → ℕ → Band

@@ -3,11 +3,9 @@
 
 ghost use Rattle.factor_table.specs.RowFactors.{RowFactorsCall};
 
-use crate::bands::band_of;
 use inventory::Band;
-use inventory::check::factor_check;
+use inventory::asked::AskedRow;
 use refusals::Refusal;
-use sheet_factors::factors_at::factors_at;
 
 pub mod bands;
 pub mod table;
@@ -16,7 +14,6 @@ pub mod table;
 pub fn row_factors(s: &[u8], season: u64, row: u64) -> Result<[Band; 7], Refusal>
     ensures { RowFactorsCall s.now season row result }
 {
-    factor_check(s, season, row, 1)?;
-    let units = factors_at(s, season as usize, row as usize);
-    Ok(units.map(band_of))
+    let asked = AskedRow::of(s, season, row)?;
+    Ok(Band::of_each(&asked.units()))
 }

@@ -1,5 +1,6 @@
 -- A row's canister in a season: a, b·s and the loads as they are held, what check 20 says of them, and the breakthrough that is computed from them.
 -- Assumes nothing.
+use Rattle.std.proofs.Common.{Option, Some, None}
 use mathlib.Core.Bool.{Bool, true, false}
 use mathlib.Core.Path.{◌≡◌, refl}
 use Prim.Native.Nat.{ℕ, ◌+◌, ◌*◌, ◌-◌, ◌^◌, ◌≤◌, ◌<◌}
@@ -17,7 +18,7 @@ use Rattle.numbers.proofs.Order.{NonNegative, NonNegative-up, ≈-refl, ≈-tran
 use Rattle.bounds.proofs.Within.{decimal-cut}
 use Rattle.bounds.proofs.Line.{double-unit-pos, rising, along, along-≤}
 use Rattle.exact.specs.declared.Canister.{Canister}
-use Rattle.exact.specs.declared.Canister.TheVariants.{None, Small, Medium, Large}
+use Rattle.exact.specs.declared.Canister.TheVariants.{Small, Medium, Large}
 use Rattle.exact.specs.declared.Season.{Season}
 use Rattle.exact.specs.declared.Row.{Row}
 use Rattle.exact.specs.Canister.{a, b, size, breakthrough}
@@ -38,20 +39,27 @@ use Rattle.factors.proofs.Starts.{start-driven, start-written, error-driven, err
 use Rattle.factors.proofs.Gain.{exact_gain, gain-within, gain-most}
 
 -- s in halves
-pub size_is : (c : Canister) → size c ≈ᶠ ratio (halves c) 2 halves-pos
+pub size_is : (c : Option Canister) → size c ≈ᶠ ratio (halves c) 2 halves-pos
 unfolding halves whole ◌/10^◌ ratio
 size_is None = omega arith
-size_is Small = omega arith
-size_is Medium = omega arith
-size_is Large = omega arith
+size_is (Some Small) = omega arith
+size_is (Some Medium) = omega arith
+size_is (Some Large) = omega arith
 
 -- s ≤ 2
-halves-most : (c : Canister) → halves c ≤ 4
+halves-most : (c : Option Canister) → halves c ≤ 4
 unfolding halves
 halves-most None = omega arith
-halves-most Small = omega arith
-halves-most Medium = omega arith
-halves-most Large = omega arith
+halves-most (Some Small) = omega arith
+halves-most (Some Medium) = omega arith
+halves-most (Some Large) = omega arith
+
+-- a canister has a size
+pub has-size : (c : Canister) → 0 < halves (Some c)
+unfolding halves
+has-size Small = omega arith
+has-size Medium = omega arith
+has-size Large = omega arith
 
 -- a at a held temperature
 base-at : (vp θ : ℕ) → vp ≤ vp_limit → a (vp /10^ 1) (degrees θ) ≈ᶠ exponent (base vp θ)
@@ -75,14 +83,14 @@ module _ (vp θ : ℕ) (v : vp ≤ vp_limit) {T : Fraction} (t : T ≈ᶠ degree
   base-is = ≈-trans (+-cong (≈-refl _) (*-cong (≈-refl _) t)) (base-at vp θ v)
 
   -- b·s = (0.115 − 0.00015·vp + 0.0001·T)·s as it is held
-  growth-is : (c : Canister) {z : Fraction} → z ≈ᶠ ratio (halves c) 2 halves-pos
+  growth-is : (c : Option Canister) {z : Fraction} → z ≈ᶠ ratio (halves c) 2 halves-pos
       → b (vp /10^ 1) T *ᶠ z ≈ᶠ rising (growth c vp θ)
   unfolding b growth
   growth-is c e =
       ≈-trans (*-cong (≈-trans (+-cong (≈-refl _) (*-cong (≈-refl _) t)) (slope-at vp θ v)) e) (halved _ (halves c))
 
 -- b·s ≤ 0.242
-pub growth-most : (c : Canister) (vp θ : ℕ) → θ ≤ 80 * 10 ^ 10 → growth c vp θ ≤ 22 * 2 ^ 41
+pub growth-most : (c : Option Canister) (vp θ : ℕ) → θ ≤ 80 * 10 ^ 10 → growth c vp θ ≤ 22 * 2 ^ 41
 unfolding growth
 growth-most c vp θ h =
     let g : 112 * 10 ^ 11 + θ - 15 * 10 ^ 8 * vp ≤ 12 * 10 ^ 12 = omega arith in
@@ -94,7 +102,7 @@ unfolding tenth_grams
 tenth_grams-within m = decimal-cut (2 ^ 40) m 1
 
 -- checks 20 and 25 at the highest temperature, carried to a lower one
-lower-exponent : (limit : ℕ) (c : Canister) (vp θ h m : ℕ) → vp ≤ vp_limit → θ ≤ h * 10 ^ 9
+lower-exponent : (limit : ℕ) (c : Option Canister) (vp θ h m : ℕ) → vp ≤ vp_limit → θ ≤ h * 10 ^ 9
     → (112000 + 10 * h - 15 * vp) * halves c * m + 130000 * h ≤ 259000000 + 20000000 * limit + 30000 * vp
     → 20 * base vp θ + growth c vp θ * m ≤ (320 + 20 * limit) * 10 ^ 14
 unfolding base growth

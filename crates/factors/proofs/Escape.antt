@@ -1,5 +1,6 @@
 -- The mean escape over the cells, with and without canister, of a rise of E(0.0716·T) that is known at each cell.
 -- Assumes nothing.
+use Rattle.std.proofs.Common.{Option, Some, None}
 use mathlib.Core.Bool.{Bool}
 use mathlib.Core.Path.{◌≡◌}
 use mathlib.Core.List.{List}
@@ -13,7 +14,6 @@ use Rattle.bounds.specs.Power.{degrees}
 use Rattle.numbers.proofs.Order.{≈-sym, ≈-trans, *-comm, ratio}
 use Rattle.bounds.proofs.Within.{widen, within-≈, *-within-rounded, all_map}
 use Rattle.exact.specs.declared.Canister.{Canister}
-use Rattle.exact.specs.declared.Canister.TheVariants.{None, Small, Medium, Large}
 use Rattle.exact.specs.declared.Season.{Season}
 use Rattle.exact.specs.declared.Row.{Row}
 use Rattle.exact.specs.Canister.{breakthrough, escape}
@@ -28,7 +28,7 @@ use Rattle.factors.proofs.Gain.{exact_gain, gain-within, gain-most}
 use Rattle.thresholds.specs.Thresholds.{first_kilometres}
 use Rattle.starting_loads.proofs.Start.{halves-pos}
 use Rattle.factors.proofs.Breakthrough.{breakthrough-cong}
-use Rattle.factors.proofs.Canister.{size_is, through_width, b-NonNegative, through-within}
+use Rattle.factors.proofs.Canister.{size_is, has-size, through_width, b-NonNegative, through-within}
 use Rattle.factors.proofs.Mean.{mean-cong, mean-*, mean-within, mean_units-most}
 
 module _ {season : Season} {row : Row} (s : SeasonInRange season) (r : RowInRange season row) where
@@ -77,7 +77,7 @@ module _ {season : Season} {row : Row} (s : SeasonInRange season) (r : RowInRang
           })
 
       -- the mean escape of the row's canister
-      pub escape-within : (c : Canister) → row.canister ≡ c → (W : ℕ)
+      pub escape-within : (c : Option Canister) → row.canister ≡ c → (W : ℕ)
           → (R * 2 ^ 28 * 313 + 36 * 2 ^ 40 * (w / 2 ^ 12 + 3) + (w / 2 ^ 12 + 3) * 313) / 2 ^ 40 + 2 ≤ W
           → ((by_mileage : Bool) → through_width by_mileage R w / 2 ^ 12 + 3 ≤ W)
           → WithinAll (2 ^ 28) (escape_units season row counts c mark rise) W
@@ -85,9 +85,5 @@ module _ {season : Season} {row : Row} (s : SeasonInRange season) (r : RowInRang
           (row_load n season row (T cell)) (T cell) c (y n cell)) counts)
       unfolding escape_units escape halves
       escape-within None e W o t = all_map (λ n a. widen a o) open-within
-      escape-within Small e W o t =
-          all_map (λ n a. widen a (t (leb first_kilometres row.mileage))) (through-mean (rw e (size_is Small)) (rw e (omega arith)))
-      escape-within Medium e W o t =
-          all_map (λ n a. widen a (t (leb first_kilometres row.mileage))) (through-mean (rw e (size_is Medium)) (rw e (omega arith)))
-      escape-within Large e W o t =
-          all_map (λ n a. widen a (t (leb first_kilometres row.mileage))) (through-mean (rw e (size_is Large)) (rw e (omega arith)))
+      escape-within (Some c) e W o t =
+          all_map (λ n a. widen a (t (leb first_kilometres row.mileage))) (through-mean (rw e (size_is (Some c))) (rw e (has-size c)))

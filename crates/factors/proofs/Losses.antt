@@ -1,5 +1,6 @@
 -- The means that the factors are made of: escape over a parking, escape over a raise of the temperature, and permeation.
 -- Assumes nothing.
+use Rattle.std.proofs.Common.{Option, Some, None}
 use mathlib.Core.Bool.{Bool, true, false}
 use mathlib.Core.Path.{refl}
 use mathlib.Core.List.{List}
@@ -14,7 +15,6 @@ use Rattle.numbers.proofs.Order.{≈-refl, ≈-sym, ≈-trans, *-cong, sub-cong,
 use Rattle.bounds.proofs.Laws.{E-cong}
 use Rattle.bounds.proofs.Within.{widen, weaken, within-≈, whole-within, scaled-within, all_map, all-constant}
 use Rattle.exact.specs.declared.Canister.{Canister}
-use Rattle.exact.specs.declared.Canister.TheVariants.{None, Small, Medium, Large}
 use Rattle.exact.specs.declared.Season.{Season}
 use Rattle.exact.specs.declared.Row.{Row}
 use Rattle.exact.specs.Day.{temperature}
@@ -135,7 +135,7 @@ module _ {season : Season} {row : Row} (s : SeasonInRange season) (r : RowInRang
 
   -- "without canister the vapour from T2 to T2 + 1 or T2 + 5", from the end of the parking
   pub opened-within : (amount : Fraction) (k : ℕ) → k ≤ 60 → ((i : ℕ) → temperature season i +ᶠ amount ≈ᶠ degrees (mark_warmth season i + tenths k))
-      → (c : Canister)
+      → (c : Option Canister)
       → WithinAll (2 ^ 28) (open_units season row counts c (tenths k)) open_error
       (λ n. mean (λ (cell : ℕ). open_vapour n season row c (temperature season (end_of cell)) amount) counts)
   unfolding open_units open_vapour
@@ -148,9 +148,7 @@ module _ {season : Season} {row : Row} (s : SeasonInRange season) (r : RowInRang
       (temperature season (end_of cell) +ᶠ amount))
       (λ cell. temperature-is (end_of cell) s) (raise-small end_of amount k h raised) (raise-known end_of amount k h raised)
       (raise-driven end_of amount k h raised))
-  opened-within amount k h raised Small = nothing counts
-  opened-within amount k h raised Medium = nothing counts
-  opened-within amount k h raised Large = nothing counts
+  opened-within amount k h raised (Some c) = nothing counts
 
   -- "permeation at T1 + 11", "permeation at T2 + 15", at most 15 °C above the mark that each cell names
   pub rate-mean : (mark : ℕ → ℕ) (amount : Fraction) (k : ℕ) → k ≤ 150

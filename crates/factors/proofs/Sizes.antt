@@ -1,5 +1,6 @@
 -- How large the computed values are, for every accepted season and row, so that nothing overflows.
 -- Assumes nothing.
+use Rattle.std.proofs.Common.{Option, Some, None}
 use mathlib.Core.Bool.{Bool, true, false}
 use mathlib.Core.List.{List}
 use Prim.Native.Nat.{ℕ, ◌+◌, ◌*◌, ◌^◌, ◌/◌, ◌≤◌, ◌<◌, min}
@@ -11,7 +12,6 @@ use Rattle.bounds.specs.Short.{short_exponent, short, line_exponent, reach}
 use Rattle.bounds.proofs.Laws.{short-within, E-to-3}
 use Rattle.bounds.proofs.ShortLine.{line-cut, held-most-0, held-most-3}
 use Rattle.exact.specs.declared.Canister.{Canister}
-use Rattle.exact.specs.declared.Canister.TheVariants.{None, Small, Medium, Large}
 use Rattle.exact.specs.declared.Season.{Season}
 use Rattle.exact.specs.declared.Row.{Row}
 use Rattle.exact.specs.Factors.{Factor, F1, F2, F3, F4, F5, F6, F7, end_hour, duration}
@@ -122,14 +122,12 @@ module _ {season : Season} {row : Row} (s : SeasonInRange season) (r : RowInRang
         (λ cell. omega (arith, through_units-most (mark cell) (rise cell), vapour_units-most (R * 2 ^ 40) (h cell)))
 
     -- the mean escape of a rise of at most R
-    escape-most : (R : ℕ) (mark rise : ℕ → ℕ) → ((cell : ℕ) → rise cell ≤ R * 2 ^ 40) → (c : Canister)
+    escape-most : (R : ℕ) (mark rise : ℕ → ℕ) → ((cell : ℕ) → rise cell ≤ R * 2 ^ 40) → (c : Option Canister)
         → escape_units season row counts c mark rise ≤ (36 * R + 21) * 2 ^ 28
     unfolding escape_units
     escape-most R mark rise h None =
         omega (arith, vapour_units-most (R * 2 ^ 28) (mean_units-most counts rise (R * 2 ^ 28) (λ cell. omega (arith, h cell))))
-    escape-most R mark rise h Small = through-most R mark rise h
-    escape-most R mark rise h Medium = through-most R mark rise h
-    escape-most R mark rise h Large = through-most R mark rise h
+    escape-most R mark rise h (Some c) = through-most R mark rise h
 
     -- factor 1
     diurnal-most : diurnal_units season row counts ≤ 2625 * 2 ^ 28
@@ -154,15 +152,13 @@ module _ {season : Season} {row : Row} (s : SeasonInRange season) (r : RowInRang
     rate-mean-most mark k h = mean_units-most counts _ (2 ^ 28) (λ cell. omega (arith, raised-rate-most k (mark cell) h))
 
     -- the mean vapour over a raise, without canister
-    open-most : (k : ℕ) → k ≤ 60 → (c : Canister) → open_units season row counts c (tenths k) ≤ 2016 * 2 ^ 28
+    open-most : (k : ℕ) → k ≤ 60 → (c : Option Canister) → open_units season row counts c (tenths k) ≤ 2016 * 2 ^ 28
     unfolding open_units
     open-most k h None =
         vapour_units-most (56 * 2 ^ 28)
         (mean_units-most counts (λ (cell : ℕ). raise (tenths k) (mark_warmth season (end_of cell))) (56 * 2 ^ 28)
         (λ cell. omega (arith, raise-rise-most k (end_of cell) h)))
-    open-most k h Small = omega arith
-    open-most k h Medium = omega arith
-    open-most k h Large = omega arith
+    open-most k h (Some c) = omega arith
 
     -- factor 2 of a car
     soak-most : soak_units season row counts ≤ 2 ^ 28

@@ -1,6 +1,6 @@
 -- Need not be believed: the computed breakthrough of a canister, that is which whole numbers it is made of.
 -- Loads and vapour are in units of 2⁻⁴⁰ g, a and 2·b·s in units of 10⁻¹⁴, a above −16; the exponents made of them as bounds holds them.
-use Rattle.std.specs.Prelude.{ℕ, ◌+◌, ◌*◌, ◌-◌, ◌/◌, ◌^◌, min}
+use Rattle.std.specs.Prelude.{Option, ℕ, ◌+◌, ◌*◌, ◌-◌, ◌/◌, ◌^◌, min}
 use Rattle.bounds.specs.Short.{short, line_exponent, reach}
 use Rattle.exact.specs.declared.Canister.{Canister}
 use Rattle.sheet.specs.Range.{halves}
@@ -14,7 +14,7 @@ unfoldable pub base : ℕ → ℕ → ℕ
 base vp θ = 305 * 10 ^ 12 + 650 * θ - 15 * 10 ^ 10 * vp
 
 -- 2·b·s·10¹⁴
-unfoldable pub growth : Canister → ℕ → ℕ → ℕ
+unfoldable pub growth : Option Canister → ℕ → ℕ → ℕ
 growth c vp θ = (112 * 10 ^ 11 + θ - 15 * 10 ^ 8 * vp) * halves c
 
 -- B(m1), from below, for a = A, 2·b·s = K and a load of at most m_sat: E(a + b·s·m1) by the short exponential, which is in units of 2⁻³⁶

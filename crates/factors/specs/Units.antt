@@ -1,10 +1,9 @@
 -- Need not be believed: the computed factors, that is which whole numbers they are, in units of 2⁻²⁸ g and in micrograms.
-use Rattle.std.specs.Prelude.{true, false, List, ℕ, ◌+◌, ◌*◌, ◌-◌, ◌/◌, ◌^◌, leb}
+use Rattle.std.specs.Prelude.{true, false, Option, Some, None, List, ℕ, ◌+◌, ◌*◌, ◌-◌, ◌/◌, ◌^◌, leb}
 use Rattle.bounds.specs.Exponential.{exponential}
 use Rattle.bounds.specs.Short.{binary}
 use Rattle.thresholds.specs.Thresholds.{first_kilometres}
 use Rattle.exact.specs.declared.Canister.{Canister}
-use Rattle.exact.specs.declared.Canister.TheVariants.{None, Small, Medium, Large}
 use Rattle.exact.specs.declared.Season.{Season}
 use Rattle.exact.specs.declared.Row.{Row}
 use Rattle.exact.specs.Day.{start_mark}
@@ -71,22 +70,18 @@ module _ (season : Season) (row : Row) where
   module _ (counts : List ℕ) where
     -- the mean escape of a rise that each cell has, from the mark that each cell names: without canister the rise is
     -- averaged first, since vapour grows with it evenly
-    unfoldable pub escape_units : Canister → (ℕ → ℕ) → (ℕ → ℕ) → ℕ
+    unfoldable pub escape_units : Option Canister → (ℕ → ℕ) → (ℕ → ℕ) → ℕ
     escape_units None mark rise = vapour_units (mean_units counts rise)
-    escape_units Small mark rise = mean_units counts (λ (cell : ℕ). through_units (mark cell) (rise cell))
-    escape_units Medium mark rise = mean_units counts (λ (cell : ℕ). through_units (mark cell) (rise cell))
-    escape_units Large mark rise = mean_units counts (λ (cell : ℕ). through_units (mark cell) (rise cell))
+    escape_units (Some c) mark rise = mean_units counts (λ (cell : ℕ). through_units (mark cell) (rise cell))
 
     -- escape from the temperature of the named mark to r above it
     unfoldable pub escape_over_units : (ℕ → ℕ) → ℕ → ℕ
     escape_over_units mark r = escape_units row.canister mark (λ (cell : ℕ). raise r (mark_warmth season (mark cell)))
 
     -- the same without canister only
-    unfoldable pub open_units : Canister → ℕ → ℕ
+    unfoldable pub open_units : Option Canister → ℕ → ℕ
     open_units None r = vapour_units (mean_units counts (λ (cell : ℕ). raise r (mark_warmth season (end_of cell))))
-    open_units Small r = 0
-    open_units Medium r = 0
-    open_units Large r = 0
+    open_units (Some c) r = 0
 
     unfoldable pub diurnal_units : ℕ
     diurnal_units =

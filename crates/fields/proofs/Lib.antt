@@ -1,2 +1,1 @@
-pub mod AcceptedFleet
 pub mod ClassTable

@@ -1,5 +1,5 @@
 // The class and technology table of document 01, what a row leaves to its class, and the sizes of canisters.
-ghost use Rattle.std.specs.Prelude.{◌≡◌, ◌≤◌, [], ◌∷◌, slice_get, MatchOption};
+ghost use Rattle.std.specs.Prelude.{Option, Some, None, ◌≡◌, ◌≤◌, [], ◌∷◌, slice_get, MatchOption};
 ghost use Rattle.exact.specs.Classes.{absent, fitted_with, equipment};
 ghost use Rattle.sheet.specs.Bytes.{fitted_canister, fitted_tank, canister_of, tank_of};
 ghost use Rattle.sheet.specs.Range.{halves};
@@ -14,40 +14,40 @@ pub const BY_CLASS: u64 = 255;
 
 // Document 01 asks for "match on class and technology numbers with ranges", which is why these are numbers and no enums.
 
-// Classes 1 to 4: the one canister from technology 1 on, the other from 3 on.
-fn one_then_other(one: Canister, other: Canister, technology: u64) -> Option<Canister>
-    ensures { result ≡ slice_get (Canister.None ∷ one ∷ one ∷ other ∷ other ∷ other ∷ []) technology }
+// Classes 1 to 4: no canister, the one from technology 1 on, the other from 3 on; and none of these beyond the table.
+fn one_then_other(one: Canister, other: Canister, technology: u64) -> Option<Option<Canister>>
+    ensures { result ≡ slice_get (None ∷ Some one ∷ Some one ∷ Some other ∷ Some other ∷ Some other ∷ []) technology }
 {
     match technology {
-        0 => Some(Canister::None),
-        1..=2 => Some(one),
-        3..=5 => Some(other),
+        0 => Some(None),
+        1..=2 => Some(Some(one)),
+        3..=5 => Some(Some(other)),
         _ => None,
     }
 }
 
 // Classes 5 to 8.
-fn without(technology: u64) -> Option<Canister>
-    ensures { result ≡ slice_get (Canister.None ∷ Canister.None ∷ Canister.None ∷ Canister.None ∷ []) technology }
+fn without(technology: u64) -> Option<Option<Canister>>
+    ensures { result ≡ slice_get (None ∷ None ∷ None ∷ None ∷ []) technology }
 {
     match technology {
-        0..=3 => Some(Canister::None),
+        0..=3 => Some(None),
         _ => None,
     }
 }
 
 // Class 9.
-fn always_small(technology: u64) -> Option<Canister>
-    ensures { result ≡ slice_get (Canister.Small ∷ Canister.Small ∷ Canister.Small ∷ []) technology }
+fn always_small(technology: u64) -> Option<Option<Canister>>
+    ensures { result ≡ slice_get (Some Canister.Small ∷ Some Canister.Small ∷ Some Canister.Small ∷ []) technology }
 {
     match technology {
-        0..=2 => Some(Canister::Small),
+        0..=2 => Some(Some(Canister::Small)),
         _ => None,
     }
 }
 
 // A canister with a tank in tenths of a litre.
-fn with_tank(tank: u64, canister: Option<Canister>) -> Option<Fitted>
+fn with_tank(tank: u64, canister: Option<Option<Canister>>) -> Option<Fitted>
     ensures { MatchOption canister (result ≡ absent) (λ c. result ≡ fitted_with c tank) }
 {
     canister.map(|canister| Fitted { canister, tank })
@@ -85,10 +85,10 @@ pub fn equipment_of(class: u64, technology: u64) -> Option<Fitted>
 
 // The canister that a class and technology are fitted with.
 #[tactic(auto, unfolding(sheet::specs::Bytes::fitted_canister))]
-fn fitted_canister(equipment: Option<Fitted>) -> Canister
+fn fitted_canister(equipment: Option<Fitted>) -> Option<Canister>
     ensures { result ≡ fitted_canister equipment }
 {
-    equipment.map_or(Canister::None, |fitted| fitted.canister)
+    equipment.and_then(|fitted| fitted.canister)
 }
 
 // The tank that they are fitted with, in tenths of a litre.
@@ -102,15 +102,15 @@ fn fitted_tank(equipment: Option<Fitted>) -> u64
 // What a row's canister code stands for; 255 leaves it to the class. An enum of the codes would be no plainer: it would live for this
 // one match, and a row that is not yet checked may have a code that is none of them.
 #[tactic(auto, unfolding(sheet::specs::Bytes::canister_of, sheet::specs::Bytes::written_canister))]
-pub fn canister_of(code: u64, equipment: Option<Fitted>) -> Canister
+pub fn canister_of(code: u64, equipment: Option<Fitted>) -> Option<Canister>
     ensures { result ≡ canister_of code equipment }
 {
     match code {
-        1 => Canister::Small,
-        2 => Canister::Medium,
-        3 => Canister::Large,
+        1 => Some(Canister::Small),
+        2 => Some(Canister::Medium),
+        3 => Some(Canister::Large),
         255 => fitted_canister(equipment),
-        _ => Canister::None,
+        _ => None,
     }
 }
 
@@ -125,23 +125,23 @@ pub fn tank_of(tenths: u64, equipment: Option<Fitted>) -> u64
     }
 }
 
-// The size s of a canister in halves: 2, 1 and 1/2 for small, medium and large.
+// The size s of a canister in halves: 2, 1 and 1/2 for small, medium and large, and 0 without one.
 #[tactic(auto, unfolding(sheet::specs::Range::halves))]
-pub fn halves(canister: Canister) -> u64
+pub fn halves(canister: Option<Canister>) -> u64
     ensures { (result ≡ halves canister) × (result ≤ 4) }
 {
     match canister {
-        Canister::None => 0,
-        Canister::Small => 4,
-        Canister::Medium => 2,
-        Canister::Large => 1,
+        None => 0,
+        Some(Canister::Small) => 4,
+        Some(Canister::Medium) => 2,
+        Some(Canister::Large) => 1,
     }
 }
 
 // No canister counts for the row.
 #[tactic(auto, unfolding(sheet::specs::Sheet::no_canister))]
-pub fn no_canister(canister: Canister) -> bool
+pub fn no_canister(canister: Option<Canister>) -> bool
     ensures { result ≡ no_canister canister }
 {
-    matches!(canister, Canister::None)
+    canister.is_none()
 }

@@ -10,9 +10,6 @@ ghost use Rattle.sheet.specs.Versions.{version_of, has_grid, has_mileage, has_ma
 ghost use Rattle.sheet.specs.Bytes.{seasons_of, rows_of, counts_at, duration_counts, hour_counts, grid_counts};
 ghost use Rattle.sheet.specs.Bytes.{season_place, row_place, season_from, season_at, row_at};
 ghost use Rattle.sheet.specs.Range.{warmth};
-ghost use Rattle.refusals.specs.Check.{Pass};
-ghost use Rattle.sheet.specs.Sheet.{sheet_check};
-ghost use Rattle.sheet.specs.RunningSums.{vehicles_before};
 ghost use Rattle.exact.specs.Factors.{total};
 ghost use Rattle.fields.specs.Version.{first_version};
 
@@ -283,17 +280,4 @@ pub fn vehicles_of(s: &[u8], i: usize) -> u64
     ensures { (result ≡ (row_at s.now i).vehicles) × (result < 2 ^ 32) }
 {
     u32_at(s, row_place(s, i) + 8)
-}
-
-// The vehicles of all rows.
-#[tactic(auto, using(crate::proofs::AcceptedFleet::fleet))]
-pub fn fleet_of(s: &[u8]) -> u64
-    requires { sheet_check s.now ≡ Pass }
-    ensures { (result ≡ vehicles_before s.now (rows_of s.now)) × (result ≤ 320000000) }
-{
-    let mut fleet: u64 = 0;
-    for i in 0..rows_of(s) {
-        fleet += vehicles_of(s, i);
-    }
-    fleet
 }

@@ -42,7 +42,7 @@ impl RowBytes<'_> {
     }
 
     // The canister that counts.
-    fn canister(self) -> Canister
+    fn canister(self) -> Option<Canister>
         ensures { result ≡ canister_of (u8_at self.entry.sheet.now (self.entry.start + 2)) (equipment_at self.entry.sheet.now self.entry.start) }
     {
         canister_of(self.code(), self.equipment())

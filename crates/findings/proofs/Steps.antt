@@ -1,33 +1,26 @@
--- Lines one after another, as `?` makes them: one that is found is the answer, and one that is not hands on.
+-- Lines one after another, as `?` makes them: what is said of checks, and lines that find nothing.
 -- Assumes nothing.
 use Prim.Native.Nat.{ℕ, suc, zero, ◌+◌, ◌*◌, ◌-◌, ◌/◌, ◌≤◌, ◌<◌}
 use mathlib.Core.Bool.{Bool, true, false}
 use mathlib.Core.Path.{◌≡◌, refl}
-use native.Mathlib.Decide.{dec_le}
-use native.Mathlib.Numerals.{add-one}
 use native.Mathlib.Omega.{arith}
 use borrow.Author.Tests.{le-ltb}
 use Rattle.std.proofs.Common.{Ok, Err}
+use Rattle.refusals.specs.Check.{◌then◌, each}
+use Rattle.refusals.proofs.Chain.{each_stops}
+pub use Rattle.refusals.proofs.Chain.{stops, hands_on, each_none, each_more}
 use Rattle.sheet.specs.Sheet.{outside}
+use Rattle.findings.specs.declared.Finding.{Finding}
 use Rattle.findings.specs.declared.Site.{Site}
 use Rattle.findings.specs.declared.reasons.Reason.{Reason}
 use Rattle.findings.specs.declared.Field.{Field}
 use Rattle.findings.specs.declared.Limits.{Limits}
-use Rattle.findings.specs.declared.Found.{Found}
 use Rattle.findings.specs.Canisters.{largest_for}
-use Rattle.findings.specs.Lines.{Judged, none_found, field, limits, chosen, line, ◌or_else◌, each_finding}
-
-pub stops : (f g : Judged) (x : Found) → f ≡ Err x → (f or_else g) ≡ Err x
-unfolding ◌or_else◌
-stops f g x h = rw h refl
-
-pub hands_on : (f g : Judged) → f ≡ none_found → (f or_else g) ≡ g
-unfolding ◌or_else◌
-hands_on f g h = rw h refl
+use Rattle.findings.specs.Lines.{nothing, Judged, none_found, finding_in, field, limits, chosen, line, ◌or_else◌, each_finding}
 
 -- lines behind which nothing is found
 pub ends : (f g : Judged) → g ≡ none_found → (f or_else g) ≡ f
-unfolding ◌or_else◌
+unfolding ◌then◌
 ends (Ok _) g h = h
 ends (Err _) g h = refl
 
@@ -40,27 +33,6 @@ pub at_most : (a : Bool) (w : Site) (r : Reason) (p n v most : ℕ) → v ≤ mo
 unfolding line chosen outside
 at_most true w r p n v most h = rw (le-ltb v 0 (omega arith), le-ltb most v h) refl
 at_most false w r p n v most h = refl
-
--- Records one after another, as a `for` with `?` goes through them.
-
--- once a record has a finding, it is the answer for every larger number of records
-pub each_stops : (find : ℕ → Judged) (i n : ℕ) (x : Found) → each_finding find i ≡ none_found → i < n → find i ≡ Err x → each_finding find n ≡ Err x
-unfolding each_finding ◌or_else◌
-each_stops find i zero x h l e = absurd (omega arith)
-each_stops find i (suc n) x h l e =
-    elim (dec_le n i) [
-      | yes k ↦ let q : n ≡ i = omega arith in rw (q, h, e) refl
-      | no k ↦ rw (each_stops find i n x h (omega arith) e) refl
-    ]
-
--- nothing is found in no record, and in one record more where it has no finding
-pub each_none : (find : ℕ → Judged) → each_finding find 0 ≡ none_found
-unfolding each_finding
-each_none find = refl
-
-pub each_more : (find : ℕ → Judged) (i : ℕ) → each_finding find i ≡ none_found → find i ≡ none_found → each_finding find (i + 1) ≡ none_found
-unfolding each_finding ◌or_else◌
-each_more find i h e = rw (add-one, h, e) refl
 
 -- One of two, by a test.
 
@@ -76,6 +48,31 @@ pub ruleset by_choice = (takes_first, takes_second)
 
 -- for `using` on a function that goes through lines
 pub ruleset in_order = (stops, hands_on, ends, skipped, at_most, each_stops, each_none, each_more)
+
+-- What holds of the finding.
+pub record Finds (P : Finding → Type 0) (f : Judged) : Type 0 where
+  pub is : P (finding_in f)
+
+-- what holds of the finding of each line holds of the one that is chosen, and of the first
+module _ {P : Finding → Type 0} where
+  pub one_of : (b : Bool) {f g : Judged} → Finds P f → Finds P g → Finds P (chosen b f g)
+  unfolding chosen
+  one_of true p q = p
+  one_of false p q = q
+
+  first_of : (f : Judged) {g : Judged} → Finds P f → Finds P g → Finds P (f or_else g)
+  unfolding ◌then◌
+  first_of (Ok _) p q = q
+  first_of (Err _) p q = p
+
+  infixr 5 ◌or◌
+  pub ◌or◌ : {f g : Judged} → Finds P f → Finds P g → Finds P (f or_else g)
+  ◌or◌ {f = f} p q = first_of f p q
+
+  pub first_of_all : P nothing → (find : ℕ → Judged) → ((i : ℕ) → Finds P (find i)) → (n : ℕ) → Finds P (each_finding find n)
+  unfolding each
+  first_of_all none find h zero = record { is = none }
+  first_of_all none find h (suc n) = first_of_all none find h n or h n
 
 -- The largest m_sat of a season with a canister.
 pub largest-for : (limit vp h k : ℕ) → 0 < k

@@ -7,7 +7,8 @@ use crate::reasons::Reason;
 pub mod reasons;
 pub mod spans;
 
-// The first thing that is wrong, or all zeros.
+// The first thing that is wrong, or all zeros. `evp_explain` returns it to C by value, so it is ten numbers; in Rattle a finding is the
+// error of a `Result` until then.
 #[repr(C)]
 #[derive(Clone, Copy, Default, PartialEq, Eq, Debug)]
 pub struct Finding {

@@ -1,36 +1,51 @@
 -- Numbers 22 and 23 of document 01 as demands in plain arithmetic, after those of the sheet: each call answers where all are met, and
 -- else returns the first that is not met, with its place.
 -- Assumes nothing.
-use Rattle.std.proofs.Common.{Ok, Err}
-use mathlib.Core.Bool.{Bool, true, false}
+use Rattle.std.proofs.Common.{Err, get_or, Fits, w8}
+use mathlib.Core.Bool.{true, false, ◌||◌}
 use mathlib.Core.List.{List}
-use mathlib.Core.Logic.{⊎_elim}
 use mathlib.Core.Path.{◌≡◌, refl}
 use Prim.Native.Nat.{ℕ, ◌≤◌, ◌<◌}
 use native.Mathlib.Omega.{arith}
-use borrow.Author.Tests.{leb-true, leb-false}
+use borrow.Author.Tests.{leb-true, leb-false, lt-leb}
 use lib.Dec.{leb}
-use Rattle.refusals.specs.Check.{Check, Pass, Refused, refuse, number_of, place_of}
+use Rattle.std.proofs.Math.Bool.{or-true}
+use Rattle.refusals.specs.declared.Refusal.{Refusal}
+use Rattle.refusals.specs.declared.Rule.TheVariants as rule
+use Rattle.refusals.specs.Check.{Pass, refuse, ◌then◌, number_of, place_of}
 use Rattle.sheet.specs.Bytes.{seasons_of, rows_of}
 use Rattle.sheet.specs.Sheet.{outside, sheet_check}
 use Rattle.sheet.proofs.Checks.{Tests, Judges, judges-refuse, judges-then, ltb-tests, ||-tests, then-pass, says}
 use Rattle.sheet.proofs.Conditions.{sheet-judged}
-use Rattle.sheet.specs.Demands.{demand, ◌next◌, FirstUnmet, Says, demands}
-use Rattle.sheet.proofs.Accepted.{Accepted, accepted}
-use Rattle.inventory.specs.FactorAnswers.{factor_check}
+use Rattle.sheet.specs.Demands.{demand, ◌next◌, Says, demands}
+use Rattle.sheet.proofs.Accepted.{Bytes, Accepted, accepted}
+use Rattle.inventory.specs.FactorAnswers.{absent, factor_check}
 use Rattle.inventory.specs.FactorBand.{factor_demands}
 use Rattle.report_words.specs.Categories.{report_length}
 use Rattle.inventory.specs.ReportCall.{report_demands}
-use Rattle.inventory.specs.ReportAnswers.{report_check}
+use Rattle.inventory.specs.ReportAnswers.{room_check, report_check}
+
+-- what a slice of bytes holds
+pub bytes-of : {s : List ℕ} → ((k : ℕ) → Fits w8 (get_or s k 0)) → Bytes s
+bytes-of fits = record { byte = λ k. (fits k).fits }
 
 -- the test x ≤ y demands y < x
 leb-tests : (x y : ℕ) → Tests (leb x y) (y < x)
 leb-tests x y = record { holds = leb-false x y; fails = λ t l. omega (arith, leb-true x y t) }
 
--- Call | 22 report buffer short | 0
+-- Call | 22 report buffer short | 0, for a call that stores so many words
+pub room-judged : (needed : List ℕ → ℕ) (s : List ℕ) (room : ℕ)
+    → Judges (room_check needed s room) (demands s next demand rule.Room 0 (needed s ≤ room))
+room-judged needed s room = judges-then (sheet-judged s) (judges-refuse (ltb-tests room (needed s)))
+
+-- so the sheet is accepted, and the buffer has room
+pub room-passed : (needed : List ℕ → ℕ) (s : List ℕ) (room : ℕ) → room_check needed s room ≡ Pass → (sheet_check s ≡ Pass) × (needed s ≤ room)
+room-passed needed s room h = ((then-pass _ _ h).0, ((room-judged needed s room).passes h).1)
+
+-- of the report call
 pub report-judged : (s : List ℕ) (room : ℕ) → Judges (report_check s room) (report_demands s room)
 unfolding report_check
-report-judged s room = judges-then (sheet-judged s) (judges-refuse (ltb-tests room (report_length s)))
+report-judged = room-judged report_length
 
 -- Call | 23 season, row or factor absent | 0: "one factor, 1 to 7, of a season and row (counted from 0)"
 pub factor-judged : (s : List ℕ) (season row k : ℕ) → Judges (factor_check s season row k) (factor_demands s season row k)
@@ -51,7 +66,7 @@ factor-says s season row k = says (factor_check s season row k) (factor-judged s
 -- the sheet is accepted, and the buffer has room
 pub report-accepted : (s : List ℕ) (room : ℕ) → report_check s room ≡ Pass → Accepted s × (report_length s ≤ room)
 unfolding report_check
-report-accepted s room h = (accepted s (then-pass _ _ h).0, ((report-judged s room).passes h).1)
+report-accepted s room h = let (passed, fits) = room-passed report_length s room h in (accepted s passed, fits)
 
 -- the sheet is accepted, and it has the season and the row
 pub factor-accepted : (s : List ℕ) (season row k : ℕ) → factor_check s season row k ≡ Pass
@@ -61,6 +76,30 @@ factor-accepted s season row k h =
     let ((season-there, row-there), (least, most)) = ((factor-judged s season row k).passes h).1 in
     (accepted s (then-pass _ _ h).0, season-there, row-there, least, most)
 
+-- Where the factor call refuses, whichever of the factors is asked for.
+
+-- the sheet is refused
+pub sheet-refused : (s : List ℕ) (season row k : ℕ) (r : Refusal) → sheet_check s ≡ Err r → factor_check s season row k ≡ Err r
+unfolding factor_check ◌then◌
+sheet-refused s season row k r h = rw h refl
+
+-- the season or the row is not there
+pub row-absent : (s : List ℕ) (season row k : ℕ) → sheet_check s ≡ Pass → (leb (seasons_of s) season || leb (rows_of s) row) ≡ true
+    → factor_check s season row k ≡ Err absent
+unfolding factor_check refuse ◌then◌
+row-absent s season row k h b = rw (h, b) refl
+
+-- the factor is not there
+pub factor-absent : (s : List ℕ) (season row k : ℕ) → sheet_check s ≡ Pass → outside 1 7 k ≡ true → factor_check s season row k ≡ Err absent
+unfolding factor_check refuse ◌then◌
+factor-absent s season row k h b = rw (h, b, or-true) refl
+
+-- and where it does not
+pub factor-there : (s : List ℕ) (season row k : ℕ) → sheet_check s ≡ Pass → season < seasons_of s → row < rows_of s → outside 1 7 k ≡ false
+    → factor_check s season row k ≡ Pass
+unfolding factor_check refuse ◌then◌
+factor-there s season row k h there here b = rw (h, lt-leb (seasons_of s) season there, lt-leb (rows_of s) row here, b) refl
+
 -- every check of the sheet comes first
 pub factor-sheet : (s : List ℕ) (season row k : ℕ) → factor_check s season row k ≡ Pass → sheet_check s ≡ Pass
 unfolding factor_check
@@ -68,4 +107,7 @@ factor-sheet s season row k h = (then-pass _ _ h).0
 
 pub report-sheet : (s : List ℕ) (room : ℕ) → report_check s room ≡ Pass → sheet_check s ≡ Pass
 unfolding report_check
-report-sheet s room h = (then-pass _ _ h).0
+report-sheet s room h = (room-passed report_length s room h).0
+
+-- for `using` on the function that asks for a row
+pub ruleset asking = (sheet-refused, row-absent)

@@ -7,7 +7,7 @@ use mathlib.Core.Path.{◌≡◌, refl}
 use Prim.Native.Nat.{ℕ, suc, zero, ◌+◌, ◌≤◌, ◌<◌}
 use native.Mathlib.Omega.{arith}
 use Rattle.numbers.proofs.Lists.{tab-ext}
-use Rattle.refusals.specs.Check.{Check, Pass, Refused}
+use Rattle.refusals.specs.Check.{Check}
 use Rattle.sheet.specs.Bytes.{seasons_of, rows_of}
 use Rattle.sheet.proofs.Alike.{Alike}
 use Rattle.inventory.specs.FactorAnswers.{factor_check, units_at, factor_answered, factor_answer}

@@ -7,16 +7,17 @@ use Prim.Native.Nat.{ℕ}
 use native.Mathlib.Omega.{arith}
 use Rattle.factors.specs.Units.{low_micrograms, high_micrograms}
 use Rattle.factors.proofs.FactorBound.{high-near-low}
-use Rattle.refusals.specs.Check.{Check, Pass, Refused, number_of, place_of}
+use Rattle.refusals.specs.Check.{Check, Pass, number_of, place_of}
 use Rattle.sheet.specs.Demands.{Says}
 use Rattle.sheet.proofs.Accepted.{Bytes}
 use Rattle.refusals.specs.declared.Refusal.{Refusal}
-use Rattle.inventory.specs.FactorAnswers.{factor_check, units_at, factor_answered, factor_answer}
+use Rattle.inventory.specs.FactorAnswers.{band, factor_check, units_at, factor_answered, factor_answer}
+use Rattle.inventory.specs.declared.Band.{Band}
 use Rattle.inventory.specs.FactorBand.{numbered, FactorBand}
 use Rattle.inventory.specs.FactorBand.{FactorAnswer, answer_low, answer_high, factor_demands}
 use Rattle.inventory.specs.FactorCall.{FactorCall}
 use Rattle.sheet_factors.proofs.AcceptedRange.{enclosed}
-use Rattle.inventory.proofs.CallConditions.{factor-accepted, factor-judged, factor-says}
+use Rattle.inventory.proofs.CallConditions.{factor-accepted, factor-says}
 use Rattle.refusals.proofs.Numbers.{zero-passes}
 
 module _ (s : List ℕ) (season row k : ℕ) (bytes : Bytes s) where
@@ -54,11 +55,9 @@ module _ (s : List ℕ) (season row k : ℕ) (bytes : Bytes s) where
   unfolding factor_answer factor_answered
   refusal_is h = rw h
 
-  pub band-is : {low high units : ℕ} → factor_check s season row k ≡ Pass → units ≡ units_at s season row k
-      → low ≡ low_micrograms units → high ≡ high_micrograms units
-      → Ok (record { low = low; high = high }) ≡ factor_answer s season row k
+  pub band-is : {b : Band} → factor_check s season row k ≡ Pass → b ≡ band (units_at s season row k) → Ok b ≡ factor_answer s season row k
   unfolding factor_answer factor_answered
-  band-is h u l g = rw (h, l, g, u)
+  band-is h b = rw (h, b)
 
   -- and an outcome that is the answer is what is promised
   pub promised : {r : FactorAnswer} → r ≡ factor_answer s season row k → FactorCall s season row k r

@@ -1,7 +1,9 @@
 pub mod CallConditions
+pub mod Numbered
 pub mod CallsAlike
 pub mod SameGrid
 pub mod SameRow
 pub mod FactorPromise
 pub mod Written
 pub mod ReportPromise
+pub mod Bands

@@ -17,7 +17,7 @@ use Rattle.report_words.proofs.ReportPlaces.{report-length}
 use Rattle.report_words.proofs.Promised.{promise}
 use Rattle.inventory.specs.ReportCall.{written, ReportCall}
 use Rattle.inventory.specs.ReportAnswers.{report_check}
-use Rattle.inventory.proofs.CallConditions.{report-judged, report-says}
+use Rattle.inventory.proofs.CallConditions.{report-says}
 use Rattle.refusals.proofs.Numbers.{zero-passes}
 use Rattle.inventory.proofs.Written.{written-first}
 

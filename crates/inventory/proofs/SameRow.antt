@@ -6,7 +6,7 @@ use mathlib.Core.Path.{◌≡◌, refl, sym, ◌∙◌}
 use Prim.Native.Nat.{ℕ, ◌+◌, ◌*◌, ◌<◌}
 use lib.ListN.{get_or}
 use borrow.Author.Tests.{lt-leb}
-use Rattle.refusals.specs.Check.{Check, Pass, Refused}
+use Rattle.refusals.specs.Check.{Check, Pass}
 use Rattle.sheet.specs.Bytes.{seasons_of, rows_of}
 use Rattle.sheet.specs.Sheet.{sheet_check}
 use Rattle.sheet.specs.NextVersion.{SameRow}

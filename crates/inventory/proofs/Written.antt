@@ -7,7 +7,7 @@ use native.Mathlib.Nat.{le_dest}
 use native.Mathlib.Omega.{arith}
 use lib.ListN.{length, get_or, drop, length-append, length-drop, get_or-append}
 use lib.Seq.{get_or-append-add, get_or-drop}
-use Rattle.refusals.specs.Check.{Check, Pass, Refused}
+use Rattle.refusals.specs.Check.{Check, Pass}
 use Rattle.inventory.specs.ReportCall.{written}
 
 -- the first words of an accepted call are the report's

@@ -1,6 +1,6 @@
 -- What a sheet and the same with a class's canister or tank written out have in common: "A canister or tank taken from the class counts
 -- exactly as the same value written on the row". Definitions only.
-use Rattle.std.specs.Prelude.{List, ◌≡◌, ℕ}
+use Rattle.std.specs.Prelude.{Option, List, ◌≡◌, ℕ}
 use Rattle.exact.specs.declared.Canister.{Canister}
 use Rattle.exact.specs.Classes.{fitted_with}
 use Rattle.refusals.specs.Check.{Pass}
@@ -17,5 +17,5 @@ pub record SameByClass (s t : List ℕ) : Type 0 where
 
 -- so it is for every s, and every t that is s with the canister or the tank, or both, of row i written as its class has them
 abbrev pub ClassTheorem : Type 0
-ClassTheorem = (s t : List ℕ) (i : ℕ) (c : Canister) (tank : ℕ) → equipment_at s (row_place s i) ≡ fitted_with c tank
+ClassTheorem = (s t : List ℕ) (i : ℕ) (c : Option Canister) (tank : ℕ) → equipment_at s (row_place s i) ≡ fitted_with c tank
     → Written s t (row_place s i) c tank → SameByClass s t

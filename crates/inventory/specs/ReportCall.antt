@@ -1,7 +1,7 @@
 -- What the report call answers and what it leaves in the buffer. Definitions only.
 use Rattle.std.specs.Prelude.{List, ◌++◌, ◌≡◌, ℕ, ◌≤◌, length, drop, Ok, Err}
 use Rattle.refusals.specs.declared.Rule.TheVariants as rule
-use Rattle.refusals.specs.Check.{Check, Pass, Refused, number_of, place_of}
+use Rattle.refusals.specs.Check.{Check, number_of, place_of}
 use Rattle.sheet.specs.Demands.{Demands, demand, ◌next◌, Says, demands}
 use Rattle.report_words.specs.Report.{report}
 use Rattle.report_words.specs.Categories.{report_length}

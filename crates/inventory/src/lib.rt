@@ -1,18 +1,20 @@
 // The two calls of the inventory: one emission factor, and the report.
 #![tactic(auto)]
 
-ghost use Rattle.std.specs.Prelude.{◌≡◌, ◌^◌, ◌<◌};
-ghost use Rattle.refusals.specs.Check.{Pass};
+ghost use Rattle.std.specs.Prelude.{◌≡◌, ◌<◌, map};
+ghost use Rattle.numbers.specs.Lists.{at};
+ghost use Rattle.inventory.specs.FactorAnswers.{band};
 ghost use Rattle.inventory.specs.FactorCall.{FactorCall};
-ghost use Rattle.inventory.specs.FactorAnswers.{factor_check, units_at};
 ghost use Rattle.inventory.specs.ReportCall.{ReportCall};
 
-use crate::check::{factor_check, report_check};
+use crate::asked::{AskedRow, Factor};
+use crate::check::{report_length, sheet_with_room};
 use crate::writing::write_report;
 use refusals::{Check, Refusal};
-use row_factors::micrograms::{high_micrograms, low_micrograms};
-use sheet_factors::factors_at::factors_at;
+use row_factors::units::Units;
+use std::array;
 
+pub mod asked;
 pub mod check;
 pub mod writing;
 
@@ -23,13 +25,24 @@ pub struct Band {
     pub high: u64,
 }
 
-// Factor k of a season and a row, in units of 2^-28 g.
-fn units_at(s: &[u8], season: usize, row: usize, k: usize) -> u64
-    requires { factor_check s.now season row k ≡ Pass }
-    ensures { (result ≡ units_at s.now season row k) × (result < 2 ^ 44) }
-{
-    let units = factors_at(s, season, row);
-    units[k - 1]
+impl Band {
+    // Of the factor at a place of the seven.
+    fn of(units: &Units, place: usize) -> Band
+        requires { place < 7 }
+        ensures { result ≡ band (at units.now.factors place) }
+    {
+        Band {
+            low: units.low(place),
+            high: units.high(place),
+        }
+    }
+
+    // Of each of the seven.
+    pub fn of_each(units: &Units) -> [Band; 7]
+        ensures { result ≡ map band units.now.factors }
+    {
+        array::from_fn(|place| Band::of(units, place))
+    }
 }
 
 // One factor, 1 to 7, of a season and a row, counted from 0, in micrograms. Document 01 leaves low and high open within
@@ -37,12 +50,9 @@ fn units_at(s: &[u8], season: usize, row: usize, k: usize) -> u64
 pub fn factor(s: &[u8], season: u64, row: u64, k: u64) -> Result<Band, Refusal>
     ensures { FactorCall s.now season row k result }
 {
-    factor_check(s, season, row, k)?;
-    let units = units_at(s, season as usize, row as usize, k as usize);
-    Ok(Band {
-        low: low_micrograms(units),
-        high: high_micrograms(units),
-    })
+    let asked = AskedRow::of(s, season, row)?;
+    let factor = Factor::try_from(k)?;
+    Ok(asked.band_of(factor))
 }
 
 // All words of the report in milligrams, or a refusal that leaves the buffer as it is. Document 01 leaves a low or high
@@ -50,7 +60,7 @@ pub fn factor(s: &[u8], season: u64, row: u64, k: u64) -> Result<Band, Refusal>
 pub fn report(s: &[u8], words: &mut [u64]) -> Check
     ensures { ReportCall s.now words.old words.new result }
 {
-    report_check(s, words.len())?;
-    write_report(s, words);
+    let sheet = sheet_with_room(s, words.len(), report_length)?;
+    write_report(sheet, words);
     Ok(())
 }

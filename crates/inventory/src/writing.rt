@@ -1,18 +1,20 @@
 // The words of an accepted sheet's report, for the calls that have made its checks: `report`, and the opening of a shared ledger.
-ghost use Rattle.std.specs.Prelude.{◌≡◌, length};
+ghost use Rattle.std.specs.Prelude.{◌≡◌, ◌≤◌, length};
 ghost use Rattle.refusals.specs.Check.{Pass};
+ghost use Rattle.report_words.specs.Categories.{report_length};
 ghost use Rattle.report_words.specs.Report.{report};
 ghost use Rattle.inventory.specs.ReportCall.{written};
-ghost use Rattle.inventory.specs.ReportAnswers.{report_check};
 
+use checks::accepted::Accepted;
 use report_sums::write_sums;
 use report_words::words::write_rows;
 
 // The report of an accepted sheet, in a buffer with room for it: the words of the rows and their sums.
-pub fn write_report(s: &[u8], words: &mut [u64])
-    requires { report_check s.now (length words.old) ≡ Pass }
-    ensures { words.new ≡ written Pass (report s.now) words.old }
+#[tactic(auto, unfolding(report_words::specs::Categories::report_length))]
+pub fn write_report(sheet: Accepted, words: &mut [u64])
+    requires { report_length sheet.bytes.now ≤ length words.old }
+    ensures { words.new ≡ written Pass (report sheet.entry.bytes.now) words.old }
 {
-    write_rows(s, words);
-    write_sums(s, words);
+    write_rows(sheet, words);
+    write_sums(sheet, words);
 }

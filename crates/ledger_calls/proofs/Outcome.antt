@@ -4,11 +4,10 @@ use Rattle.std.proofs.Common.{Err}
 use mathlib.Core.Bool.{Bool, true, false, true≢false}
 use mathlib.Core.List.{List}
 use mathlib.Core.Path.{◌≡◌, refl, sym, ap, ◌∙◌}
-use Prim.Native.Nat.{ℕ, ◌+◌, ◌*◌, ◌-◌, ◌≤◌, ◌<◌}
+use Prim.Native.Nat.{ℕ, ◌+◌, ◌*◌, ◌≤◌, ◌<◌}
 use native.Mathlib.Decide.{dec_le}
 use native.Mathlib.Omega.{arith}
-use borrow.Author.Tests.{le-leb, lt-leb, lt-ltb, le-ltb, ltb-false}
-use lib.Dec.{ltb}
+use borrow.Author.Tests.{le-leb, lt-leb, lt-ltb, ltb-false}
 use lib.ListN.{length}
 use Rattle.numbers.specs.Lists.{at}
 use Rattle.exact.specs.Factors.{total}
@@ -29,17 +28,12 @@ use Rattle.ledger.specs.declared.Call.{Call}
 use Rattle.ledger.specs.declared.Call.TheVariants.{Arrival, Departure}
 use Rattle.ledger.specs.Machine.{row_of, past, wrong, new_count}
 use Rattle.ledger.specs.Ledger.{change_check, sheet_after, words_after, ChangeCall}
-use Rattle.ledger.proofs.Counts.{counts-length, count_at, allowed}
+use Rattle.ledger.proofs.Counts.{counts-length, count_at, allowed, total-counts}
 use Rattle.ledger.proofs.Conditions.{change-says}
 use Rattle.ledger.proofs.Kept.{answer-open, change-allowed, rows-kept, still-opens}
 
--- what is left of the limit says whether an arrival passes it
-pub room-left : (v k : ℕ) → v ≤ vehicles_limit → ltb (vehicles_limit - v) k ≡ ltb vehicles_limit (v + k)
-room-left v k h =
-    elim (dec_le k (vehicles_limit - v)) [
-      | yes g ↦ le-ltb (vehicles_limit - v) k g ∙ sym (le-ltb vehicles_limit (v + k) (omega arith))
-      | no g ↦ lt-ltb (vehicles_limit - v) k (omega arith) ∙ sym (lt-ltb vehicles_limit (v + k) (omega arith))
-    ]
+-- for `using` on the limit of all rows together
+pub ruleset counted = (total-counts)
 
 -- An allowed arrival keeps to the row's limit, and an allowed departure to its count.
 module _ {call : Call} {i k : ℕ} (many : Bool) (fleet v : ℕ) where
@@ -63,11 +57,7 @@ module _ (s : List ℕ) (pass : sheet_check s ≡ Pass) (call : Call) where
 
   -- Row i, which the call names, with its v vehicles:
   module _ {row v : ℕ} (named : row ≡ row_of call) (there : row < rows_of s) (is : v ≡ (row_at s row).vehicles) where
-    -- they are within the limit,
-    pub count_most : v ≤ vehicles_limit
-    count_most = omega (arith, ((accepted s pass).row row there).vehicles-most)
-
-    -- are the entry of the machine,
+    -- they are the entry of the machine,
     pub entry-is : at (counts_of s) (row_of call) ≡ v
     entry-is = rw (← named) (count_at s row there ∙ sym is)
 
@@ -114,13 +104,15 @@ module _ (s w : List ℕ) (call : Call) where
 
   -- what the code relies on then
   pub right-room : report_check s (length w) ≡ Pass → wrong (has_many_rows s) (counts_of s) call ≡ false
-      → let t = with_count s (row_of call) (new_count (counts_of s) call) in (sheet_check t ≡ Pass) × (row_of call < rows_of t)
-      × (6 * rows_of t + 26 ≤ length w)
+      → let t = with_count s (row_of call) (new_count (counts_of s) call) in (sheet_check t ≡ Pass)
+      × ((row_of call < rows_of t) × (6 * rows_of t + 26 ≤ length w))
   unfolding report_length
   right-room opens h =
       let t = with_count s (row_of call) (new_count (counts_of s) call) in
       let again = still-opens s (length w) call opens h in (
         report-sheet t (length w) again,
-        rw (rows-kept s (length w) call opens h) (change-allowed s (length w) call opens h).there,
-        (report-accepted t (length w) again).1,
+        (
+          rw (rows-kept s (length w) call opens h) (change-allowed s (length w) call opens h).there,
+          (report-accepted t (length w) again).1,
+        ),
       )

@@ -5,19 +5,19 @@ ghost use Rattle.std.specs.Prelude.{◌≡◌};
 ghost use Rattle.ledger.specs.Ledger.{ChangeCall, change_check};
 
 use crate::steps::{apply, call_wrong};
-use inventory::check::report_check;
+use inventory::check::{report_length, sheet_with_room};
 use ledger::Call;
 use refusals::{Check, Rule, refuse};
 
 pub mod steps;
 
 // What opening would refuse, then 29.
-#[tactic(auto, using(refusals::proofs::Chain::chained), unfolding(ledger::specs::Ledger::change_check))]
+#[tactic(auto, using(refusals::proofs::Chain::chained), unfolding(ledger::specs::Ledger::change_check, inventory::specs::ReportAnswers::report_check))]
 fn change_check(s: &[u8], room: usize, call: Call) -> Check
     ensures { result ≡ change_check s.now room call }
 {
-    report_check(s, room)?;
-    refuse(call_wrong(s, call), Rule::Count, 0)
+    let sheet = sheet_with_room(s, room, report_length)?;
+    refuse(call_wrong(sheet, call), Rule::Count, 0)
 }
 
 // A call on a ledger. Whatever the buffers hold is checked first, as opening them would; a refused call changes neither.

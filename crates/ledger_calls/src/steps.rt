@@ -1,78 +1,61 @@
 // The parts of a change of a ledger whose sheet has passed its checks: whether the change is wrong, and making it. The calls on a ledger and on a
-// shared one are made of them.
-ghost use Rattle.std.specs.Prelude.{false, ◌&&◌, ◌||◌, ◌≡◌, ◌+◌, ◌≤◌, ltb, length};
+// shared one are made of them. Their contracts hand the version and the counts of the sheet to the plain machine, which knows no sheet.
+ghost use Rattle.std.specs.Prelude.{false, ◌≡◌, ◌+◌, ◌≤◌, length};
 ghost use Rattle.exact.specs.Factors.{total};
 ghost use Rattle.refusals.specs.Check.{Pass};
-ghost use Rattle.sheet.specs.Limits.{vehicles_limit, fleet_limit};
 ghost use Rattle.sheet.specs.Versions.{has_many_rows};
 ghost use Rattle.sheet.specs.Bytes.{row_place};
 ghost use Rattle.sheet.specs.Counts.{counts_of, with_count};
-ghost use Rattle.sheet.specs.Sheet.{sheet_check};
 ghost use Rattle.ledger.specs.Machine.{past, wrong, new_count};
 ghost use Rattle.inventory.specs.ReportAnswers.{report_check};
 ghost use Rattle.ledger.specs.Ledger.{sheet_after, words_after};
 
+use checks::accepted::Accepted;
 use fields::limits::{FLEET_LIMIT, VEHICLES_LIMIT};
-use fields::{fleet_of, has_many_rows, row_place, rows_of, vehicles_of};
+use fields::row_place;
 use ledger::Call;
 use report_sums::renewal::renew_row;
 
-// So many more would be too many together, where the sheet may have many rows.
-fn fleet_past(s: &[u8], count: u64) -> bool
-    requires { (sheet_check s.now ≡ Pass) × (count ≤ vehicles_limit) }
-    ensures { result ≡ (has_many_rows s.now && ltb fleet_limit (total (counts_of s.now) + count)) }
-{
-    has_many_rows(s) & (FLEET_LIMIT < fleet_of(s) + count)
-}
-
-// So many more would be too many in a row of v vehicles, or together.
-fn arrival_past(s: &[u8], v: u64, count: u64) -> bool
-    requires { (sheet_check s.now ≡ Pass) × (v ≤ vehicles_limit) }
-    ensures { result ≡ (ltb vehicles_limit (v + count)
-        || (has_many_rows s.now && ltb fleet_limit (total (counts_of s.now) + count))) }
-{
-    if VEHICLES_LIMIT - v < count {
-        return true;
-    }
-    fleet_past(s, count)
-}
-
-// A departure larger than the count v of its row, or an arrival past the limits.
-fn is_past(s: &[u8], v: u64, call: Call) -> bool
-    requires { (sheet_check s.now ≡ Pass) × (v ≤ vehicles_limit) }
-    ensures { result ≡ past (has_many_rows s.now) (total (counts_of s.now)) v call }
+// A departure larger than the count v of its row, or an arrival with which a row or, where there may be many, all rows together have too many.
+#[tactic(auto, using(crate::proofs::Outcome::counted), unfolding(ledger::specs::Machine::past))]
+fn is_past(sheet: Accepted, v: u64, call: Call) -> bool
+    ensures { let s = sheet.entry.bytes.now in result ≡ past (has_many_rows s) (total (counts_of s)) v call }
 {
     match call {
-        Call::Arrival(_, count) => arrival_past(s, v, count),
+        Call::Arrival(_, count) => {
+            let fleet = sheet.fleet().saturating_add(count);
+            let exceeded = sheet.has_many_rows() & (FLEET_LIMIT < fleet);
+            (VEHICLES_LIMIT < v.saturating_add(count)) | exceeded
+        }
         Call::Departure(_, count) => v < count,
     }
 }
 
 // Condition 29: no such row, or past what the row has or may have.
-pub fn call_wrong(s: &[u8], call: Call) -> bool
-    requires { sheet_check s.now ≡ Pass }
-    ensures { result ≡ wrong (has_many_rows s.now) (counts_of s.now) call }
+pub fn call_wrong(sheet: Accepted, call: Call) -> bool
+    ensures { let s = sheet.entry.bytes.now in result ≡ wrong (has_many_rows s) (counts_of s) call }
 {
     let row = call.row();
-    if rows_of(s) as u64 <= row {
+    if sheet.rows() as u64 <= row {
         return true;
     }
-    is_past(s, vehicles_of(s, row as usize), call)
+    is_past(sheet, sheet.vehicles(row as usize), call)
 }
 
 // The count of the named row after a call that is allowed.
-fn count_after(s: &[u8], call: Call) -> u64
-    requires { (sheet_check s.now ≡ Pass) × (wrong (has_many_rows s.now) (counts_of s.now) call ≡ false) }
-    ensures { result ≡ new_count (counts_of s.now) call }
+fn count_after(sheet: Accepted, call: Call) -> u64
+    requires { let s = sheet.bytes.now in wrong (has_many_rows s) (counts_of s) call ≡ false }
+    ensures { result ≡ new_count (counts_of sheet.entry.bytes.now) call }
 {
-    let v = vehicles_of(s, call.row() as usize);
+    let v = sheet.vehicles(call.row() as usize);
     match call {
         Call::Arrival(_, count) => v + count,
         Call::Departure(_, count) => v - count,
     }
 }
 
-// Row i gets v vehicles: the four bytes of its count, the lowest first.
+// Row i gets v vehicles: the four bytes of its count, the lowest first. The row's bytes are asked for, since an accepted sheet lends its bytes
+// to be read alone.
 fn set_vehicles(s: &mut [u8], i: usize, v: u32)
     requires { row_place s.old i + 24 ≤ length s.old }
     ensures { s.new ≡ with_count s.old i v }
@@ -88,8 +71,8 @@ pub fn apply(s: &mut [u8], words: &mut [u64], call: Call)
     ensures { (s.new ≡ sheet_after Pass s.old call)
         × (words.new ≡ words_after Pass s.new call words.old) }
 {
-    let new = count_after(s, call);
+    let new = count_after(Accepted { bytes: &*s }, call);
     let i = call.row() as usize;
     set_vehicles(s, i, new as u32);
-    renew_row(s, words, i);
+    renew_row(Accepted { bytes: &*s }, words, i);
 }

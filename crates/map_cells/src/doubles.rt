@@ -1,5 +1,5 @@
 // Whole milligrams as doubles, and doubles handed in as whole milligrams.
-ghost use Rattle.std.specs.Prelude.{◌≡◌, ◌+◌, ◌≤◌, not, T, is_nan};
+ghost use Rattle.std.specs.Prelude.{◌≡◌, ◌+◌, ◌≤◌, not, T, is_nan, Some, None, MatchOption};
 ghost use Rattle.map_cells.specs.Doubles.{mass_limit, double, whole_of, zero_bits};
 ghost use Rattle.map_cells.specs.Sums.{cell_refusal};
 ghost use Rattle.map_cells.specs.Taken.{Taken};
@@ -45,33 +45,39 @@ fn zero_bits(x: f64) -> bool
 
 // The whole number of milligrams up to 2^53 that a double handed in is, if it is one. A NaN fails the first test, an infinity one of the
 // first two, a fraction or a number below 0 the last; a minus zero passes as 0.
+fn whole_mass(x: f64) -> Option<WholeMass>
+    ensures { MatchOption result (whole_of x ≡ None) (λ m. whole_of x ≡ Some m.milligrams) }
+{
+    if !(x > -1.0) {
+        return None;
+    }
+    if !(x < 18446744073709551616.0) {
+        return None;
+    }
+    let n = std::num::truncating_f64_to_u64(x);
+    if MASS_LIMIT < n {
+        return None;
+    }
+    if n == 0 {
+        if !zero_bits(x) {
+            return None;
+        }
+    }
+    let mass = WholeMass { milligrams: n };
+    if f64::from(mass) == x {
+        Some(mass)
+    } else {
+        None
+    }
+}
+
 impl TryFrom<f64> for WholeMass {
     type Error = Refusal;
 
     ghost try_from_gives = { λ x r. Taken (λ m. m.milligrams) cell_refusal (whole_of x) r };
 
     fn try_from(x: f64) -> Result<WholeMass, Refusal> {
-        if !(x > -1.0) {
-            return Err(cell_refusal());
-        }
-        if !(x < 18446744073709551616.0) {
-            return Err(cell_refusal());
-        }
-        let n = std::num::truncating_f64_to_u64(x);
-        if MASS_LIMIT < n {
-            return Err(cell_refusal());
-        }
-        if n == 0 {
-            if !zero_bits(x) {
-                return Err(cell_refusal());
-            }
-        }
-        let mass = WholeMass { milligrams: n };
-        if f64::from(mass) == x {
-            Ok(mass)
-        } else {
-            Err(cell_refusal())
-        }
+        whole_mass(x).ok_or(cell_refusal())
     }
 }
 

@@ -3,18 +3,16 @@ ghost use Rattle.std.specs.Prelude.{◌≡◌, Some};
 ghost use Rattle.map_cells.specs.Sums.{masses_sum, cell_sum};
 ghost use Rattle.map_cells.specs.Promise.{SumPromise};
 
+use crate::Cell;
 use crate::doubles::{MASS_LIMIT, WholeMass, add_whole};
 use crate::kinds::{Limits, Masses};
-use crate::{Cell, cell_refusal};
-use refusals::Refusal;
+use refusals::{Refusal, Rule, refuse};
 
 // Lows and highs, added as doubles.
 fn add_masses(a: Masses, b: Masses) -> Result<Cell, Refusal>
     ensures { result ≡ masses_sum (Some (a.low, a.high)) (Some (b.low, b.high)) }
 {
-    if MASS_LIMIT < a.high + b.high {
-        return Err(cell_refusal());
-    }
+    refuse(MASS_LIMIT < a.high + b.high, Rule::Cell, 0)?;
     let low = add_whole(
         WholeMass { milligrams: a.low },
         WholeMass { milligrams: b.low },

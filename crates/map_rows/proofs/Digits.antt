@@ -1,19 +1,9 @@
 -- A product over a divisor, taken digit by digit of its first factor, for every base B of the digits.
 use mathlib.Core.Path.{◌≡◌, sym, ◌∙◌, ap}
-use Prim.Native.Nat.{ℕ, ◌+◌, ◌*◌, ◌-◌, ◌/◌, ◌%◌, ◌^◌, ◌≤◌, ◌<◌}
-use native.Mathlib.Nat.{mul-le-mul, mul-le-mul_left, div-add-mod', mul-add-div_right, div-lt_iff_lt-mul, mod-lt}
-use native.Mathlib.Nat.{div-mul-le_self, le_of_mul-le-mul_right}
+use Prim.Native.Nat.{ℕ, ◌+◌, ◌*◌, ◌-◌, ◌/◌, ◌%◌, ◌≤◌, ◌<◌}
+use native.Mathlib.Nat.{div-add-mod', mul-add-div_right, div-lt_iff_lt-mul, mod-lt}
 use native.Mathlib.Omega.{arith}
-use Rattle.map_shares.specs.Range.{parts_limit}
 use Rattle.map_shares.proofs.Ranges.{cut-up-below}
-
--- a digit times a part fits
-pub digit-product : {digit part all : ℕ} → digit ≤ 2 ^ 18 - 1 → part ≤ all → all ≤ parts_limit → digit * part ≤ (2 ^ 18 - 1) * parts_limit
-digit-product {digit} {part} h k l = let m : part ≤ parts_limit = omega arith in mul-le-mul h m
-
--- a fraction up to 1 of x is at most x
-pub part-below : (x part all : ℕ) → 0 < all → part ≤ all → x * part / all ≤ x
-part-below x part all pos h = le_of_mul-le-mul_right {k = all} (omega (arith, div-mul-le_self (x * part) all, mul-le-mul_left x h)) pos
 
 module _ (p n d B c : ℕ) (pos : 0 < d) where
   -- (p·B + c)·n, from the quotient and the remainder of p·n

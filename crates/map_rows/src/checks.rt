@@ -4,11 +4,9 @@ ghost use Rattle.map_cells.specs.Sums.{cell_refusal};
 ghost use Rattle.map_shares.specs.Demands.{TravelIn, WordsIn};
 ghost use Rattle.map_rows.specs.Rows.{amiss, travel_refusal, travel_wrong, span_wrong, words_wrong};
 
-use crate::travel_refusal;
-use map_cells::cell_refusal;
 use map_cells::doubles::MASS_LIMIT;
 use map_shares::{Span, Travel, Words};
-use refusals::Refusal;
+use refusals::{Refusal, Rule, refuse};
 
 const TRAVEL_LIMIT: u64 = 1000000;
 
@@ -26,6 +24,7 @@ pub struct CheckedWords {
     ghost within: { WordsIn words },
 }
 
+// Travel and words are made alike, each with a test and a rule of its own; one conversion for both would take all four as parameters.
 impl TryFrom<Travel> for CheckedTravel {
     type Error = Refusal;
 
@@ -33,9 +32,7 @@ impl TryFrom<Travel> for CheckedTravel {
         MatchResult r (λ c. (c.travel ≡ t) × (travel_wrong t ≡ false)) (λ e. (travel_wrong t ≡ true) × (e ≡ travel_refusal)) };
 
     fn try_from(travel: Travel) -> Result<CheckedTravel, Refusal> {
-        if travel_wrong(travel) {
-            return Err(travel_refusal());
-        }
+        refuse(travel_wrong(travel), Rule::Travel, 0)?;
         Ok(CheckedTravel { travel })
     }
 }
@@ -47,9 +44,7 @@ impl TryFrom<Words> for CheckedWords {
         MatchResult r (λ c. (c.words ≡ w) × (words_wrong w ≡ false)) (λ e. (words_wrong w ≡ true) × (e ≡ cell_refusal)) };
 
     fn try_from(words: Words) -> Result<CheckedWords, Refusal> {
-        if words_wrong(words) {
-            return Err(cell_refusal());
-        }
+        refuse(words_wrong(words), Rule::Cell, 0)?;
         Ok(CheckedWords { words })
     }
 }
@@ -59,7 +54,7 @@ impl TryFrom<Words> for CheckedWords {
 fn amiss(x: u64) -> bool
     ensures { result ≡ amiss x }
 {
-    (x < 1) | (TRAVEL_LIMIT < x)
+    !(1..=TRAVEL_LIMIT).contains(&x)
 }
 
 #[tactic(auto, unfolding(crate::specs::Rows::travel_wrong))]

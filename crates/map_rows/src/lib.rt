@@ -3,14 +3,14 @@
 
 ghost use Rattle.std.specs.Prelude.{◌≡◌};
 ghost use Rattle.map_rows.specs.Promise.{RowCellsPromise};
-ghost use Rattle.map_rows.specs.Rows.{travel_refusal, row_cells_answer};
+ghost use Rattle.map_rows.specs.Rows.{row_cells_answer};
 
 use crate::shares::row_shares;
 use checks::{CheckedTravel, CheckedWords};
 use map_cells::Cell;
 use map_cells::kinds::Limits;
 use map_shares::{Roads, Travel, Words};
-use refusals::{Refusal, Rule};
+use refusals::Refusal;
 use sums::share_out;
 
 pub mod checks;
@@ -24,16 +24,6 @@ pub type RoadLimits = Roads<Limits>;
 
 // The three cells of one row.
 pub type RowCells = Roads<Cell>;
-
-// Why a row is refused for where its vehicles drive.
-pub fn travel_refusal() -> Refusal
-    ensures { result ≡ travel_refusal }
-{
-    Refusal {
-        rule: Rule::Travel,
-        place: 0,
-    }
-}
 
 // The cells of a row, or a refusal: 28 before 27.
 pub fn cells_of_row(w: Words, t: Travel) -> Result<RowCells, Refusal>

@@ -10,7 +10,8 @@ use crate::split::{Rounding, share};
 use map_cells::doubles::WholeMass;
 use map_shares::{Part, Road, RoadShares, RowShares, Shares, Span};
 
-// A mechanism's share: of its low, cut down, and of its high, cut up.
+// A mechanism's share: of its low, cut down, and of its high, cut up. That the part is in range is asked for here and in split.rt, and is
+// no fact of the type: roads.rt would then show it of nine parts one by one, where `RoadIn` has it of the three of a road at once.
 fn span_share(s: Span, p: Part) -> Span
     requires { SpanIn s × PartIn p }
     ensures { result ≡ record { low = share_down s.low p; high = share_up s.high p } }

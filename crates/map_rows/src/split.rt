@@ -1,7 +1,8 @@
 // A mass times a fraction, cut down or cut up to whole milligrams, with no product beyond 64 bits.
-ghost use Rattle.std.specs.Prelude.{◌≡◌, ◌+◌, ◌*◌, ◌/◌, ◌%◌, ◌^◌, ◌<◌, ◌≤◌};
-ghost use Rattle.map_shares.specs.Range.{parts_limit, PartIn};
-ghost use Rattle.map_rows.specs.Digits.{CarriedOn};
+ghost use Rattle.std.specs.Prelude.{◌≡◌, ◌/◌, ◌^◌, ◌≤◌};
+ghost use Rattle.map_cells.specs.Doubles.{mass_limit};
+ghost use Rattle.map_shares.specs.Range.{PartIn};
+ghost use Rattle.map_rows.specs.Digits.{QuotientOf};
 ghost use Rattle.map_rows.specs.Rounded.{share};
 
 use map_cells::doubles::WholeMass;
@@ -24,34 +25,31 @@ pub struct Quotient {
     pub rest: u64,
 }
 
-// The quotient and the remainder of a product, carried on by one digit of the mass. By two operators: std has no function that gives both.
-fn next_digit(c: Quotient, digit: u64, part: u64, all: u64) -> Quotient
-    requires { (c.whole ≤ 2 ^ 36) × (c.rest < all) × (digit < 2 ^ 18) × (part ≤ all) × (all ≤ parts_limit) }
-    ensures { CarriedOn c digit part all result }
+// The quotient and the remainder of a mass times part over all, from those of the mass without its last digit.
+// By two operators: std has no function that gives both.
+fn next_digit(c: Quotient, mass: u64, p: Part) -> Quotient
+    requires { PartIn p × (mass ≤ mass_limit) × QuotientOf (mass / 2 ^ 18) p c }
+    ensures { QuotientOf mass p result }
 {
-    let n = c.rest * DIGIT + digit * part;
+    let n = c.rest * DIGIT + mass % DIGIT * p.part;
     Quotient {
-        whole: c.whole * DIGIT + n / all,
-        rest: n % all,
+        whole: c.whole * DIGIT + n / p.all,
+        rest: n % p.all,
     }
 }
 
-// The mass times part over all: the whole part and the remainder.
+// The mass times part over all.
 fn cut_product(m: WholeMass, p: Part) -> Quotient
     requires { PartIn p }
-    ensures { (result.whole ≡ m.milligrams * p.part / p.all) × (result.rest ≡ m.milligrams * p.part % p.all) × (result.whole ≤ m.milligrams) }
+    ensures { QuotientOf m.milligrams p result × (result.whole ≤ m.milligrams) }
 {
     let mass = m.milligrams;
-    let part = p.part;
-    let all = p.all;
-    let high = mass / DIGIT / DIGIT;
-    let n = high * part;
+    let n = mass / DIGIT / DIGIT * p.part;
     let first = Quotient {
-        whole: n / all,
-        rest: n % all,
+        whole: n / p.all,
+        rest: n % p.all,
     };
-    let second = next_digit(first, mass / DIGIT % DIGIT, part, all);
-    next_digit(second, mass % DIGIT, part, all)
+    next_digit(next_digit(first, mass / DIGIT, p), mass, p)
 }
 
 // A share of a mass, cut down or cut up.

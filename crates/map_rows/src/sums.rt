@@ -5,11 +5,11 @@ ghost use Rattle.map_rows.specs.Rows.{over, shared_out};
 ghost use Rattle.map_rows.specs.Limits.{Fits, LimitsOf, cells_within};
 
 use crate::{RoadLimits, RowCells};
+use map_cells::Cell;
 use map_cells::doubles::{MASS_LIMIT, add_three};
 use map_cells::kinds::Limits;
-use map_cells::{Cell, cell_refusal};
 use map_shares::{RoadShares, RowShares};
-use refusals::Refusal;
+use refusals::{Refusal, Rule, refuse};
 
 // The highs of a road kind pass 2^53. Asked of whole numbers: the double of 2^53 + 1 would not show it.
 #[tactic(auto, unfolding(crate::specs::Rows::over))]
@@ -51,9 +51,7 @@ pub fn share_out(s: RowShares) -> Result<RowCells, Refusal>
     let u = s.urban;
     let r = s.rural;
     let h = s.highway;
-    if over(u) | over(r) | over(h) {
-        return Err(cell_refusal());
-    }
+    refuse(over(u) | over(r) | over(h), Rule::Cell, 0)?;
     let k = RoadLimits {
         urban: limits(u),
         rural: limits(r),

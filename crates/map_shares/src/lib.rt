@@ -1,6 +1,9 @@
 // How a row's masses are shared among urban, rural and highway roads, after section 4.7 of the guidebook: definitions and laws.
 #![tactic(auto)]
 
+// `Span`, `Words`, `Mileages` and `Speeds` are C's, with their members in this order (include/evaporation.h); `Mechanisms` and `Roads`,
+// which would say two of them, are Rattle's alone.
+
 // The low and the high of one mechanism, in milligrams.
 #[repr(C)]
 #[derive(Clone, Copy)]
@@ -35,8 +38,8 @@ pub struct Speeds {
     pub highway: u64,
 }
 
-// Whether a row's owners live in town, and where its vehicles drive.
-#[repr(C)]
+// Whether a row's owners live in town, and where its vehicles drive. `town` is a yes or a no that is only asked; C hands in a number, in a
+// struct of its own that `TryFrom` reads.
 #[derive(Clone, Copy)]
 pub struct Travel {
     pub town: bool,
@@ -73,7 +76,8 @@ pub type Road = Mechanisms<Part>;
 // A road kind's shares of the three mechanisms, in milligrams.
 pub type Shares = Mechanisms<u64>;
 
-// The shares of the lows, cut down, and those of the highs, cut up.
+// The shares of the lows, cut down, and those of the highs, cut up. The lows stand together and the highs too, and not as three spans, since
+// a cell sums each of the two by itself.
 #[derive(Clone, Copy)]
 pub struct RoadShares {
     pub low: Shares,

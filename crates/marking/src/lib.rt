@@ -23,6 +23,13 @@ pub struct Filed {
     pub unit: Unit,
 }
 
+// A band: the masses from low to high milligrams.
+#[derive(Clone, Copy, Debug, PartialEq, Eq)]
+pub struct Band {
+    pub low: u64,
+    pub high: u64,
+}
+
 // What a band says of a filed figure.
 #[derive(Clone, Copy, Debug, PartialEq, Eq)]
 pub enum Verdict {
@@ -65,10 +72,11 @@ fn power_of_ten(k: u64) -> u64
 }
 
 // The verdict on a figure from (middle - half) / scale to (middle + half) / scale milligrams.
-fn compare(middle: u64, half: u64, scale: u64, low: u64, high: u64) -> Verdict
+fn compare(middle: u64, half: u64, scale: u64, band: Band) -> Verdict
     requires { (middle ≤ 2 * 10 ^ 18) × (half ≤ 10 ^ 18) × (1 ≤ scale) × (scale ≤ 2 * 10 ^ 18) }
-    ensures { result ≡ compared middle half scale low high }
+    ensures { result ≡ compared middle half scale band.low band.high }
 {
+    let Band { low, high } = band;
     let least = middle.saturating_sub(half);
     let most = middle + half;
     let from = least.div_ceil(scale);
@@ -85,9 +93,9 @@ fn compare(middle: u64, half: u64, scale: u64, low: u64, high: u64) -> Verdict
     Verdict::Fits
 }
 
-// The mark of a filed figure against a band from low to high milligrams.
-pub fn mark(filed: Filed, low: u64, high: u64) -> Verdict
-    ensures { (result ≡ verdict filed low high) × Marked filed low high result }
+// The mark of a filed figure against a band.
+pub fn mark(filed: Filed, band: Band) -> Verdict
+    ensures { (result ≡ verdict filed band.low band.high) × Marked filed band.low band.high result }
 {
     let digits = filed.digits;
     let places = filed.places;
@@ -102,11 +110,5 @@ pub fn mark(filed: Filed, low: u64, high: u64) -> Verdict
         return Verdict::Unreadable;
     }
     let spread = power_of_ten(above);
-    compare(
-        2 * (digits * spread),
-        spread,
-        2 * power_of_ten(below),
-        low,
-        high,
-    )
+    compare(2 * (digits * spread), spread, 2 * power_of_ten(below), band)
 }

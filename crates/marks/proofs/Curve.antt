@@ -65,9 +65,10 @@ same-mark : (hour d : ℕ) → d ≤ 48 → start_mark hour d ≡ start_mark (ho
 unfolding start_mark
 same-mark hour d l = omega arith
 
-mark-below : (hour d : ℕ) → start_mark hour d < 48
+-- a mark is below 48
+pub start_mark-below : (hour d : ℕ) → start_mark hour d < 48
 unfolding start_mark
-mark-below hour d = omega arith
+start_mark-below hour d = omega arith
 
 -- the runs of two parkings are the same where their marks are
 same_runs : (up up' : ℕ → Bool) (hour hour' d : ℕ) → ((k : ℕ) → k ≤ d → up (start_mark hour k) ≡ up' (start_mark hour' k))
@@ -96,7 +97,7 @@ day-runs : (hour d : ℕ) → d ≤ 24 → runs false (rising w) hour d ≡ runs
 unfolding day
 day-runs hour d l =
     (same_runs (rising w) day hour (hour % 24) d
-    (λ k m. ap (rising w) (same-mark hour k (omega arith)) ∙ rises-where (start_mark (hour % 24) k) (mark-below (hour % 24) k))).1
+    (λ k m. ap (rising w) (same-mark hour k (omega arith)) ∙ rises-where (start_mark (hour % 24) k) (start_mark-below (hour % 24) k))).1
 
 -- a parking of at most 12 hours has at most that many runs
 runs-most : (hour d : ℕ) → d ≤ 24 → runs false (rising w) hour d ≤ runs_most

@@ -5,7 +5,7 @@ use mathlib.Core.Bool.{Bool, true, false}
 use mathlib.Core.Path.{◌≡◌, refl, ap}
 use Prim.Native.Nat.{ℕ, suc, zero, ◌+◌, ◌*◌, ◌-◌, ◌^◌, ◌%◌, ◌≤◌, ◌<◌}
 use native.Mathlib.Omega.{arith}
-use native.Mathlib.Nat.{mul-le-mul_right, mul-le-mul_left, le_of_mul-le-mul_right}
+use native.Mathlib.Nat.{suc-mul, mul-le-mul_right, mul-le-mul_left, le_of_mul-le-mul_right}
 use lib.Dec.{leb}
 use borrow.Author.Tests.{leb-true, leb-false}
 use Rattle.numbers.specs.Fraction.{Fraction, ◌≈ᶠ◌, ◌+ᶠ◌, ◌-ᶠ◌, ◌*ᶠ◌, whole, ◌/10^◌}
@@ -113,10 +113,6 @@ further-down c h k {x} l e r =
     let same : c + (h - k) ≡ c = omega arith in
     rw same (around-≈ (≈-sym (≈-trans (+-cong (≈-refl x) e) (+-zero x))) r)
 
--- one error more
-more : (r e : ℕ) → suc r * e ≡ r * e + e
-more r e = omega arith
-
 -- Any mark temperatures up to 50 °C.
 module _ {θ : ℕ → ℕ} {up : ℕ → Bool} (warm : (i : ℕ) → θ i ≤ 80 * 10 ^ 10) (s : Shape θ up) where
   -- the value at the mark d half-hours before the end of a parking, computed and exact, and the rise since then
@@ -158,8 +154,8 @@ module _ {θ : ℕ → ℕ} {up : ℕ → Bool} (warm : (i : ℕ) → θ i ≤ 8
       (heat-grows below (warm _)) (step-rises n (degrees-mono below)) k.started in
       record {
         alone =
-            rw (step_is hour d l, (runs_up up hour d e).1, more (runs true up hour d) heat_error)
-            (around-less (rw (more (runs true up hour d) heat_error) at with-start) (value-within n hour (suc d) n40));
+            rw (step_is hour d l, (runs_up up hour d e).1, suc-mul (runs true up hour d) heat_error)
+            (around-less (rw (suc-mul (runs true up hour d) heat_error) at with-start) (value-within n hour (suc d) n40));
         started = rw (step_is hour d l, (runs_up up hour d e).0) with-start;
       }
 
@@ -173,7 +169,7 @@ module _ {θ : ℕ → ℕ} {up : ℕ → Bool} (warm : (i : ℕ) → θ i ≤ 8
       record {
         alone = rw (step_is hour d l, (runs-down up hour d e).1) same;
         started =
-            rw (step_is hour d l, (runs-down up hour d e).0, more (runs false up hour d) heat_error)
+            rw (step_is hour d l, (runs-down up hour d e).0, suc-mul (runs false up hour d) heat_error)
             (around-+ same (value-within n hour (suc d) n40));
       }
 

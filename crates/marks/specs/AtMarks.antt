@@ -29,10 +29,10 @@ pub record AtMarks (season : Season) (m : MarkValues) : Type 0 where
   pub rate-is : m.rate ≡ tab (λ (i : ℕ). rate season.vp (mark_warmth season i)) 48
   pub soak-is : m.soak ≡ tab (λ (d : ℕ). rates_at season 110 (ahead d)) 25
   pub run_is : m.run ≡ tab (λ (d : ℕ). rates_at season 150 (ahead d)) 25
-  pub raise10-is : m.raise10 ≡ tab (λ (d : ℕ). raises_by season 10 (ahead d)) 25
-  pub raise15-is : m.raise15 ≡ tab (λ (d : ℕ). raises_by season 15 (ahead d)) 25
-  pub raise25-is : m.raise25 ≡ tab (λ (d : ℕ). raises_by season 25 (ahead d)) 25
-  pub raise35-is : m.raise35 ≡ tab (λ (d : ℕ). raises_by season 35 (ahead d)) 25
-  pub raise45-is : m.raise45 ≡ tab (λ (d : ℕ). raises_by season 45 (ahead d)) 25
-  pub raise50-is : m.raise50 ≡ tab (λ (d : ℕ). raises_by season 50 (ahead d)) 25
-  pub raise60-is : m.raise60 ≡ tab (λ (d : ℕ). raises_by season 60 (ahead d)) 25
+  pub raise10-is : m.raise10.by_distance ≡ tab (λ (d : ℕ). raises_by season 10 (ahead d)) 25
+  pub raise15-is : m.raise15.by_distance ≡ tab (λ (d : ℕ). raises_by season 15 (ahead d)) 25
+  pub raise25-is : m.raise25.by_distance ≡ tab (λ (d : ℕ). raises_by season 25 (ahead d)) 25
+  pub raise35-is : m.raise35.by_distance ≡ tab (λ (d : ℕ). raises_by season 35 (ahead d)) 25
+  pub raise45-is : m.raise45.by_distance ≡ tab (λ (d : ℕ). raises_by season 45 (ahead d)) 25
+  pub raise50-is : m.raise50.by_distance ≡ tab (λ (d : ℕ). raises_by season 50 (ahead d)) 25
+  pub raise60-is : m.raise60.by_distance ≡ tab (λ (d : ℕ). raises_by season 60 (ahead d)) 25

@@ -5,14 +5,14 @@ ghost use Rattle.std.specs.Prelude.{◌≡◌, ℕ, ◌+◌, ◌*◌, ◌-◌, �
 ghost use Rattle.numbers.specs.Lists.{tab, at, AllAtMost};
 ghost use Rattle.bounds.specs.Weights.{apart};
 ghost use Rattle.sheet.specs.Limits.{vp_limit};
-ghost use Rattle.sheet.specs.Range.{warmth_limit, mark_warmth, SeasonInRange};
+ghost use Rattle.sheet.specs.Range.{warmth_limit, mark_warmth};
 ghost use Rattle.marks.specs.AtMarks.{AtMarks};
 ghost use Rattle.marks.specs.Marks.{pressure_factor};
 
-use crate::warmths::Warmths;
+use crate::warmths::{Raises, Warmths};
 use bounds::exp::{ZERO, exponential};
 use bounds::hours::{apart, weights_table};
-use exact::Season;
+use fields::range::CheckedSeason;
 use fields::warmth;
 use std::array;
 
@@ -42,13 +42,13 @@ pub struct MarkValues {
     pub soak: [u64; 25],
     pub run: [u64; 25],
     // The rise of E(0.0716 T) when T is raised by so many tenths of a degree, by distance from 14:00, in units of 2^-40.
-    pub raise10: [u64; 25],
-    pub raise15: [u64; 25],
-    pub raise25: [u64; 25],
-    pub raise35: [u64; 25],
-    pub raise45: [u64; 25],
-    pub raise50: [u64; 25],
-    pub raise60: [u64; 25],
+    pub raise10: Raises,
+    pub raise15: Raises,
+    pub raise25: Raises,
+    pub raise35: Raises,
+    pub raise45: Raises,
+    pub raise50: Raises,
+    pub raise60: Raises,
 }
 
 // A tenth of a degree, in units of 10^-10 °C.
@@ -74,12 +74,11 @@ fn temperatures(lowest: u64, span: u64, weights: [u64; 48]) -> [u64; 48]
 }
 
 // The temperatures at a season's marks.
-fn season_temperatures(season: Season) -> [u64; 48]
-    requires { SeasonInRange season }
-    ensures { (result ≡ tab (mark_warmth season) 48) × AllAtMost (80 * 10 ^ 10) result }
+fn season_temperatures(checked: CheckedSeason) -> [u64; 48]
+    ensures { (result ≡ tab (mark_warmth checked.season) 48) × AllAtMost (80 * 10 ^ 10) result }
 {
-    let lowest = warmth(season.lowest);
-    let span = warmth(season.highest) - lowest;
+    let lowest = warmth(checked.season.lowest);
+    let span = warmth(checked.season.highest) - lowest;
     temperatures(lowest, span, weights_table())
 }
 
@@ -108,16 +107,15 @@ fn pressure_factor(vp: u64) -> u64
 // The values of a season, each computed once for all marks of one temperature. Not inlined, so that its arrays take stack only while it
 // runs.
 #[inline(never)]
-pub fn at_marks(season: Season) -> MarkValues
-    requires { SeasonInRange season }
-    ensures { AtMarks season result }
+pub fn at_marks(checked: CheckedSeason) -> MarkValues
+    ensures { AtMarks checked.season result }
 {
-    let temperature = season_temperatures(season);
+    let temperature = season_temperatures(checked);
     let warmths = Warmths::of_marks(&temperature);
     let heats = warmths.heats();
     let exponential = by_mark(&heats.by_distance);
     let step = steps(&exponential);
-    let pressure = pressure_factor(season.vp);
+    let pressure = pressure_factor(checked.season.vp);
     let hourly = warmths.rates(pressure, 0);
     MarkValues {
         marks: Marks {

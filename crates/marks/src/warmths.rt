@@ -24,6 +24,13 @@ pub struct Heats {
     ghost moderate: { AllAtMost (56 * 2 ^ 40) by_distance },
 }
 
+// The rise of E(0.0716 T) at each of them when T is raised, in units of 2^-40.
+#[derive(Clone, Copy)]
+pub struct Raises {
+    pub by_distance: [u64; 25],
+    ghost moderate: { AllAtMost (56 * 2 ^ 40) by_distance },
+}
+
 // E(0.0716 T): the exponent in units of 10^-14 above -16 is 716 for each unit of T + 30 °C, and this at -30 °C.
 const COLDEST: u64 = 1385200000000000;
 
@@ -44,6 +51,7 @@ fn heat_at(warmth: u64) -> u64
 }
 
 // Permeation per hour where E(0.004 vp) is `pressure`, up to 65 °C.
+#[tactic(auto, unfolding(crate::specs::Marks::bracket_units))]
 fn rate_at(pressure: u64, warmth: u64) -> u64
     requires { (pressure < 2 ^ 46) × (warmth ≤ 95 * 10 ^ 10) }
     ensures { result ≡ pressure * bracket_units warmth / 2 ^ 40 }
@@ -75,14 +83,16 @@ impl Warmths {
     }
 
     // The rise of E(0.0716 T) at each when T is raised.
-    pub fn raises(&self, heats: &Heats, raise: u64) -> [u64; 25]
+    pub fn raises(&self, heats: &Heats, raise: u64) -> Raises
         requires { raise ≤ 6 * 10 ^ 10 }
-        ensures { result ≡ tab (λ (d : ℕ). heat (at self.now.by_distance d + raise) - (at heats.now.by_distance d + raised_error)) 25 }
+        ensures { result.by_distance ≡ tab (λ (d : ℕ). heat (at self.now.by_distance d + raise) - (at heats.now.by_distance d + raised_error)) 25 }
     {
-        array::from_fn(|d| {
-            let raised = heat_at(self.by_distance[d] + raise);
-            raised.saturating_sub(heats.by_distance[d] + RAISED_ERROR)
-        })
+        Raises {
+            by_distance: array::from_fn(|d| {
+                let raised = heat_at(self.by_distance[d] + raise);
+                raised.saturating_sub(heats.by_distance[d] + RAISED_ERROR)
+            }),
+        }
     }
 
     // Permeation per hour at each, the temperature raised, where E(0.004 vp) is `pressure`.

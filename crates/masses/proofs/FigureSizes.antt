@@ -3,42 +3,22 @@
 use mathlib.Core.Bool.{Bool, true, false}
 use mathlib.Core.List.{List}
 use mathlib.Core.Path.{◌≡◌, refl}
-use Prim.Native.Nat.{ℕ, suc, zero, ◌+◌, ◌*◌, ◌-◌, ◌^◌, ◌≤◌, ◌<◌}
+use Prim.Native.Nat.{ℕ, suc, zero, ◌+◌, ◌*◌, ◌-◌, ◌≤◌}
 use native.Mathlib.Nat.{mul-le-mul}
 use native.Mathlib.Omega.{arith}
 use lib.ListN.{get_or}
 use Rattle.numbers.specs.Lists.{tab}
 use Rattle.exact.specs.declared.Season.{Season}
 use Rattle.exact.specs.declared.Row.{Row}
-use Rattle.exact.specs.Factors.{Factor, F1, F2, F3, F4, F5, F6, F7}
-use Rattle.sheet.specs.Range.{SeasonInRange}
-use Rattle.sheet.specs.Range.{RowInRange}
-use Rattle.factors.specs.Units.{factor_units, high_micrograms}
-use Rattle.factors.proofs.Sizes.{grams_limit, high_micrograms-most}
+use Rattle.factors.specs.Units.{high_micrograms}
 use Rattle.row_factors.specs.Seven.{seven_units}
 use Rattle.factors.proofs.FactorBound.{low-below-high}
 use Rattle.sheet.specs.Limits.{trips_limit}
 use Rattle.masses.specs.Figures.{µg, blended, day_figure}
-use Rattle.masses.specs.Day.{trip_limit, UnitsInRange, MicrogramsInRange, UseInRange, rounded, rounded_all, six_figures, day_figures}
+use Rattle.row_factors.specs.Units.{trip_limit, UnitsInRange}
+use Rattle.masses.specs.Use.{UseInRange}
+use Rattle.masses.specs.Day.{MicrogramsInRange, rounded, rounded_all, six_figures, day_figures}
 use Rattle.masses.proofs.MassSizes.{mixed-most, blend-most}
-
--- the seven factors are within their limits
-pub units-in-range : {season : Season} {row : Row} → SeasonInRange season → RowInRange season row → (counts : List ℕ)
-    → UnitsInRange (seven_units season row counts)
-unfolding seven_units high_micrograms
-units-in-range {season} {row} in-season in_row counts = record { diurnal-most = most F1; trip-most = go }
-  where
-    most : (k : Factor) → high_micrograms (factor_units season row counts k) ≤ grams_limit k * 10 ^ 6
-    most = high_micrograms-most in-season in_row counts
-
-    go : (k : ℕ) → high_micrograms (get_or (seven_units season row counts) (suc k) 0) ≤ trip_limit
-    go zero = most F2
-    go (suc zero) = most F3
-    go (suc (suc zero)) = most F4
-    go (suc (suc (suc zero))) = most F5
-    go (suc (suc (suc (suc zero)))) = most F6
-    go (suc (suc (suc (suc (suc zero))))) = most F7
-    go (suc (suc (suc (suc (suc (suc k)))))) = omega arith
 
 -- what one vehicle loses on one day follows from them
 pub figures-are : (counts : List ℕ) (season : Season) (row : Row) → six_figures row (seven_units season row counts) ≡ day_figures counts season row
@@ -51,13 +31,7 @@ unfolding rounded
 rounded-most true units = omega arith
 rounded-most false units = low-below-high units
 
--- every factor can be turned into micrograms
-pub units-fit : {units : List ℕ} → UnitsInRange units → (k : ℕ) → get_or units k 0 < 2 ^ 44
-unfolding high_micrograms
-units-fit h zero = omega (arith, h.diurnal-most)
-units-fit h (suc k) = omega (arith, h.trip-most k)
-
--- and is then within its limit
+-- in micrograms each is within its limit
 pub micrograms-in-range : (up : Bool) {units : List ℕ} → UnitsInRange units → MicrogramsInRange (rounded_all up units)
 unfolding tab
 micrograms-in-range up {units} h = record { diurnal-most = omega (arith, rounded-most up (get_or units 0 0), h.diurnal-most); trip-most = go }

@@ -4,4 +4,3 @@ pub mod MassWidth
 pub mod AnyCounts
 pub mod MassSizes
 pub mod FigureSizes
-pub mod Mapped

@@ -137,17 +137,3 @@ module _ {counts : List ℕ} {seasons : List Season} {row : Row} (r : RowSized c
   word-most (suc (suc (suc (suc zero)))) = low-most running
   word-most (suc (suc (suc (suc (suc zero))))) = high-most running
   word-most (suc (suc (suc (suc (suc (suc j)))))) = omega arith
-
--- A year's figure times the vehicles, over 10⁹, in parts that fit 64 bits.
-
--- ⌊(y·v + r)/10⁹⌋ in parts: r = 0 for a low, 10⁹ − 1 for a high
-pub cut_parts : (y v r : ℕ) → y / 10 ^ 9 * v + (y % 10 ^ 9 * v + r) / 10 ^ 9 ≡ (y * v + r) / 10 ^ 9
-cut_parts y v r = omega (arith, ap (λ (t : ℕ). t * v) (div-add-mod' y (10 ^ 9)))
-
--- the whole part, with so many vehicles as 1,000 rows may have
-pub whole-part-most : (y v : ℕ) → y < 2 ^ 64 → v ≤ 10 ^ 8 → y / 10 ^ 9 * v ≤ 2 ^ 35 * 10 ^ 8
-whole-part-most y v h l = let q : y / 10 ^ 9 ≤ 2 ^ 35 = omega arith in mul-le-mul q l
-
--- the rest, before it is cut
-pub rest-part-most : (y v : ℕ) → v ≤ 10 ^ 8 → y % 10 ^ 9 * v ≤ 10 ^ 9 * 10 ^ 8
-rest-part-most y v h = let r : y % 10 ^ 9 ≤ 10 ^ 9 = omega arith in mul-le-mul r h

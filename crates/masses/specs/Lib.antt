@@ -1,4 +1,5 @@
 pub mod Bands
 pub mod Figures
+pub mod Use
 pub mod Day
 pub mod AnyCounts

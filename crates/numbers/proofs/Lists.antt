@@ -10,7 +10,7 @@ use native.Mathlib.Nat.{le_antisymm}
 use lib.ListN.{replicate, length-replicate, get_or-replicate, length, get_or, set, take, length-set}
 use lib.Seq.{take-suc-set, take_all}
 use Rattle.std.specs.List.{range_with_len, sum_by}
-use Rattle.std.proofs.lemmas.List.{get_or-append-add, get_or_default, get_or_past}
+use Rattle.std.proofs.lemmas.List.{get_or-append-add, get_or_default, get_or_past, get_or-take, length-take-le}
 use Rattle.std.proofs.lemmas.List.FromFn.{length-map-range_with_len, get_or-map-range_with_len, map-range_with_len_more, fill_by_all}
 use Rattle.std.proofs.lemmas.List.Sums.{sum_by_push, sum_by-le}
 use Rattle.numbers.specs.Lists.{tab, sum, at, AllAtMost}
@@ -24,7 +24,7 @@ tab-is f (suc n) =
     ap (λ (k : ℕ). map f (range_with_len 0 k)) {x = n + 1} {y = suc n} (omega arith)
 
 -- and its sum std's sum of that list
-sum-is : (f : ℕ → ℕ) (n : ℕ) → sum f n ≡ sum_by (λ (x : ℕ). x) (tab f n)
+pub sum-is : (f : ℕ → ℕ) (n : ℕ) → sum f n ≡ sum_by (λ (x : ℕ). x) (tab f n)
 unfolding sum tab
 sum-is f zero = refl
 sum-is f (suc n) = ap (λ (k : ℕ). k + f n) (sum-is f n) ∙ sym (sum_by_push (λ (x : ℕ). x) (tab f n) (f n))
@@ -40,7 +40,7 @@ pub get_d-tab : (f : ℕ → ℕ) (n k : ℕ) → k < n → get_or (tab f n) k 0
 get_d-tab f n k h = ap (λ (xs : List ℕ). get_or xs k 0) (tab-is f n) ∙ get_or-map-range_with_len f 0 n k k 0 h (omega arith)
 
 -- a list of that length with these values is it
-tab-from : (f : ℕ → ℕ) {n : ℕ} (xs : List ℕ) → length xs ≡ n → ((k : ℕ) → k < n → get_or xs k 0 ≡ f k) → xs ≡ tab f n
+pub tab-from : (f : ℕ → ℕ) {n : ℕ} (xs : List ℕ) → length xs ≡ n → ((k : ℕ) → k < n → get_or xs k 0 ≡ f k) → xs ≡ tab f n
 tab-from f {n} xs e h = fill_by_all f xs n 0 e h ∙ sym (tab-is f n)
 
 -- a list is made up of what stands in it
@@ -50,6 +50,12 @@ tab-at xs e = sym (tab-from (at xs) xs e (λ k l. refl))
 -- equal values make equal lists
 pub tab-ext : {f g : ℕ → ℕ} (n : ℕ) → ((k : ℕ) → k < n → f k ≡ g k) → tab f n ≡ tab g n
 tab-ext {f} {g} n h = tab-from g (tab f n) (tab-length f n) (λ k l. get_d-tab f n k l ∙ h k l)
+
+-- its first k
+pub tab-take : (f : ℕ → ℕ) {k n : ℕ} → k ≤ n → take k (tab f n) ≡ tab f k
+tab-take f {k} {n} h =
+    let long = tab-length f n in
+    tab-from f (take k (tab f n)) (length-take-le k (tab f n) (omega arith)) (λ j l. get_or-take k (tab f n) j 0 l ∙ get_d-tab f n j (omega arith))
 
 -- one value throughout
 pub tab-constant : {f : ℕ → ℕ} (n v : ℕ) → ((k : ℕ) → k < n → f k ≡ v) → replicate n v ≡ tab f n

@@ -11,18 +11,23 @@ use Rattle.std.specs.Array.{IsFromFnResult, IsFromFnResultFrom}
 use Rattle.numbers.specs.Lists.{tab}
 use Rattle.numbers.proofs.Lists.{tab-at, tab-ext}
 
-module _ {F : Type 0} (g : Mut F (ℕ × Unit {0}) ℕ) (f : F) (h : ℕ → ℕ)
-    (gives : (i y : ℕ) (q : F) → Called g f (i, tt) y q → (y ≡ h i) × (q ≡ f)) where
+-- what stands at each place of a list of values
+module _ {A F : Type 0} (g : Mut F (ℕ × Unit {0}) A) (f : F) (h : ℕ → A)
+    (gives : (i : ℕ) (y : A) (q : F) → Called g f (i, tt) y q → (y ≡ h i) × (q ≡ f)) where
   -- from a place on
-  made_from : (xs : List ℕ) (i n : ℕ) → IsFromFnResultFrom g f xs i n → (k : ℕ) → i ≤ k → k < i + n → get_or xs k 0 ≡ h k
-  made_from xs i zero w k a b = absurd (omega arith)
-  made_from xs i (suc n) (q, y, e, c, w) k a b =
+  pub made_from : (xs : List A) (i n : ℕ) → IsFromFnResultFrom g f xs i n → (d : A) (k : ℕ) → i ≤ k → k < i + n → get_or xs k d ≡ h k
+  made_from xs i zero w d k a b = absurd (omega arith)
+  made_from xs i (suc n) (q, y, e, c, w) d k a b =
       let same = gives i y q c in
       let rest = subst (λ (p : F). IsFromFnResultFrom g p xs (i + 1) n) same.1 w in
       ⊎_elim
-      (λ at. subst (λ (j : ℕ). get_or xs j 0 ≡ h j) at (e.1 0 ∙ same.0))
-      (λ past. made_from xs (i + 1) n rest k (omega arith) (omega arith)) (eq-or-lt_of_le a)
+      (λ at. subst (λ (j : ℕ). get_or xs j d ≡ h j) at (e.1 d ∙ same.0))
+      (λ past. made_from xs (i + 1) n rest d k (omega arith) (omega arith)) (eq-or-lt_of_le a)
 
+-- a list of numbers
+module _ {F : Type 0} (g : Mut F (ℕ × Unit {0}) ℕ) (f : F) (h : ℕ → ℕ)
+    (gives : (i y : ℕ) (q : F) → Called g f (i, tt) y q → (y ≡ h i) × (q ≡ f)) where
   -- all of it
   pub made-all : {xs : List ℕ} {n : ℕ} → IsFromFnResult g f xs n → xs ≡ tab h n
-  made-all {xs} {n} w = sym (tab-at xs w.long) ∙ tab-ext n (λ k l. made_from xs 0 n w.each k (omega arith) (omega arith))
+  made-all {xs} {n} w =
+      sym (tab-at xs w.long) ∙ tab-ext n (λ k l. made_from g f h gives xs 0 n w.each 0 k (omega arith) (omega arith))

@@ -1,40 +1,39 @@
 -- Cells counted one after another into a list of starts, by distance from 14:00, and rises: whatever is summed, the list gives what the cells give.
 -- Assumes nothing.
-use mathlib.Core.Bool.{Bool, true, false, cond, ◌&&◌}
+use mathlib.Core.Bool.{false}
 use mathlib.Core.List.{List}
-use mathlib.Core.Path.{◌≡◌, refl, sym, subst, ◌∙◌, ap}
-use Prim.Native.Nat.{ℕ, zero, suc, ◌+◌, ◌*◌, ◌^◌, ◌≤◌, ◌<◌, zero-le}
+use mathlib.Core.Logic.{◌⊎◌, inl, inr, ⊎_elim}
+use mathlib.Core.Path.{◌≡◌, refl, sym, ◌∙◌, ap}
+use Prim.Native.Nat.{ℕ, zero, suc, ◌+◌, ◌*◌, ◌^◌, ◌≤◌, ◌<◌, zero-le, max}
 use native.Mathlib.Decide.{ℕ_discrete, dec_le}
 use native.Mathlib.Nat.{add-mul}
-use native.Mathlib.Numerals.{add-one}
 use native.Mathlib.Omega.{arith}
-use borrow.Author.Tests.{eqb-true, eq-eqb, ne_eqb}
-use lib.Dec.{T, eqb}
 use lib.ListN.{length, set, replicate, length-set, length-replicate}
 use lib.Seq.{get_or-set_same, get_or-set_other}
 use Rattle.numbers.specs.Lists.{at, sum, AllAtMost}
-use Rattle.numbers.proofs.Lists.{sum-none, sum-ext, sum-le}
+use Rattle.numbers.proofs.Lists.{sum-none, sum_more, sum-ext}
 use Rattle.exact.specs.Factors.{total}
 use Rattle.parking.specs.Grid.{CellsInRange, apart_of}
-use Rattle.parking.proofs.Sums.{sum-next, sum-part, sum-within, sum-but-one, sum-short, total-is}
+use Rattle.parking.proofs.Sums.{sum-within, sum-but-one, total-is}
 use Rattle.parking.proofs.Tally.{apart_of-below, blank}
 use Rattle.parking.specs.declared.season_list.Entry.{Entry}
-use Rattle.parking.specs.SeasonList.{by_cell, none, entry_at, part, ListReady}
+use Rattle.parking.specs.declared.season_list.Kind.{Kind}
+use Rattle.parking.specs.SeasonList.{by_cell, none, entry_at, part, IsPlace, ListReady}
 
--- a value that does not ask for the start where there is no rise
+-- a value that is 0 where there is no rise
 abbrev Flat : (ℕ → ℕ → ℕ) → Type 0
-Flat f = (start : ℕ) → start < 25 → f start 0 ≡ f 0 0
+Flat f = (start : ℕ) → start < 25 → f start 0 ≡ 0
 
 -- The first n cells are counted.
 pub record Counted (cells rises : List ℕ) (n : ℕ) (entries : List Entry) (len : ℕ) : Type 0 where
   pub few : len ≤ n
-  pub long : length entries ≡ 577
+  pub long : length entries ≡ 576
   pub starts-below : (k : ℕ) → (entry_at entries k).kind.start ≤ 24
   pub rises-most : (bound : ℕ) → AllAtMost bound rises → (k : ℕ) → (entry_at entries k).kind.rise ≤ bound
-  -- behind the entries there is no rise, and nothing is counted but at the last place
-  pub no-rise : (k : ℕ) → len ≤ k → (entry_at entries k).kind.rise ≡ 0
-  pub nothing-counted : (k : ℕ) → len ≤ k → k < 576 → (entry_at entries k).count ≡ 0
-  pub sums : (f : ℕ → ℕ → ℕ) → Flat f → sum (part f entries) 577 ≡ by_cell cells rises f n
+  -- behind the entries there are none
+  pub behind : (k : ℕ) → len ≤ k → entry_at entries k ≡ none
+  pub counts-most : sum (λ (k : ℕ). (entry_at entries k).count) len ≤ sum (at cells) n
+  pub sums : (f : ℕ → ℕ → ℕ) → Flat f → sum (part f entries) len ≡ by_cell cells rises f n
 
 -- a list of zeros is below every bound
 pub blank-most : (n bound : ℕ) → AllAtMost bound (replicate n 0)
@@ -57,32 +56,17 @@ blank-entry (suc n) zero = refl
 blank-entry (suc n) (suc k) = blank-entry n k
 
 -- no cell is counted
-pub counted_none : (cells rises : List ℕ) → Counted cells rises 0 (replicate 577 none) 0
+pub counted_none : (cells rises : List ℕ) → Counted cells rises 0 (replicate 576 none) 0
+unfolding sum
 counted_none cells rises = record {
   few = zero-le;
-  long = length-replicate {A = Entry} 577 none;
-  starts-below = λ k. rw (blank-entry 577 k) zero-le;
-  rises-most = λ bound h k. rw (blank-entry 577 k) zero-le;
-  no-rise = λ k h. rw (blank-entry 577 k) refl;
-  nothing-counted = λ k h l. rw (blank-entry 577 k) refl;
-  sums = λ f h.
-      let nothing = sum-le (part f (replicate 577 none)) 0 577 (λ k l. rw (blank-entry 577 k) (omega arith)) in
-      omega (arith, nothing, sum-none (λ (cell : ℕ). at cells cell * f (apart_of false cell) (at rises cell)));
+  long = length-replicate {A = Entry} 576 none;
+  starts-below = λ k. rw (blank-entry 576 k) zero-le;
+  rises-most = λ bound h k. rw (blank-entry 576 k) zero-le;
+  behind = λ k h. blank-entry 576 k;
+  counts-most = zero-le;
+  sums = λ f h. sum-none (λ (cell : ℕ). at cells cell * f (apart_of false cell) (at rises cell));
 }
-
--- What the program does with a cell.
-
--- the entry is of this kind
-abbrev pub same : List Entry → ℕ → ℕ → ℕ → Bool
-same entries entry start rise = eqb (entry_at entries entry).kind.start start && eqb (entry_at entries entry).kind.rise rise
-
--- where the cell is counted: aside, at an entry like it, or at a new one
-abbrev pub slot : ℕ → Bool → ℕ → ℕ → ℕ
-slot rise found entry len = cond (eqb rise 0) 576 (cond found entry len)
-
--- how many entries there are then
-abbrev pub grown : ℕ → ℕ → ℕ
-grown place len = cond (eqb place len) (suc len) len
 
 -- One more cell.
 module _ {cells rises : List ℕ} {n : ℕ} {entries : List Entry} {len : ℕ} (c : Counted cells rises n entries len) (n576 : n < 576) where
@@ -92,171 +76,110 @@ module _ {cells rises : List ℕ} {n : ℕ} {entries : List Entry} {len : ℕ} (
   abbrev rise : ℕ
   rise = at rises n
 
+  -- a cell without rise or with a count of 0 is passed over
+  pub counted_past : (rise ≡ 0) ⊎ (at cells n ≡ 0) → Counted cells rises (n + 1) entries len
+  counted_past h = record {
+    few = omega (arith, c.few);
+    long = c.long;
+    starts-below = c.starts-below;
+    rises-most = c.rises-most;
+    behind = c.behind;
+    counts-most = omega (arith, c.counts-most, sum_more (at cells) n refl refl);
+    sums = λ f flat.
+        let nothing : at cells n * f start rise ≡ 0
+        = ⊎_elim (λ (e : rise ≡ 0). rw (e, flat start (apart_of-below false n)) (omega arith)) (λ (e : at cells n ≡ 0). rw e (omega arith)) h in
+        let counted = sum_more (λ (cell : ℕ). at cells cell * f (apart_of false cell) (at rises cell)) n refl refl in
+        omega (arith, c.sums f flat, counted, nothing);
+  }
+
   -- the entry with the cell
   abbrev with_cell : ℕ → Entry
   with_cell place = record { kind = record { start = start; rise = rise }; count = (entry_at entries place).count + at cells n }
 
-  -- what stands at a place gives what the cell's start and rise would
-  abbrev Alike : ℕ → Type 0
-  Alike place = (f : ℕ → ℕ → ℕ) → Flat f → part f entries place ≡ (entry_at entries place).count * f start rise
+  module _ (place : ℕ) (l : place < 576) where
+    abbrev stored : List Entry
+    stored = set entries place (with_cell place)
 
-  -- the cell is counted there
-  abbrev Stored : ℕ → ℕ → Type 0
-  Stored place len' = Counted cells rises (n + 1) (set entries place (with_cell place)) len'
+    here : entry_at stored place ≡ with_cell place
+    here = get_or-set_same entries place (with_cell place) none (rw c.long l)
 
-  stored : (place : ℕ) → place < 577 → Alike place → (f : ℕ → ℕ → ℕ) → Flat f
-      → sum (part f (set entries place (with_cell place))) 577 ≡ by_cell cells rises f (n + 1)
-  stored place l alike f flat =
-      let new : ℕ → ℕ = part f (set entries place (with_cell place)) in
-      let other : (k : ℕ) → (k ≡ place → ⊥) → new k ≡ part f entries k
-      = (λ k e. rw (get_or-set_other entries place k (with_cell place) none e) refl) in
-      let here : new place ≡ ((entry_at entries place).count + at cells n) * f start rise
-      = rw (get_or-set_same entries place (with_cell place) none (rw c.long l)) refl in
-      let more = sum-next (λ (cell : ℕ). at cells cell * f (apart_of false cell) (at rises cell)) n in
-      let split = add-mul (entry_at entries place).count (at cells n) (f start rise) in
-      rw add-one (omega (arith, sum-but-one (part f entries) new place 577 l other, here, split, alike f flat, c.sums f flat, more))
+    other : (k : ℕ) → (k ≡ place → ⊥) → entry_at stored k ≡ entry_at entries k
+    other k e = get_or-set_other entries place k (with_cell place) none e
 
-  -- what holds of the entry with the cell, and of every other, holds of all
-  all_of : (P : Entry → Type 0) (place : ℕ) → place < 577 → (k : ℕ) → P (with_cell place) → ((k ≡ place → ⊥) → P (entry_at entries k))
-      → P (entry_at (set entries place (with_cell place)) k)
-  all_of P place l k new old =
-      elim (ℕ_discrete k place) [
-        | yes e ↦ rw (e, get_or-set_same entries place (with_cell place) none (rw c.long l)) new
-        | no e ↦ rw (get_or-set_other entries place k (with_cell place) none e) (old e)
-      ]
+    -- what holds of the entry with the cell, and of every other, holds of all
+    all_of : (P : Entry → Type 0) (k : ℕ) → P (with_cell place) → P (entry_at entries k) → P (entry_at stored k)
+    all_of P k new old = elim (ℕ_discrete k place) [ yes e ↦ rw (e, here) new | no e ↦ rw (other k e) old ]
 
-  -- the whole state after it
-  after : (place : ℕ) → place < 577 → (len' : ℕ) → len ≤ len' → len' ≤ n + 1 → ((k : ℕ) → len' ≤ k → k < 576 → k ≡ place → ⊥)
-      → (len' ≤ place → rise ≡ 0) → Alike place → Stored place len'
-  after place l len' more most apart still alike = record {
-    few = most;
-    long = length-set entries place (with_cell place) ∙ c.long;
-    starts-below = λ k. all_of (λ (e : Entry). e.kind.start ≤ 24) place l k (omega (arith, apart_of-below false n)) (λ o. c.starts-below k);
-    rises-most = λ bound h k. all_of (λ (e : Entry). e.kind.rise ≤ bound) place l k (h.at_most n) (λ o. c.rises-most bound h k);
-    no-rise = λ k h.
-        elim (ℕ_discrete k place) [
-          | yes e ↦ rw (e, get_or-set_same entries place (with_cell place) none (rw c.long l)) (still (rw e at h))
-          | no e ↦ rw (get_or-set_other entries place k (with_cell place) none e) (c.no-rise k (omega arith))
-        ];
-    nothing-counted = λ k h m. rw (get_or-set_other entries place k (with_cell place) none (apart k h m)) (c.nothing-counted k (omega arith) m);
-    sums = stored place l alike;
-  }
+    -- where an entry's value is 0 if it is none, the sum of the entries' values has the new one in the old one's place
+    abbrev Grown : ℕ → Type 0
+    Grown len' = (v : Entry → ℕ) → v none ≡ 0
+        → sum (λ (k : ℕ). v (entry_at stored k)) len' + v (entry_at entries place) ≡ sum (λ (k : ℕ). v (entry_at entries k)) len + v (with_cell place)
 
-  -- where the cell goes
-  module _ (entry : ℕ) (inside : entry < 577) where
-    abbrev Next : ℕ → Type 0
-    Next place = Stored place (grown place len)
+    -- where what stands there gives what the cell's start and rise would, the cell is counted
+    counted_at : ((f : ℕ → ℕ → ℕ) → part f entries place ≡ (entry_at entries place).count * f start rise) → (len' : ℕ) → len ≤ len'
+        → len' ≤ n + 1 → place < len' → Grown len' → Counted cells rises (n + 1) stored len'
+    counted_at alike len' more most inside grown = record {
+      few = most;
+      long = length-set entries place (with_cell place) ∙ c.long;
+      starts-below = λ k. all_of (λ (e : Entry). e.kind.start ≤ 24) k (omega (arith, apart_of-below false n)) (c.starts-below k);
+      rises-most = λ bound h k. all_of (λ (e : Entry). e.kind.rise ≤ bound) k (h.at_most n) (c.rises-most bound h k);
+      behind = λ k h. other k (λ e. omega arith) ∙ c.behind k (omega arith);
+      counts-most =
+          let counted = sum_more (at cells) n refl refl in
+          omega (arith, grown (λ x. x.count) refl, c.counts-most, counted);
+      sums = λ f flat.
+          let counted = sum_more (λ (cell : ℕ). at cells cell * f (apart_of false cell) (at rises cell)) n refl refl in
+          let split = add-mul (entry_at entries place).count (at cells n) (f start rise) in
+          omega (arith, grown (λ x. x.count * f x.kind.start x.kind.rise) (omega arith), split, alike f, c.sums f flat, counted);
+    }
 
-    -- nowhere
-    without : rise ≡ 0 → Next 576
-    without e =
-        let free : (entry_at entries 576).kind.rise ≡ 0 = c.no-rise 576 (omega (arith, c.few)) in
-        let there : (entry_at entries 576).kind.start < 25 = omega (arith, c.starts-below 576) in
-        rw (ne_eqb 576 len (λ q. omega (arith, c.few)))
-        (after 576 (omega arith) len (omega arith) (omega (arith, c.few)) (λ k h m q. omega arith) (λ h. e)
-        (λ f flat.
-        ap (λ (x : ℕ). (entry_at entries 576).count * x)
-        (rw (e, free) (flat (entry_at entries 576).kind.start there ∙ sym (flat start (apart_of-below false n))))))
-
-    -- to an entry like it
-    found : (rise ≡ 0 → ⊥) → (entry_at entries entry).kind.start ≡ start → (entry_at entries entry).kind.rise ≡ rise → Next entry
-    found some em er =
-        let below : entry < len = elim (dec_le len entry) [ yes h ↦ absurd (some (sym er ∙ c.no-rise entry h)) | no h ↦ omega arith ] in
-        rw (ne_eqb entry len (λ q. omega arith))
-        (after entry inside len (omega arith) (omega (arith, c.few)) (λ k h m q. omega arith) (λ h. absurd (omega arith))
-        (λ f flat. rw (em, er)))
-
-    -- to a new one
-    made : (rise ≡ 0 → ⊥) → Next len
-    made some =
-        let free : (entry_at entries len).count ≡ 0 = c.nothing-counted len (omega arith) (omega (arith, c.few)) in
-        rw (eq-eqb len len refl)
-        (after len (omega (arith, c.few)) (suc len) (omega arith) (omega (arith, c.few)) (λ k h m q. omega arith) (λ h. absurd (omega arith))
-        (λ f flat. rw free (omega arith)))
-
-    -- both tests pass
-    both : (a b : Bool) → (a && b) ≡ true → (a ≡ true) × (b ≡ true)
-    both true b e = (refl, e)
-    both false b e = absurd (subst T (sym e) tt)
-
-    -- where there is a rise
-    counted-rising : (rise ≡ 0 → ⊥) → (t : Bool) → same entries entry start rise ≡ t → Next (cond t entry len)
-    counted-rising some true e =
-        let kind = (entry_at entries entry).kind in
-        let p = both (eqb kind.start start) (eqb kind.rise rise) e in
-        found some (eqb-true kind.start start p.0) (eqb-true kind.rise rise p.1)
-    counted-rising some false e = made some
-
-    pub counted-more : Next (slot rise (same entries entry start rise) entry len)
-    counted-more =
-        elim (ℕ_discrete rise 0) [
-          | yes e ↦ rw (eq-eqb rise 0 e) (without e)
-          | no e ↦ rw (ne_eqb rise 0 e) (counted-rising e (same entries entry start rise) refl)
-        ]
-
-    -- the place is one of the list, or the last
-    pub place-most : slot rise (same entries entry start rise) entry len ≤ 576
-    place-most =
-        elim (ℕ_discrete rise 0) [
-          | yes e ↦ rw (eq-eqb rise 0 e) (omega arith)
-          | no e ↦ rw (ne_eqb rise 0 e) (either (same entries entry start rise))
-        ]
-      where
-        either : (t : Bool) → cond t entry len ≤ 576
-        either true = omega arith
-        either false = omega (arith, c.few)
-
--- the program counts the cell there
-pub placed_at : {cells rises : List ℕ} {n : ℕ} {entries : List Entry} {len : ℕ} → Counted cells rises n entries len → n < 576
-    → (entry : ℕ) → entry < 577 → {start rise place : ℕ} {found : Bool} → start ≡ apart_of false n → rise ≡ at rises n
-    → found ≡ same entries entry start rise → place ≡ slot rise found entry len
-    → (place ≡ slot (at rises n) (same entries entry (apart_of false n) (at rises n)) entry len) × (place ≤ 576)
-placed_at {cells} {rises} {n} {entries} {len} c h entry inside {start} {rise} {place} em er ef ep =
-    let there : place ≡ slot (at rises n) (same entries entry (apart_of false n) (at rises n)) entry len = rw (← em, ← er, ← ef) ep in
-    (there, rw there (place-most c h entry inside))
+  -- at an entry of the cell's kind, or at a new one
+  pub counted_next : (kind : Kind) (entry place after : ℕ) → place < 576 → kind ≡ record { start = start; rise = rise } → (rise ≡ 0 → ⊥)
+      → IsPlace entries kind entry len place → after ≡ max len (place + 1)
+      → Counted cells rises (n + 1) (set entries place (record { kind = kind; count = (entry_at entries place).count + at cells n })) after
+  counted_next kind entry place after l is some (inl (p, k)) e =
+      let same : (entry_at entries place).kind ≡ record { start = start; rise = rise } = ap (λ (x : ℕ). (entry_at entries x).kind) p ∙ k ∙ is in
+      let inside : place < len = elim (dec_le len place) [
+        | yes h ↦ absurd (some (sym (ap (λ (x : Kind). x.rise) same) ∙ ap (λ (x : Entry). x.kind.rise) (c.behind place h)))
+        | no h ↦ omega arith
+      ] in
+      let still : after ≡ len = omega arith in
+      let grown : Grown place l len
+      = (λ v z. sum-but-one (λ (k : ℕ). v (entry_at entries k)) (λ (k : ℕ). v (entry_at (stored place l) k)) place len inside
+      (λ k q. ap v (other place l k q)) ∙ ap (λ (x : Entry). sum (λ (k : ℕ). v (entry_at entries k)) len + v x) (here place l)) in
+      rw (is, still) (counted_at place l (λ f. rw same refl) len (omega arith) (omega (arith, c.few)) inside grown)
+  counted_next kind entry place after l is some (inr p) e =
+      let free : (entry_at entries place).count ≡ 0 = ap (λ (x : Entry). x.count) (c.behind place (omega arith)) in
+      let longer : after ≡ len + 1 = omega arith in
+      let grown : Grown place l (len + 1)
+      = (λ v z.
+      let before = sum-ext len (λ k q. ap v (other place l k (λ m. omega arith))) in
+      let last = sum_more (λ (k : ℕ). v (entry_at (stored place l) k)) len refl refl in
+      omega (arith, before, last, ap (λ (k : ℕ). v (entry_at (stored place l) k)) p, ap v (here place l), ap v (c.behind place (omega arith)), z)) in
+      rw (is, longer) (counted_at place l (λ f. rw free (omega arith)) (len + 1) (omega arith) (omega (arith, c.few)) (omega arith) grown)
 
 -- no more is counted at a place than in the cells
 pub counted-most : {cells rises : List ℕ} {n : ℕ} {entries : List Entry} {len : ℕ} → Counted cells rises n entries len
-    → CellsInRange cells → n < 576 → (place : ℕ) → place < 577 → (entry_at entries place).count + at cells n ≤ 10 ^ 6
-counted-most {cells} {rises} {n} {entries} c r h place l =
-    let all : sum (λ (k : ℕ). (entry_at entries k).count * 1) 577 ≡ sum (λ (cell : ℕ). at cells cell * 1) n
-    = c.sums (λ start rise. 1) (λ start h. refl) in
-    let plain : sum (λ (cell : ℕ). at cells cell * 1) n ≡ sum (at cells) n = sum-ext n (λ k q. omega arith) in
-    let here = sum-within (λ (k : ℕ). (entry_at entries k).count * 1) {k = place} {n = 577} l in
+    → CellsInRange cells → n < 576 → (place : ℕ) → (entry_at entries place).count + at cells n ≤ 10 ^ 6
+counted-most {cells} {rises} {n} {entries} {len} c r h place =
+    let here : (entry_at entries place).count ≤ sum (at cells) n = elim (dec_le len place) [
+      | yes past ↦ omega (arith, ap (λ (x : Entry). x.count) (c.behind place past))
+      | no inside ↦ omega (arith, sum-within (λ (k : ℕ). (entry_at entries k).count) {k = place} {n = len} (omega arith), c.counts-most)
+    ] in
     let cell = sum-within (at cells) {k = n} {n = 576} h in
-    omega (arith, all, plain, here, cell, total-is cells, ap (sum (at cells)) r.length-is, r.total-most)
-
--- one more cell, from what the program has of it
-pub counted_next : {cells rises : List ℕ} {n : ℕ} {entries : List Entry} {len : ℕ} → Counted cells rises n entries len → n < 576
-    → (entry : ℕ) → entry < 577 → {start rise place after count : ℕ} → start ≡ apart_of false n → rise ≡ at rises n
-    → place ≡ slot (at rises n) (same entries entry (apart_of false n) (at rises n)) entry len → after ≡ grown place len → count ≡ at cells n
-    → Counted cells rises (n + 1)
-    (set entries place (record { kind = record { start = start; rise = rise }; count = (entry_at entries place).count + count })) after
-counted_next c h entry inside em er ep el ec = rw (em, er, el, ec, ep) (counted-more c h entry inside)
+    omega (arith, here, cell, total-is cells, ap (sum (at cells)) r.length-is, r.total-most)
 
 -- all cells counted: they are the list of the season
 pub counted-all : {cells rises : List ℕ} {n : ℕ} {entries : List Entry} {len : ℕ} → Counted cells rises n entries len → n ≡ 576
     → CellsInRange cells → ListReady cells rises (record { entries = entries; length = len })
 counted-all {cells} {rises} {n} {entries} {len} c e r =
-    let few : len ≤ 576 = omega (arith, c.few) in
+    let all : sum (at cells) n ≡ total cells = ap (sum (at cells)) (e ∙ sym r.length-is) ∙ sym (total-is cells) in
     record {
       fits = λ bound h. record {
-        length-most = few;
+        length-most = omega (arith, c.few);
         starts-below = λ k l. omega (arith, c.starts-below k);
         rises-most = λ k l. c.rises-most bound h k;
-        counts-most = omega (arith, sum-part (λ (k : ℕ). (entry_at entries k).count) {k = len} {n = 577} (omega arith), all-counts, r.total-most);
+        counts-most = omega (arith, c.counts-most, all, r.total-most);
       };
-      sum_is = λ f z.
-          sym (sum-short (part f entries) len 577 (omega arith) (nothing f z)) ∙
-          c.sums f (λ start h. z start h ∙ sym (z 0 (omega arith))) ∙
-          ap (by_cell cells rises f) e;
+      sum_is = λ f z. c.sums f z ∙ ap (by_cell cells rises f) e;
     }
-  where
-    -- all counts together
-    all-counts : sum (λ (k : ℕ). (entry_at entries k).count) 577 ≡ total cells
-    all-counts =
-        sum-ext 577 (λ k l. omega arith) ∙ c.sums (λ start rise. 1) (λ start h. refl) ∙ sum-ext n (λ k l. omega arith) ∙
-        ap (sum (at cells)) (e ∙ sym r.length-is) ∙ sym (total-is cells)
-
-    nothing : (f : ℕ → ℕ → ℕ) → ((start : ℕ) → start < 25 → f start 0 ≡ 0) → (k : ℕ) → len ≤ k → k < 577 → part f entries k ≡ 0
-    nothing f z k h l = rw (c.no-rise k h, z (entry_at entries k).kind.start (omega (arith, c.starts-below k))) (omega arith)

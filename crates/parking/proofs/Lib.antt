@@ -6,4 +6,3 @@ pub mod Passed
 pub mod Walked
 pub mod Carried
 pub mod Counted
-pub mod CountedRises

@@ -10,10 +10,10 @@ use Rattle.numbers.proofs.Lists.{get_d-tab}
 use Rattle.exact.specs.Day.{start_mark}
 use Rattle.exact.specs.Factors.{end_hour, duration}
 use Rattle.marks.specs.Marks.{passed}
+use Rattle.marks.proofs.Curve.{start_mark-below}
 use Rattle.marks.proofs.Permeation.{passed-most}
 use Rattle.factors.proofs.Losses.{duration-most}
 use Rattle.parking.specs.Grid.{passed_in}
-use Rattle.parking.proofs.Tally.{start_mark-below}
 
 -- one half-hour further back
 pub passed-more : (f : ℕ → ℕ) (hour d : ℕ) {s r : ℕ} → s ≡ passed f hour d → r ≡ f (start_mark hour (d + 1)) → s + r ≡ passed f hour (d + 1)

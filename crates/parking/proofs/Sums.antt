@@ -1,42 +1,30 @@
 -- Sums over a list of counts: taken from the front, in parts, by the places of the list; and how large they are.
 use mathlib.Core.Path.{◌≡◌, refl, sym, ◌∙◌, ap}
 use mathlib.Core.List.{List, [], ◌∷◌}
-use mathlib.Core.Logic.{⊎_elim}
 use Prim.Native.Nat.{ℕ, zero, suc, ◌+◌, ◌*◌, ◌≤◌, ◌<◌, zero-le}
+use native.Mathlib.Decide.{ℕ_discrete}
 use native.Mathlib.Omega.{arith}
-use native.Mathlib.Nat.{le_dest, eq-or-lt_of_le}
-use lib.ListN.{length}
-use Rattle.numbers.specs.Lists.{at, sum}
-use Rattle.numbers.proofs.Lists.{sum-ext}
+use lib.ListN.{length, set, take, length-set}
+use lib.Seq.{get_or-set_same, get_or-set_other}
+use Rattle.std.proofs.lemmas.List.Sums.{sum_by_more_le, sum_by-set}
+use Rattle.numbers.specs.Lists.{tab, at, sum}
+use Rattle.numbers.proofs.Lists.{sum-ext, sum-is, tab-length, tab-take, tab-from, get_d-tab}
 use Rattle.exact.specs.Factors.{total}
 use Rattle.factors.specs.Means.{weighted}
 
--- the last part apart
-pub sum-next : (f : ℕ → ℕ) (n : ℕ) → sum f (suc n) ≡ sum f n + f n
-unfolding sum
-sum-next f n = refl
-
--- the first part apart
+-- the first part apart; std has none of it for the list that a function makes of a range
 sum_first : (f : ℕ → ℕ) (n : ℕ) → sum f (suc n) ≡ f 0 + sum (λ (k : ℕ). f (suc k)) n
 unfolding sum
 sum_first f zero = omega arith
 sum_first f (suc n) = omega (arith, sum_first f n)
 
--- f 0 + .. + f (a + b − 1), cut at a
-sum-cut : (f : ℕ → ℕ) (a b : ℕ) → sum f (a + b) ≡ sum f a + sum (λ (k : ℕ). f (a + k)) b
-unfolding sum
-sum-cut f a zero = omega (arith, ap (sum f) {x = a + 0} {y = a} (omega arith))
-sum-cut f a (suc b) = ap (sum f) {x = a + suc b} {y = suc (a + b)} (omega arith) ∙ omega (arith, sum-cut f a b)
-
--- fewer parts are no more
-pub sum-part : (f : ℕ → ℕ) {k n : ℕ} → k ≤ n → sum f k ≤ sum f n
-sum-part f {k} {n} h =
-    let d = le_dest h in
-    omega (arith, sum-cut f k d.0, ap (sum f) d.1)
-
 -- a part and those before it are no more than all
 pub sum-within : (f : ℕ → ℕ) {k n : ℕ} → k < n → sum f k + f k ≤ sum f n
-sum-within f {k} {n} h = omega (arith, sum-next f k, sum-part f {k = suc k} {n = n} h)
+sum-within f {k} {n} h =
+    let front : take k (tab f n) ≡ tab f k = tab-take f (omega arith) in
+    let inside : k < length (tab f n) = rw (tab-length f n) h in
+    rw (sum-is f k, sum-is f n)
+    (rw (front, get_d-tab f n k h) at (sum_by_more_le (λ (x : ℕ). x) (tab f n) k 0 inside))
 
 -- so where the whole sum is below a limit, each step of adding it up is
 pub sum_fits : (f : ℕ → ℕ) {k n s r limit : ℕ} → k < n → sum f n < limit → s ≡ sum f k → r ≡ f k → s + r < limit
@@ -44,25 +32,16 @@ sum_fits f l h e g = omega (arith, sum-within f l)
 
 -- where two differ at one place, so do their sums
 pub sum-but-one : (g g' : ℕ → ℕ) (a n : ℕ) → a < n → ((k : ℕ) → (k ≡ a → ⊥) → g' k ≡ g k) → sum g' n + g a ≡ sum g n + g' a
-unfolding sum
-sum-but-one g g' a zero h e = absurd (omega arith)
-sum-but-one g g' a (suc n) h e =
-    let le : a ≤ n = omega arith in
-    ⊎_elim
-    (λ (q : a ≡ n).
-    let before : sum g' n ≡ sum g n = sum-ext n (λ k l. e k (λ z. omega arith)) in
-    rw (← q) (omega (arith, rw (← q) at before)))
-    (λ (q : a < n). omega (arith, sum-but-one g g' a n q e, e n (λ z. omega arith)))
-    (eq-or-lt_of_le le)
-
--- parts that are 0 add nothing
-pub sum-short : (g : ℕ → ℕ) (a n : ℕ) → a ≤ n → ((k : ℕ) → a ≤ k → k < n → g k ≡ 0) → sum g n ≡ sum g a
-unfolding sum
-sum-short g a zero h e = ap (sum g) {x = 0} {y = a} (omega arith)
-sum-short g a (suc n) h e =
-    ⊎_elim (λ (q : a ≡ suc n). rw q refl)
-    (λ (q : a < suc n). omega (arith, e n (omega arith) (omega arith), sum-short g a n (omega arith) (λ k l m. e k l (omega arith))))
-    (eq-or-lt_of_le h)
+sum-but-one g g' a n h e =
+    let inside : a < length (tab g n) = rw (tab-length g n) h in
+    let with_new : set (tab g n) a (g' a) ≡ tab g' n = tab-from g' (set (tab g n) a (g' a)) (length-set (tab g n) a (g' a) ∙ tab-length g n)
+    (λ k l.
+    elim (ℕ_discrete k a) [
+      | yes q ↦ rw q (get_or-set_same (tab g n) a (g' a) 0 inside)
+      | no q ↦ get_or-set_other (tab g n) a k (g' a) 0 q ∙ get_d-tab g n k l ∙ sym (e k q)
+    ]) in
+    rw (sum-is g n, sum-is g' n)
+    (rw (with_new, get_d-tab g n a h) at (sum_by-set (λ (x : ℕ). x) (tab g n) a (g' a) 0 inside))
 
 -- `weighted` is a sum over the places of the list
 pub weighted-is : (value : ℕ → ℕ) (first : ℕ) (counts : List ℕ)

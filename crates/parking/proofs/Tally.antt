@@ -9,18 +9,14 @@ use native.Mathlib.Decide.{ℕ_discrete}
 use lib.ListN.{length, set, replicate, length-set, length-replicate}
 use lib.Seq.{get_or-set_same, get_or-set_other}
 use Rattle.numbers.specs.Lists.{at, sum}
-use Rattle.numbers.proofs.Lists.{sum-none, sum-le}
+use Rattle.numbers.proofs.Lists.{sum-none, sum_more, sum-le}
 use Rattle.bounds.proofs.Laws.{apart-most}
-use Rattle.exact.specs.Day.{start_mark}
+use Rattle.marks.proofs.Curve.{start_mark-below}
 use Rattle.factors.specs.Units.{start_of, end_of}
 use Rattle.parking.specs.Grid.{mark_of, apart_of, tally}
-use Rattle.parking.proofs.Sums.{sum-next, sum-but-one}
+use Rattle.parking.proofs.Sums.{sum-but-one}
 
 -- a mark is below 48
-pub start_mark-below : (hour d : ℕ) → start_mark hour d < 48
-unfolding start_mark
-start_mark-below hour d = omega arith
-
 pub mark_of-below : (ends : Bool) (cell : ℕ) → mark_of ends cell < 48
 unfolding start_of end_of
 mark_of-below true cell = start_mark-below _ _
@@ -73,10 +69,11 @@ module _ (places : ℕ) (place : ℕ → ℕ) (cells : List ℕ) where
     tally-le zero k = omega (arith, sum-none (at cells), blank places k)
     tally-le (suc n) k =
         let old = tally places place cells n in
+        let counted = rw add-one at (sum_more (at cells) n refl refl) in
         elim (ℕ_discrete k (place n)) [
           | yes e ↦ rw (e, get_or-set_same old (place n) _ 0 (rw (tally-length n) (below n)))
-              (omega (arith, tally-le n (place n), sum-next (at cells) n))
-          | no e ↦ rw (get_or-set_other old (place n) k _ 0 e) (omega (arith, tally-le n k, sum-next (at cells) n))
+              (omega (arith, tally-le n (place n), counted))
+          | no e ↦ rw (get_or-set_other old (place n) k _ 0 e) (omega (arith, tally-le n k, counted))
         ]
 
     -- Σ over cells of count·g(place of the cell) = Σ over places of (how much the place counts)·g(place)
@@ -86,9 +83,10 @@ module _ (places : ℕ) (place : ℕ → ℕ) (cells : List ℕ) where
     by_place g zero = zeros places g places ∙ sum-none (λ (cell : ℕ). at cells cell * g (place cell))
     by_place g (suc n) =
         let old = tally places place cells n in
+        let counted = rw add-one at (sum_more (λ (cell : ℕ). at cells cell * g (place cell)) n refl refl) in
         omega (
           arith,
           by_place g n,
-          sum-next (λ (cell : ℕ). at cells cell * g (place cell)) n,
+          counted,
           sum-set g old (place n) (at old (place n) + at cells n) places (rw (tally-length n) (below n)) (below n),
         )

@@ -1,17 +1,14 @@
 -- Need not be believed: the list of a season's parkings that the program adds up for a row with a canister.
-use Rattle.std.specs.Prelude.{false, cond, List, ◌≡◌, ℕ, ◌*◌, ◌^◌, ◌≤◌, ◌<◌, eqb, get_or}
+use Rattle.std.specs.Prelude.{false, List, ◌≡◌, ◌⊎◌, ℕ, ◌*◌, ◌^◌, ◌≤◌, ◌<◌, get_or}
 use Rattle.numbers.specs.Lists.{at, sum, AllAtMost}
 use Rattle.parking.specs.Grid.{apart_of}
 use Rattle.parking.specs.declared.season_list.Entry.{Entry}
+use Rattle.parking.specs.declared.season_list.Kind.{Kind}
 use Rattle.parking.specs.declared.season_list.SeasonList.{SeasonList}
 
 -- what the first n cells give, of a value by the start's distance from 14:00 and by the rise
 abbrev pub by_cell : List ℕ → List ℕ → (ℕ → ℕ → ℕ) → ℕ → ℕ
 by_cell cells rises f n = sum (λ (cell : ℕ). at cells cell * f (apart_of false cell) (at rises cell)) n
-
--- the rise of a cell as the list has it: a cell with a count of 0 is left out, like one without rise
-abbrev pub counted_rise : ℕ → ℕ → ℕ
-counted_rise count rise = cond (eqb count 0) 0 rise
 
 -- an entry, and the one that stands for none
 abbrev pub none : Entry
@@ -19,6 +16,10 @@ none = record { kind = record { start = 0; rise = 0 }; count = 0 }
 
 abbrev pub entry_at : List Entry → ℕ → Entry
 entry_at entries k = get_or entries k none
+
+-- a place of a kind: an entry of that kind, or the one behind the last
+abbrev pub IsPlace : List Entry → Kind → ℕ → ℕ → ℕ → Type 0
+IsPlace entries kind entry length place = ((place ≡ entry) × ((entry_at entries entry).kind ≡ kind)) ⊎ (place ≡ length)
 
 -- what an entry gives
 abbrev pub part : (ℕ → ℕ → ℕ) → List Entry → ℕ → ℕ
@@ -31,8 +32,8 @@ by_entry list f = sum (part f list.entries) list.length
 -- how large its values are
 pub record ListFits (bound : ℕ) (list : SeasonList) : Type 0 where
   pub length-most : list.length ≤ 576
-  pub starts-below : (k : ℕ) → k < 577 → (entry_at list.entries k).kind.start < 25
-  pub rises-most : (k : ℕ) → k < 577 → (entry_at list.entries k).kind.rise ≤ bound
+  pub starts-below : (k : ℕ) → k < 576 → (entry_at list.entries k).kind.start < 25
+  pub rises-most : (k : ℕ) → k < 576 → (entry_at list.entries k).kind.rise ≤ bound
   pub counts-most : sum (λ (k : ℕ). (entry_at list.entries k).count) list.length ≤ 10 ^ 6
 
 -- For every value by start and rise that is 0 where the rise is, the entries give what the cells give.

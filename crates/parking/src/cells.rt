@@ -1,6 +1,6 @@
 // The cells of the grid, end hour 1 first, its 24 durations in a row: what they hold, and at which marks their parkings start and end.
 // They are one flat array since a sheet has them in this order.
-ghost use Rattle.std.specs.Prelude.{◌≡◌, ◌<◌, ◌≤◌, length};
+ghost use Rattle.std.specs.Prelude.{◌≡◌, ◌^◌, ◌<◌, ◌≤◌, length};
 ghost use Rattle.exact.specs.Day.{start_mark};
 ghost use Rattle.exact.specs.Factors.{total, products};
 ghost use Rattle.parking.specs.Grid.{CellsInRange, mark_of, is_end, apart_of, tally};
@@ -27,9 +27,10 @@ pub fn products(durations: [u64; 24], hours: [u64; 24]) -> [u64; 576]
 }
 
 // The mark at which a parking of d half-hours starts that ends at an hour; with d = 0, the mark at which it ends.
+// What is asked for only keeps the sum and the difference in range.
 #[tactic(auto, unfolding(exact::specs::Day::start_mark))]
 pub fn start_mark(hour: usize, d: usize) -> usize
-    requires { (hour ≤ 24) × (d ≤ 24) }
+    requires { (hour ≤ 2 ^ 62) × (d ≤ 48) }
     ensures { (result ≡ start_mark hour d) × (result < 48) }
 {
     (2 * hour + 48 - d) % 48
@@ -37,7 +38,6 @@ pub fn start_mark(hour: usize, d: usize) -> usize
 
 // The mark at which the parking of a cell starts, or ends.
 pub fn mark_of(cell: usize, moment: Moment) -> usize
-    requires { cell < 576 }
     ensures { (result ≡ mark_of (is_end moment) cell) × (result < 48) }
 {
     match moment {
@@ -48,7 +48,6 @@ pub fn mark_of(cell: usize, moment: Moment) -> usize
 
 // How far from 14:00 that mark is, in half-hours.
 pub fn apart_of(cell: usize, moment: Moment) -> usize
-    requires { cell < 576 }
     ensures { (result ≡ apart_of (is_end moment) cell) × (result ≤ 24) }
 {
     apart(mark_of(cell, moment))

@@ -1,7 +1,7 @@
 // The parkings that breathe, as a list made once a season: cells that start at one temperature and have one rise are one entry, and cells
 // without rise or with a count of 0 are none.
-ghost use Rattle.std.specs.Prelude.{cond, ◌≡◌, suc, ◌<◌, ◌≤◌, eqb};
-ghost use Rattle.parking.specs.SeasonList.{counted_rise, ListReady};
+ghost use Rattle.std.specs.Prelude.{◌<◌};
+ghost use Rattle.parking.specs.SeasonList.{IsPlace, ListReady};
 
 use crate::cells::{Moment, mark_of};
 use crate::grid::Grid;
@@ -24,7 +24,7 @@ pub struct Entry {
 // The entries of a season, of which the first `length` count.
 #[derive(Clone, Copy)]
 pub struct SeasonList {
-    pub entries: [Entry; 577],
+    pub entries: [Entry; 576],
     pub length: usize,
 }
 
@@ -34,38 +34,23 @@ const NONE: Entry = Entry {
     count: 0,
 };
 
-// Where cells that are no entries are counted: no entry stands there.
-const ASIDE: usize = 576;
-
-// The rise of a cell as the list has it: 0 where the cell counts nothing, so that the cell is no entry.
-fn counted_rise(count: u64, rise: u64) -> u64
-    ensures { result ≡ counted_rise count rise }
+// Where a cell of a kind is counted: at the entry that is looked at, if it is of that kind, or at a new one.
+fn place_of(entries: &[Entry; 576], kind: Kind, entry: usize, length: usize) -> usize
+    requires { (entry < 576) × (length < 576) }
+    ensures at { IsPlace entries.now kind entry length result }
+    ensures below { result < 576 }
 {
-    if count == 0 { 0 } else { rise }
-}
-
-// Where a cell is counted: aside, at an entry like it, or at a new one.
-fn slot(rise: u64, found: bool, entry: usize, len: usize) -> usize
-    ensures { result ≡ cond (eqb rise 0) 576 (cond found entry len) }
-{
-    if rise == 0 {
-        return ASIDE;
+    if entries[entry].kind == kind {
+        entry
+    } else {
+        length
     }
-    if found { entry } else { len }
-}
-
-// How many entries there are then.
-fn grown(place: usize, len: usize) -> usize
-    requires { len ≤ 576 }
-    ensures { result ≡ cond (eqb place len) (suc len) len }
-{
-    if place == len { len + 1 } else { len }
 }
 
 impl SeasonList {
     // A list without an entry, for where none is read.
     pub const EMPTY: SeasonList = SeasonList {
-        entries: [NONE; 577],
+        entries: [NONE; 576],
         length: 0,
     };
 
@@ -75,23 +60,24 @@ impl SeasonList {
     pub fn new(grid: &Grid, rises: &[u64; 576]) -> SeasonList
         ensures { ListReady grid.now.cells.counts rises.now result }
     {
-        let mut entries = [NONE; 577];
+        let mut entries = [NONE; 576];
         let mut last = [0usize; 48];
         let mut length: usize = 0;
         for (cell, &rise) in rises.iter().enumerate() {
-            let mark = mark_of(cell, Moment::Start);
             let count = grid.cells.counts[cell];
+            if rise == 0 || count == 0 {
+                continue;
+            }
+            let mark = mark_of(cell, Moment::Start);
             let kind = Kind {
                 start: apart(mark),
-                rise: counted_rise(count, rise),
+                rise,
             };
-            let entry = last[mark];
-            let found = entries[entry].kind == kind;
-            let place = slot(kind.rise, found, entry, length);
+            let place = place_of(&entries, kind, last[mark], length);
             let sum = entries[place].count + count;
             entries[place] = Entry { kind, count: sum };
             last[mark] = place;
-            length = grown(place, length);
+            length = length.max(place + 1);
         }
         SeasonList { entries, length }
     }

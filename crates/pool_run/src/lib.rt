@@ -16,7 +16,8 @@ ghost use Rattle.pool_run.specs.Ran.{PoolRan, PoolPrinted, PoolPrints};
 
 use pooling::PoolRefusal;
 use pooling_calls::length::pool_length;
-use program::sources::{Input, Sources};
+use program::input::Input;
+use program::sources::Sources;
 use program::{LONGEST, ROOM, STANDARD_ERROR, Status, Streams};
 use refusals::Refusal;
 use std::io::Write;

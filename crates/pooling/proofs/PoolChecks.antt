@@ -24,7 +24,7 @@ use Rattle.sheet.specs.Demands.{Met, demands}
 use Rattle.sheet.proofs.Versions.{most-many}
 use Rattle.sheet.proofs.Checks.{met-passes, judges-each}
 use Rattle.sheet.proofs.Conditions.{mark-judged, length-judged, parking-judged, season-judged, row-judged, sheet-judged}
-use Rattle.sheet.proofs.Stages.{then-pass-right, each_append}
+use Rattle.refusals.proofs.Chain.{then-pass-right, each_append}
 use Rattle.sheet.proofs.BeforeRows.{each-cong}
 use Rattle.sheet.proofs.Local.{Same, byte_at, word_at, equipment-same}
 use Rattle.sheet.proofs.NextVersion.{SheetKept, counts-kept, season-kept, days-kept, some-kept}

@@ -13,7 +13,7 @@ use Rattle.sheet.specs.Bytes.{rows_of}
 use Rattle.sheet.specs.RunningSums.{vehicles_before}
 use Rattle.sheet.specs.Demands.{FirstUnmet}
 use Rattle.sheet.proofs.Checks.{Judges, judges-refuse, judges-then, judges-each, ltb-tests, met-passes, says, ◌⊳◌}
-use Rattle.sheet.proofs.Stages.{go}
+use Rattle.refusals.proofs.Chain.{hands_on}
 use Rattle.sheet.proofs.Accepted.{accepted}
 use Rattle.sheet.proofs.Fleet.{vehicles-rise}
 use Rattle.pooling.specs.Pool.{region_check, pair_check, pool_check}
@@ -33,7 +33,7 @@ unfolding pool_check
 left-judged a b room p q =
     let left : Judges (pair_check a b room) (left_demands a b room) =
     rw (late a b room p q) (differ-tests a b ⊳ judges-then (late-judged a b) (judges-refuse (ltb-tests _ _))) in
-    rw (sym (go (region_check a) (region_check b then pair_check a b room) refl p (go (region_check b) (pair_check a b room) refl q refl))) left
+    rw (hands_on (region_check a) (region_check b then pair_check a b room) p, hands_on (region_check b) (pair_check a b room) q) left
 
 -- the numbers of these demands
 numbers : (a b : List ℕ) (room n p : ℕ) → FirstUnmet n p (left_demands a b room) → (n ≡ 32) ⊎ ((n ≡ 5) ⊎ ((n ≡ 26) ⊎ (n ≡ 22)))

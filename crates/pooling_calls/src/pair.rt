@@ -8,8 +8,9 @@ ghost use Rattle.inventory.specs.ReportCall.{written};
 ghost use Rattle.pooling.specs.Pool.{pool, some_differs, differ, pair_check};
 ghost use Rattle.pooling.specs.Late.{Regions, fleet_check, late_check};
 
+use checks::accepted::Accepted;
 use fields::limits::{FLEET_LIMIT, MANY_ROWS_LIMIT};
-use fields::{GRID_START, ROW_BYTES, fleet_of, row_place, rows_of, seasons_of, vehicles_of};
+use fields::{GRID_START, ROW_BYTES, row_place};
 use refusals::{Check, Rule, refuse};
 
 // Where the row count stands.
@@ -18,9 +19,9 @@ const COUNT_START: usize = 6;
 // Two sheets, each of which passes the checks of a region's.
 #[derive(Clone, Copy)]
 pub struct Pair<'a> {
-    first: &'a [u8],
-    second: &'a [u8],
-    pub ghost regions: { Regions first.now second.now },
+    first: Accepted<'a>,
+    second: Accepted<'a>,
+    pub ghost regions: { Regions first.bytes.now second.bytes.now },
 }
 
 // One of the first n bytes after the head differs.
@@ -43,22 +44,25 @@ fn put(out: &mut [u8], place: usize, bytes: &[u8])
 impl<'a> Pair<'a> {
     pub fn of(first: &'a [u8], second: &'a [u8]) -> Pair<'a>
         requires { Regions first.now second.now }
-        ensures { (result.first.now ≡ first.now) × (result.second.now ≡ second.now) }
+        ensures { (result.first.bytes.now ≡ first.now) × (result.second.bytes.now ≡ second.now) }
     {
-        Pair { first, second }
+        Pair {
+            first: Accepted { bytes: first },
+            second: Accepted { bytes: second },
+        }
     }
 
     // The parking or the seasons differ.
     fn differ(&self) -> bool
-        ensures { result ≡ differ self.now.first.now self.now.second.now }
+        ensures { result ≡ differ self.now.first.bytes.now self.now.second.bytes.now }
     {
-        if seasons_of(self.first) != seasons_of(self.second) {
+        if self.first.seasons() != self.second.seasons() {
             return true;
         }
         bytes_differ(
-            self.first,
-            self.second,
-            row_place(self.first, 0) - GRID_START,
+            self.first.bytes,
+            self.second.bytes,
+            row_place(self.first.bytes, 0) - GRID_START,
         )
     }
 
@@ -66,12 +70,12 @@ impl<'a> Pair<'a> {
     // `try_fold` would carry it through a closure that needs the same invariant, and is no plainer.
     #[tactic(auto, using(refusals::proofs::Chain::chained))]
     fn fleet_check(&self) -> Check
-        ensures { result ≡ each (fleet_check self.now.first.now self.now.second.now) (rows_of self.now.second.now) }
+        ensures { result ≡ each (fleet_check self.now.first.bytes.now self.now.second.bytes.now) (rows_of self.now.second.bytes.now) }
     {
-        let mut vehicles = fleet_of(self.first);
-        for i in 0..rows_of(self.second) {
-            vehicles += vehicles_of(self.second, i);
-            let place = self.first.len() + ROW_BYTES * i;
+        let mut vehicles = self.first.fleet();
+        for i in 0..self.second.rows() {
+            vehicles += self.second.vehicles(i);
+            let place = self.first.bytes.len() + ROW_BYTES * i;
             refuse(FLEET_LIMIT < vehicles, Rule::Fleet, place as u64)?;
         }
         Ok(())
@@ -80,9 +84,9 @@ impl<'a> Pair<'a> {
     // What is left of the pooled sheet's checks: its rows and its vehicles.
     #[tactic(auto, using(refusals::proofs::Chain::chained), unfolding(pooling::specs::Late::late_check))]
     fn late_check(&self) -> Check
-        ensures { result ≡ late_check self.now.first.now self.now.second.now }
+        ensures { result ≡ late_check self.now.first.bytes.now self.now.second.bytes.now }
     {
-        let rows = rows_of(self.first) + rows_of(self.second);
+        let rows = self.first.rows() + self.second.rows();
         refuse(MANY_ROWS_LIMIT < rows as u64, Rule::Rows, 6)?;
         self.fleet_check()
     }
@@ -90,7 +94,7 @@ impl<'a> Pair<'a> {
     // The two together, with this much room for their pool.
     #[tactic(auto, using(refusals::proofs::Chain::chained, pooling::proofs::PoolAnswers::late))]
     pub fn check(&self, room: usize) -> Check
-        ensures { result ≡ pair_check self.now.first.now self.now.second.now room }
+        ensures { result ≡ pair_check self.now.first.bytes.now self.now.second.bytes.now room }
     {
         refuse(self.differ(), Rule::Differ, 0)?;
         self.late_check()?;
@@ -99,20 +103,20 @@ impl<'a> Pair<'a> {
 
     // How long the pooled sheet is: the first sheet, and the second's rows.
     pub fn length(&self) -> usize
-        ensures { result ≡ length (pool self.now.first.now self.now.second.now) }
+        ensures { result ≡ length (pool self.now.first.bytes.now self.now.second.bytes.now) }
     {
-        self.first.len() + ROW_BYTES * rows_of(self.second)
+        self.first.bytes.len() + ROW_BYTES * self.second.rows()
     }
 
     // The pooled sheet at the front of a buffer that has room for it: the first sheet with the row count of both, then the rows of the second.
     pub fn write(&self, out: &mut [u8])
-        requires { length (pool self.now.first.now self.now.second.now) ≤ length out.old }
-        ensures { out.new ≡ written Pass (pool self.now.first.now self.now.second.now) out.old }
+        requires { length (pool self.now.first.bytes.now self.now.second.bytes.now) ≤ length out.old }
+        ensures { out.new ≡ written Pass (pool self.now.first.bytes.now self.now.second.bytes.now) out.old }
     {
-        let count = (rows_of(self.first) + rows_of(self.second)) as u16;
-        let (_, rows) = self.second.split_at(row_place(self.second, 0));
-        put(out, 0, self.first);
+        let count = (self.first.rows() + self.second.rows()) as u16;
+        let (_, rows) = self.second.bytes.split_at(row_place(self.second.bytes, 0));
+        put(out, 0, self.first.bytes);
         put(out, COUNT_START, &count.to_le_bytes());
-        put(out, self.first.len(), rows);
+        put(out, self.first.bytes.len(), rows);
     }
 }

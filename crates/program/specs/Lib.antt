@@ -3,3 +3,4 @@ pub mod Printed
 pub mod Reads
 pub mod Status
 pub mod Writes
+pub mod Sources

@@ -11,6 +11,7 @@ ghost use Rattle.program.specs.Printed.{Wrote, AnswerPrinted};
 ghost use Rattle.program.specs.Status.{status_number};
 ghost use Rattle.program.specs.Writes.{standard_output, Writes, AnswerWritten};
 
+pub mod input;
 pub mod one_sheet;
 pub mod sources;
 

@@ -5,7 +5,8 @@ ghost use Rattle.program.specs.Ends.{Ends, sheet_status};
 ghost use Rattle.program.specs.Printed.{SheetPrinted, PrintsRead};
 ghost use Rattle.program.specs.Status.{status_number};
 
-use crate::sources::{Input, NotRead, Sources};
+use crate::input::{Input, NotRead};
+use crate::sources::Sources;
 use crate::{ROOM, Status, Streams, WORDS, write_answer};
 use inventory::check::report_check;
 use std::io::Write;

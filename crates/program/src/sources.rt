@@ -1,9 +1,11 @@
 // The sheets of a program: which they are, and how their bytes are read.
 ghost use Rattle.std.specs.Prelude.{◌≡◌, ℕ, ◌≤◌, List, Option, length, take, None, IfOk, OnOk, OnErr, IfSome};
 ghost use Rattle.std.specs.Io.KnownBytes.{Keeps};
-ghost use Rattle.program.specs.Reads.{Taken, taken-once, Unread};
+ghost use Rattle.program.specs.Reads.{Unread};
 ghost use Rattle.program.specs.Printed.{Takes};
+ghost use Rattle.program.specs.Sources.{ReadsSource};
 
+use crate::input::{Input, NotRead, Reading};
 use crate::say;
 use std::alloc::{AllocError, Allocator};
 use std::env::{Env, FillError};
@@ -15,18 +17,6 @@ use std::io::{Read, Write};
 // The longest name of a file, with one byte more.
 const PATH: usize = 4096;
 
-// What was read of a source: the number of the source, and its bytes.
-#[derive(Clone, Copy)]
-pub struct Input<'a> {
-    pub source: usize,
-    pub bytes: &'a [u8],
-    pub ghost is_taken: { Taken source bytes.now } by { taken-once source bytes.now },
-}
-
-// A source could not be read, which has been said on standard error.
-#[derive(Clone, Copy, PartialEq, Eq)]
-pub struct NotRead;
-
 // Where a program has its sheets from. Source i is the file that argument i names; standard input, in place of argument 1,
 // is source 1.
 pub trait Sources {
@@ -36,20 +26,12 @@ pub trait Sources {
     // Reads source i until the buffer is full or the input ends, or says on standard error why it cannot. An input longer
     // than the buffer counts as read: the buffer has one byte more than the longest sheet, so that what is in it is
     // refused by its length, as the input would be whole.
-    fn read<'b, E: Write>(
-        &self,
-        i: usize,
-        buffer: &'b mut [u8],
-        err: &mut E,
-    ) -> Result<Input<'b>, NotRead>
-        ensures source { IfOk result (λ input. input.source ≡ i) }
-        ensures unread { OnErr result (Unread i) }
-        ensures known { IfOk result (λ input. IfSome (bytes self.now i) (λ xs. Takes xs (length buffer.old) input.bytes.now)) }
-        ensures silent { OnOk result (Keeps (E.contents err.old) (E.contents err.new)) };
+    fn read<'b, E: Write>(&self, i: usize, buffer: &'b mut [u8], err: &mut E) -> Reading<'b>
+        ensures read { ReadsSource i result (E.contents err.old) (E.contents err.new) }
+        ensures known { IfOk result (λ input. IfSome (bytes self.now i) (λ xs. Takes xs (length buffer.old) input.bytes.now)) };
 }
 
-// Reads source i until the buffer is full or the input ends. `read_full` of vectors is a second one: with this one, whose promise none of
-// them needs, all programs of vectors would stand on the crates of the report.
+// Reads source i until the buffer is full or the input ends.
 fn read<'b, R: Read>(from: &mut R, i: usize, buffer: &'b mut [u8]) -> io::Result<Input<'b>>
     ensures source { IfOk result (λ input. input.source ≡ i) }
     ensures known { IfOk result (λ input. IfSome (R.remaining from.old) (λ xs. Takes xs (length buffer.old) input.bytes.now)) }
@@ -159,10 +141,8 @@ impl<R: Files + Alloc> Program<'_, R> {
         path: &str,
         buffer: &'b mut [u8],
         err: &mut E,
-    ) -> Result<Input<'b>, NotRead>
-        ensures source { IfOk result (λ input. input.source ≡ i) }
-        ensures unread { OnErr result (Unread i) }
-        ensures silent { OnOk result (Keeps (E.contents err.old) (E.contents err.new)) }
+    ) -> Reading<'b>
+        ensures { ReadsSource i result (E.contents err.old) (E.contents err.new) }
     {
         let mut file = match File::open(self.rt, path) {
             Ok(file) => file,
@@ -175,25 +155,6 @@ impl<R: Files + Alloc> Program<'_, R> {
     }
 }
 
-impl<R: io::Input> Program<'_, R> {
-    // The sheet of standard input, in place of argument 1.
-    fn read_input<'b, E: Write>(
-        &self,
-        buffer: &'b mut [u8],
-        err: &mut E,
-    ) -> Result<Input<'b>, NotRead>
-        ensures source { IfOk result (λ input. input.source ≡ 1) }
-        ensures unread { OnErr result (Unread 1) }
-        ensures silent { OnOk result (Keeps (E.contents err.old) (E.contents err.new)) }
-    {
-        let name = self.name;
-        match read(&mut self.rt.reader(), 1, buffer) {
-            Ok(input) => Ok(input),
-            Err(_) => Err(fail(1, format_args!("{name}: cannot read standard input\n"), err)),
-        }
-    }
-}
-
 impl<R: Env + Files + Alloc> Program<'_, R> {
     // The sheet of the file that argument i names.
     pub fn read_argument<'b, E: Write>(
@@ -201,10 +162,8 @@ impl<R: Env + Files + Alloc> Program<'_, R> {
         i: usize,
         buffer: &'b mut [u8],
         err: &mut E,
-    ) -> Result<Input<'b>, NotRead>
-        ensures source { IfOk result (λ input. input.source ≡ i) }
-        ensures unread { OnErr result (Unread i) }
-        ensures silent { OnOk result (Keeps (E.contents err.old) (E.contents err.new)) }
+    ) -> Reading<'b>
+        ensures { ReadsSource i result (E.contents err.old) (E.contents err.new) }
     {
         let name = self.name;
         let mut text = [0u8; PATH];
@@ -222,20 +181,17 @@ impl<R: Env + Files + Alloc> Program<'_, R> {
 
 impl<R: Env + Files + io::Input + Alloc> Program<'_, R> {
     // The one sheet of a program: of the file that its argument names, or of standard input where it has none.
-    pub fn read_sheet<'b, E: Write>(
-        &self,
-        buffer: &'b mut [u8],
-        err: &mut E,
-    ) -> Result<Input<'b>, NotRead>
-        ensures source { IfOk result (λ input. input.source ≡ 1) }
-        ensures unread { OnErr result (Unread 1) }
-        ensures silent { OnOk result (Keeps (E.contents err.old) (E.contents err.new)) }
+    pub fn read_sheet<'b, E: Write>(&self, buffer: &'b mut [u8], err: &mut E) -> Reading<'b>
+        ensures { ReadsSource 1 result (E.contents err.old) (E.contents err.new) }
     {
+        let name = self.name;
         if !self.has_argument(1) {
-            return self.read_input(buffer, err);
+            return match read(&mut self.rt.reader(), 1, buffer) {
+                Ok(input) => Ok(input),
+                Err(_) => Err(fail(1, format_args!("{name}: cannot read standard input\n"), err)),
+            };
         }
         if self.has_argument(2) | self.is_option(1) {
-            let name = self.name;
             let usage = format_args!(
                 "usage: {name} [FILE]   without FILE the sheet is read from standard input\n"
             );
@@ -257,12 +213,7 @@ impl<'a, R> OneSheet<'a, R> {
 }
 
 impl<R: Env + Files + io::Input + Alloc> Sources for OneSheet<'_, R> {
-    fn read<'b, E: Write>(
-        &self,
-        i: usize,
-        buffer: &'b mut [u8],
-        err: &mut E,
-    ) -> Result<Input<'b>, NotRead> {
+    fn read<'b, E: Write>(&self, i: usize, buffer: &'b mut [u8], err: &mut E) -> Reading<'b> {
         if i == 1 {
             return self.0.read_sheet(buffer, err);
         }
@@ -281,12 +232,7 @@ impl<'a, R> TwoSheets<'a, R> {
 }
 
 impl<R: Env + Files + Alloc> Sources for TwoSheets<'_, R> {
-    fn read<'b, E: Write>(
-        &self,
-        i: usize,
-        buffer: &'b mut [u8],
-        err: &mut E,
-    ) -> Result<Input<'b>, NotRead> {
+    fn read<'b, E: Write>(&self, i: usize, buffer: &'b mut [u8], err: &mut E) -> Reading<'b> {
         self.0.two_named(i, err)?;
         self.0.read_argument(i, buffer, err)
     }

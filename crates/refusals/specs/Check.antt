@@ -24,15 +24,15 @@ unfoldable pub refuse : Bool → Rule → ℕ → Check
 refuse true rule place = Refused rule place
 refuse false rule place = Pass
 
--- the first of two that applies
+-- the first of two that applies, whatever it refuses by
 infixr 5 ◌then◌
-unfoldable pub ◌then◌ : Check → Check → Check
+unfoldable pub ◌then◌ : {E : Type 0} → Result (Unit {0}) E → Result (Unit {0}) E → Result (Unit {0}) E
 Ok _ then later = later
 Err refusal then later = Err refusal
 
 -- the first that applies of records 0, 1, .. n − 1
-unfoldable pub each : (ℕ → Check) → ℕ → Check
-each check zero = Pass
+unfoldable pub each : {E : Type 0} → (ℕ → Result (Unit {0}) E) → ℕ → Result (Unit {0}) E
+each check zero = Ok tt
 each check (suc n) = each check n then check n
 
 -- "a definition gives this paper's number and values for each of the enum's cases": an answer's number and place, where number 0

@@ -18,7 +18,8 @@ use std::io::Write;
 // The bytes of the longest text: 151 · 1,000 + 622.
 const TEXT: usize = 151622;
 
-// The text that the program makes of a sheet.
+// The text that the program makes of a sheet. The programs `report` and `species` differ in it, in its length and in their names, and share
+// all else in `print_sheet`.
 #[derive(Drop)]
 struct Report;
 

@@ -5,7 +5,6 @@ use Rattle.std.proofs.Common.{mod-eq_of_lt, add-one, arith, length-append, lengt
 use lib.Seq.{sets}
 use Rattle.numbers.specs.Lists.{tab, at}
 use Rattle.numbers.proofs.Lists.{tab-length, get_d-tab}
-use Rattle.numbers.proofs.Stores.{sets-before}
 use Rattle.sheet.specs.Bytes.{rows_of, row_at}
 use Rattle.sheet.proofs.Accepted.{Bytes, Accepted}
 use Rattle.report_words.specs.Report.{words_of, subtotal, grand_total}
@@ -34,14 +33,6 @@ module _ (s words : List ℕ) (f : ℕ → Bool) where
     pub sum_same : f (row_at s i).class ≡ false → sum ≡ buffer_sum s words f (i + 1) j % 2 ^ 64
     unfolding buffer_sum counted
     sum_same h = rw (add-one, h) (omega arith)
-
--- a sum over the rows does not see what is stored after their words
-pub sum_kept : (s words vs : List ℕ) (p : ℕ) (f : ℕ → Bool) (n j : ℕ) → 6 * n ≤ p → j < 6
-    → buffer_sum s (sets words p vs) f n j ≡ buffer_sum s words f n j
-unfolding buffer_sum
-sum_kept s words vs p f zero j h l = refl
-sum_kept s words vs p f (suc n) j h l =
-    cc (sum_kept s words vs p f n j (omega arith) l, sets-before words p vs (6 * n + j) (omega arith))
 
 -- Where the rows' words are the report's.
 module _ {s : List ℕ} (bytes : Bytes s) (a : Accepted s) (words : List ℕ)

@@ -3,3 +3,4 @@ pub mod SumSizes
 pub mod ReportSizes
 pub mod GrandTotal
 pub mod BufferSums
+pub mod SumParts

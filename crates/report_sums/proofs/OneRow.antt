@@ -1,9 +1,9 @@
 -- One row's year and its six words, apart from the others, and the report around them.
 -- Assumes nothing.
-use Rattle.std.proofs.Common.{◌≡◌, ℕ, ◌+◌, ◌-◌, ◌*◌, ◌^◌, ◌<◌, ◌≤◌, List, [], ◌∷◌, ◌++◌, length, get_or, take, drop, sym, refl, ap, ◌∙◌, append-nil}
-use Rattle.std.proofs.Common.{arith, drop_of_length-le, length-take-le, get_or-take, ext_get_or}
+use Rattle.std.proofs.Common.{◌≡◌, ℕ, ◌+◌, ◌-◌, ◌*◌, ◌^◌, ◌<◌, ◌≤◌, List, [], ◌∷◌, ◌++◌, length, get_or, take, sym, refl, ap, ◌∙◌}
+use Rattle.std.proofs.Common.{arith, length-take-le, get_or-take, ext_get_or}
 use native.Mathlib.Decide.{dec_le}
-use lib.Seq.{sets, length-sets, sets-eq}
+use lib.Seq.{sets, length-sets}
 use Rattle.numbers.specs.Lists.{tab, at}
 use Rattle.numbers.proofs.Lists.{tab-length, get_d-tab, tab-ext, tab-at, sum-none, sum_more}
 use Rattle.numbers.proofs.Stores.{sets-before, sets-in, sets-beyond, drop-sets}
@@ -13,9 +13,9 @@ use Rattle.masses.specs.Day.{day_figures}
 use Rattle.masses.specs.Figures.{row_figures}
 use Rattle.masses.proofs.MassSizes.{year-fits}
 use Rattle.report_words.specs.Report.{words_of}
-use Rattle.report_words.specs.Years.{season_figure, days_added, SumsFit, filled, report_word}
+use Rattle.report_words.specs.Years.{season_figure, days_added, SumsFit, for_vehicles, filled, report_word}
 use Rattle.report_words.proofs.ReportPlaces.{row-word-at}
-use Rattle.report_words.proofs.YearWords.{row-year-most}
+use Rattle.report_words.proofs.YearWords.{row-year-most, word-from-year}
 use Rattle.report_sums.proofs.BufferSums.{resummed-is}
 use Rattle.report_sums.specs.Renewed.{renewed}
 use Rattle.report_sums.specs.RowYear.{row_year}
@@ -32,38 +32,37 @@ year-none s i = tab-ext 6 (λ m l. sum-none (season_figure s i m))
 
 -- One season more.
 module _ (s : List ℕ) (i j : ℕ) {year : List ℕ} (e : year ≡ tab (row_year s i j) 6) where
-  added : (m : ℕ) → m < 6 → days_added year 0 (season_at s j).days (day_figures (cells_of s) (season_at s j) (row_at s i)) m ≡ row_year s i (j + 1) m
+  added : (m : ℕ) → m < 6 → days_added year (season_at s j).days (day_figures (cells_of s) (season_at s j) (row_at s i)) m ≡ row_year s i (j + 1) m
   unfolding season_figure
-  added m h =
-      let place : 0 + m ≡ m = omega arith in
-      sum_more (season_figure s i m) j (rw (place, e) (get_d-tab (row_year s i j) 6 m h)) refl
+  added m h = sum_more (season_figure s i m) j (rw e (get_d-tab (row_year s i j) 6 m h)) refl
 
   pub season-fits : Bytes s → Accepted s → i < rows_of s → j < seasons_of s
-      → SumsFit year 0 (season_at s j).days (day_figures (cells_of s) (season_at s j) (row_at s i))
+      → SumsFit year (season_at s j).days (day_figures (cells_of s) (season_at s j) (row_at s i))
   season-fits bytes a row season =
       record { sum_fits = λ m h. rw (added m h) (omega (arith, row-year-most bytes a i m (j + 1) row (omega arith), year-fits)) }
 
-  pub season-more : sets year 0
-      (tab (days_added year 0 (season_at s j).days (day_figures (cells_of s) (season_at s j) (row_at s i))) 6) ≡ tab
+  pub season-more : tab (days_added year (season_at s j).days (day_figures (cells_of s) (season_at s j) (row_at s i))) 6 ≡ tab
       (row_year s i (j + 1)) 6
-  season-more =
-      let six : List ℕ = tab (days_added year 0 (season_at s j).days (day_figures (cells_of s) (season_at s j) (row_at s i))) 6 in
-      let size : length six ≡ 6 = tab-length _ 6 in
-      let long : length year ≡ 6 = rw e (tab-length _ 6) in
-      let whole : sets year 0 six ≡ six ++ drop (0 + length six) year = sets-eq six year 0 (omega arith) in
-      whole ∙ ap (λ (r : List ℕ). six ++ r) (drop_of_length-le year {i = 0 + length six} (omega arith)) ∙ append-nil six ∙ tab-ext 6 added
+  season-more = tab-ext 6 added
 
 -- the figures of all seasons fit 64 bits
 pub year-bits : {s : List ℕ} → Bytes s → Accepted s → (i m : ℕ) → i < rows_of s → row_year s i (seasons_of s) m < 2 ^ 64
 year-bits {s} bytes a i m there = omega (arith, row-year-most bytes a i m (seasons_of s) there (omega arith), year-fits)
 
 -- six words, which are those of the report
-words-length : (s : List ℕ) (i : ℕ) → length (words_of s i) ≡ 6
+pub words-length : (s : List ℕ) (i : ℕ) → length (words_of s i) ≡ 6
 unfolding words_of row_figures
 words-length s i = refl
 
-pub words-tab : (s : List ℕ) (i : ℕ) → tab (λ (m : ℕ). get_or (words_of s i) m 0) 6 ≡ words_of s i
+words-tab : (s : List ℕ) (i : ℕ) → tab (λ (m : ℕ). get_or (words_of s i) m 0) 6 ≡ words_of s i
 words-tab s i = tab-at (words_of s i) (words-length s i)
+
+-- what six figures of the year are in milligrams
+pub words-made : (s : List ℕ) (i : ℕ) {year six : List ℕ} {vehicles : ℕ} → year ≡ tab (row_year s i (seasons_of s)) 6
+    → vehicles ≡ (row_at s i).vehicles → six ≡ tab (for_vehicles year vehicles) 6 → six ≡ words_of s i
+words-made s i {year} {six} e v made =
+    rw (made, v)
+    (tab-ext 6 (λ m h. rw (e, get_d-tab (row_year s i (seasons_of s)) 6 m h) (word-from-year s i m h)) ∙ words-tab s i)
 
 -- with the words of row i stored, those of all rows are the report's
 rows-hold : (s words : List ℕ) (i : ℕ) → i < rows_of s → 6 * rows_of s ≤ length words → RestHolds s i words

@@ -2,25 +2,16 @@
 #![tactic(auto)]
 
 ghost use Rattle.std.specs.Prelude.{◌≡◌, ◌+◌, ◌*◌, ◌/◌, ◌%◌, ◌^◌, ◌<◌, ◌≤◌, length};
-ghost use Rattle.refusals.specs.Check.{Pass};
-ghost use Rattle.sheet.specs.Bytes.{rows_of, row_place, row_at};
-ghost use Rattle.sheet.specs.Sheet.{sheet_check};
+ghost use Rattle.numbers.specs.Lists.{tab};
+ghost use Rattle.sheet.specs.Bytes.{rows_of};
 ghost use Rattle.report_words.specs.Categories.{category};
 ghost use Rattle.report_sums.specs.Numbers.{number};
-ghost use Rattle.report_sums.specs.Sums.{buffer_sum, summed, three_word, totalled, resummed};
+ghost use Rattle.report_sums.specs.Sums.{buffer_sum, sum_word, three_word, resummed};
 
-use fields::{row_place, rows_of, u8_at};
+use checks::accepted::Accepted;
 use report_words::words::ROW_WORDS;
 
 pub mod renewal;
-
-// The class of a row.
-fn class_of(s: &[u8], i: usize) -> u64
-    requires { row_place s.now i + 24 ≤ length s.now }
-    ensures { result ≡ (row_at s.now i).class }
-{
-    u8_at(s, row_place(s, i))
-}
 
 // Whose words a subtotal adds up.
 #[derive(Clone, Copy)]
@@ -32,6 +23,7 @@ enum Category {
 }
 
 // The category of word k after those of the rows: six words each, in this order.
+#[tactic(auto, unfolding(crate::specs::Numbers::number))]
 fn category_of(k: usize) -> Category
     requires { k < 24 }
     ensures { number result ≡ k / 6 }
@@ -45,6 +37,7 @@ fn category_of(k: usize) -> Category
 }
 
 // The class belongs to the category.
+#[tactic(auto, unfolding(crate::specs::Numbers::number, report_words::specs::Categories::category, report_words::specs::Categories::car, report_words::specs::Categories::light_duty, report_words::specs::Categories::two_wheeler, report_words::specs::Categories::any_class))]
 fn belongs(c: Category, class: u64) -> bool
     ensures { result ≡ category (number c) class }
 {
@@ -56,58 +49,50 @@ fn belongs(c: Category, class: u64) -> bool
     }
 }
 
-// Word j of the rows of a category, summed.
-fn sum_of(s: &[u8], words: &[u64], c: Category, j: usize) -> u64
-    requires { (sheet_check s.now ≡ Pass) × (6 * rows_of s.now ≤ length words.now) × (j < 6) }
-    ensures { result ≡ buffer_sum s.now words.now (category (number c)) (rows_of s.now) j % 2 ^ 64 }
+// Word j of the rows of a category, summed. By the row's number, which its class needs too: chunks of six words would be no plainer.
+#[tactic(auto, unfolding(crate::specs::Sums::buffer_sum))]
+fn sum_of(sheet: Accepted, rows: &[u64], c: Category, j: usize) -> u64
+    requires { (length rows.now ≡ 6 * rows_of sheet.bytes.now) × (j < 6) }
+    ensures { result ≡ buffer_sum sheet.entry.bytes.now rows.now (category (number c)) (rows_of sheet.entry.bytes.now) j % 2 ^ 64 }
 {
     let mut sum: u64 = 0;
-    for i in 0..rows_of(s) {
-        if belongs(c, class_of(s, i)) {
-            sum = sum.wrapping_add(words[ROW_WORDS * i + j]);
+    for i in 0..sheet.rows() {
+        if belongs(c, sheet.class(i)) {
+            sum = sum.wrapping_add(rows[ROW_WORDS * i + j]);
         }
     }
     sum
 }
 
-// The words of the four categories, after those of the rows.
-fn subtotals(s: &[u8], words: &mut [u64])
-    requires { (sheet_check s.now ≡ Pass) × (6 * rows_of s.now + 24 ≤ length words.old) }
-    ensures { words.new ≡ summed s.now words.old }
+// The words of the four categories, of those of the rows.
+fn subtotals(sheet: Accepted, rows: &[u64], sums: &mut [u64])
+    requires { (length rows.now ≡ 6 * rows_of sheet.bytes.now) × (length sums.old ≡ 24) }
+    ensures { sums.new ≡ tab (sum_word sheet.entry.bytes.now rows.now) 24 }
 {
-    let start = ROW_WORDS * rows_of(s);
-    for k in 0..24 {
-        words[start + k] = sum_of(s, words, category_of(k), k % ROW_WORDS);
+    for (k, word) in sums.iter_mut().enumerate() {
+        *word = sum_of(sheet, rows, category_of(k), k % ROW_WORDS);
     }
 }
 
-// The sum of three words that stand two apart.
-fn sum_of_three(words: &[u64], at: usize) -> u64
-    requires { at + 5 ≤ length words.now }
-    ensures { result ≡ three_word words.now at }
+// The sum of three of the six words for all rows, which stand two apart: of their lows from 0 on, of their highs from 1 on.
+#[tactic(auto, unfolding(crate::specs::Sums::three_word))]
+fn sum_of_three(all: &[u64], j: usize) -> u64
+    requires { (length all.now ≡ 6) × (j < 2) }
+    ensures { result ≡ three_word all.now j }
 {
-    words[at]
-        .wrapping_add(words[at + 2])
-        .wrapping_add(words[at + 4])
+    all[j].wrapping_add(all[j + 2]).wrapping_add(all[j + 4])
 }
 
-// The low and the high of the grand total, each the sum of three words for all rows.
-fn totals(s: &[u8], words: &mut [u64])
-    requires { (sheet_check s.now ≡ Pass) × (6 * rows_of s.now + 26 ≤ length words.old) }
-    ensures { words.new ≡ totalled s.now words.old }
+// All 26 words after the rows, of the words that the rows have in the buffer: those of the categories, of which the last six are for all
+// rows, and the low and the high of the grand total, each the sum of three of these.
+pub fn write_sums(sheet: Accepted, words: &mut [u64])
+    requires { 6 * rows_of sheet.bytes.now + 26 ≤ length words.old }
+    ensures { words.new ≡ resummed sheet.entry.bytes.now words.old }
 {
-    let all = ROW_WORDS * rows_of(s) + 18;
-    let low = sum_of_three(words, all);
-    let high = sum_of_three(words, all + 1);
-    words[all + 6] = low;
-    words[all + 7] = high;
-}
-
-// All 26 words after the rows, of the words that the rows have in the buffer.
-pub fn write_sums(s: &[u8], words: &mut [u64])
-    requires { (sheet_check s.now ≡ Pass) × (6 * rows_of s.now + 26 ≤ length words.old) }
-    ensures { words.new ≡ resummed s.now words.old }
-{
-    subtotals(s, words);
-    totals(s, words);
+    let (rows, sums) = words.split_at_mut(ROW_WORDS * sheet.rows());
+    let (categories, totals) = sums.split_at_mut(24);
+    subtotals(sheet, rows, categories);
+    let all = &categories[18..];
+    totals[0] = sum_of_three(all, 0);
+    totals[1] = sum_of_three(all, 1);
 }

@@ -2,14 +2,16 @@
 -- Assumes nothing.
 use mathlib.Core.List.{List, [], ◌∷◌, ◌++◌, append_assoc}
 use mathlib.Core.Path.{◌≡◌, refl, sym, ◌∙◌, ap}
-use Prim.Native.Nat.{ℕ, suc, ◌+◌, ◌≤◌, ◌<◌}
+use Prim.Native.Nat.{ℕ, suc, ◌+◌, ◌*◌, ◌/◌, ◌%◌, ◌≤◌, ◌<◌}
 use native.Mathlib.Nat.{le_antisymm, le_dest}
 use native.Mathlib.Numerals.{add-one}
 use native.Mathlib.Omega.{arith}
 use lib.ListN.{length, get_or, set, take, drop, length-append, take-append-drop, get_or-append}
 use lib.Seq.{length-take-le, sets, set_at, drop_at, drop-cons, drop-drop, get_or-append-add, get_or-drop, get_or-take, ext_get_or}
 use Rattle.numbers.specs.Lists.{tab}
-use Rattle.numbers.proofs.Lists.{tab-length, get_d-tab}
+use Rattle.numbers.proofs.Lists.{tab-length, get_d-tab, tab-at, tab-ext}
+use Rattle.std.specs.Fork.{slice_chunk}
+use Rattle.blocks.proofs.Parts.{part-at}
 use Rattle.report_words.specs.Years.{filled}
 
 module _ (f : ℕ → ℕ) (old : List ℕ) where
@@ -62,6 +64,9 @@ filled-less f old m n h =
     let inside : k < m = rw size at l in
     get_or-take m (filled f n old) k 0 inside ∙ filled-first f old n k (omega arith) ∙ sym (get_d-tab f m k inside))
 
+pub filled-front : (f : ℕ → ℕ) (old : List ℕ) (n : ℕ) {words : List ℕ} → words ≡ filled f n old → take n words ≡ tab f n
+filled-front f old n e = ap (take n) e ∙ filled-less f old n n (omega arith)
+
 -- the same words replaced again, and perhaps more
 pub filled-again : (f g : ℕ → ℕ) (old : List ℕ) (n m : ℕ) → n ≤ m → filled g m (filled f n old) ≡ filled g m old
 filled-again f g old n m h =
@@ -78,6 +83,22 @@ filled-twice f g old n m h d e = e ∙ rw d (filled-again f g old n m h)
 pub filled-same : (f : ℕ → ℕ) (words : List ℕ) (n : ℕ) → take n words ≡ tab f n → words ≡ filled f n words
 filled-same f words n e = sym (take-append-drop n words) ∙ ap (λ (r : List ℕ). r ++ drop n words) e
 
--- its word k
+-- its word k: std's `get_or-take` joined to what stands in the list of f's values, which four files cite together
 pub first-at : (f : ℕ → ℕ) (words : List ℕ) (n k : ℕ) → take n words ≡ tab f n → k < n → get_or words k 0 ≡ f k
 first-at f words n k e h = sym (get_or-take n words k 0 h) ∙ ap (λ (r : List ℕ). get_or r k 0) e ∙ get_d-tab f n k h
+
+-- a buffer made part by part, six words each, where what lies beyond the parts is as it was
+pub filled-parts : (f : ℕ → ℕ) (old words : List ℕ) (n : ℕ) → 6 * n ≤ length words
+    → ((i m : ℕ) → i < n → m < 6 → get_or (slice_chunk words 6 i) m 0 ≡ f (6 * i + m)) → drop (n * 6) words ≡ drop (n * 6) old
+    → words ≡ filled f (6 * n) old
+filled-parts f old words n room each rest =
+    let count : n * 6 ≡ 6 * n = omega arith in
+    let made : tab f (6 * n) ≡ take (6 * n) words =
+    tab-ext (6 * n)
+    (λ k h.
+    let place : k / 6 * 6 + k % 6 ≡ k = omega arith in
+    let here : 6 * (k / 6) + k % 6 ≡ k = omega arith in
+    sym (get_or-take (6 * n) words k 0 h ∙ ap (λ (j : ℕ). get_or words j 0) (sym place) ∙
+    sym (part-at 6 words (k / 6) (k % 6) (omega arith)) ∙ each (k / 6) (k % 6) (omega arith) (omega arith) ∙ ap f here)) ∙
+    tab-at (take (6 * n) words) (length-take-le (6 * n) words room) in
+    rw (← count) (sym (take-append-drop (6 * n) words) ∙ cc (made, rest))

@@ -17,6 +17,39 @@ use Rattle.report_words.specs.Promise.{RowPromise, rows_sum, category_word, Sums
 use Rattle.report_words.proofs.ReportPlaces.{row-word-at, category-word-at, total-at}
 use Rattle.sheet_factors.proofs.AcceptedRange.{cells-least, row-shares, in-range, every-season}
 
+-- What a report and the block of a season have in common.
+
+-- each of six zeros is 0
+pub zeros : {xs : List ℕ} → xs ≡ 0 ∷ 0 ∷ 0 ∷ 0 ∷ 0 ∷ 0 ∷ [] → (j : ℕ) → at xs j ≡ 0
+zeros e zero = rw e
+zeros e (suc zero) = rw e
+zeros e (suc (suc zero)) = rw e
+zeros e (suc (suc (suc zero))) = rw e
+zeros e (suc (suc (suc (suc zero)))) = rw e
+zeros e (suc (suc (suc (suc (suc zero))))) = rw e
+zeros e (suc (suc (suc (suc (suc (suc j)))))) = rw e
+
+module _ (s words : List ℕ) where
+  -- a total of each row's word where the row belongs is the sum of the buffer's, where these words stand there
+  pub summed : (f : ℕ → Bool) (j : ℕ) (total word : ℕ → ℕ) → total 0 ≡ 0
+      → ((i : ℕ) → total (suc i) ≡ total i + counted (f (row_at s i).class) (word i))
+      → (n : ℕ) → ((i : ℕ) → i < n → at words (6 * i + j) ≡ word i)
+      → total n ≡ sum (λ (i : ℕ). counted (f (row_at s i).class) (at words (6 * i + j))) n
+  unfolding sum
+  summed f j total word none more zero h = none
+  summed f j total word none more (suc n) h =
+      more n ∙
+      ap₂ ◌+◌ (summed f j total word none more n (λ i l. h i (omega arith))) (ap (counted (f (row_at s n).class)) (sym (h n (omega arith))))
+
+  -- the two last words are the sums of three words for all rows, where these are `all`
+  pub grand : (all : ℕ → ℕ) → ((j : ℕ) → j < 6 → category_word s words 3 j ≡ all j)
+      → ((j : ℕ) → j < 2 → category_word s words 4 j ≡ all j + all (2 + j) + all (4 + j)) → (j : ℕ) → j < 2
+      → category_word s words 4 j ≡ category_word s words 3 j + category_word s words 3 (j + 2) + category_word s words 3 (j + 4)
+  grand all whole total j l =
+      let second : 2 + j ≡ j + 2 = omega arith in
+      let third : 4 + j ≡ j + 4 = omega arith in
+      total j l ∙ rw (whole j (omega arith), whole (j + 2) (omega arith), whole (j + 4) (omega arith), second, third) refl
+
 -- the first words of a buffer are the report's
 pub record Holds (s words : List ℕ) : Type 0 where
   pub word : (k : ℕ) → k < 6 * rows_of s + 26 → at words k ≡ at (report s) k
@@ -26,18 +59,13 @@ module _ {s words : List ℕ} (h : Holds s words) where
   row_word : (i j : ℕ) → i < rows_of s → j < 6 → at words (6 * i + j) ≡ at (words_of s i) j
   row_word i j row l = h.word (6 * i + j) (omega arith) ∙ row-word-at s i j row l
 
-  -- word j of the rows of a category, summed
-  subtotal-sum : (f : ℕ → Bool) (n j : ℕ) → n ≤ rows_of s → j < 6
-      → subtotal s f n j ≡ sum (λ (i : ℕ). counted (f (row_at s i).class) (at words (6 * i + j))) n
-  unfolding subtotal sum
-  subtotal-sum f zero j l m = refl
-  subtotal-sum f (suc n) j l m =
-      ap₂ ◌+◌ (subtotal-sum f n j (omega arith) m) (ap (counted (f (row_at s n).class)) (sym (row_word n j l m)))
-
   -- a word of a category
   category-sum : (c j : ℕ) → c < 4 → j < 6 → category_word s words c j ≡ rows_sum s words (category c) j
+  unfolding subtotal
   category-sum c j l m =
-      h.word (6 * (rows_of s + c) + j) (omega arith) ∙ category-word-at s c j l m ∙ subtotal-sum (category c) (rows_of s) j (omega arith) m
+      h.word (6 * (rows_of s + c) + j) (omega arith) ∙ category-word-at s c j l m ∙
+      summed s words (category c) j (λ (n : ℕ). subtotal s (category c) n j) (λ (i : ℕ). at (words_of s i) j) refl (λ _. refl) (rows_of s)
+      (λ i row. row_word i j row m)
 
 -- three parts that make up a whole in every row do so in all
 sums-add : (f g k m : ℕ → ℕ) (n : ℕ) → ((i : ℕ) → i < n → f i + g i + k i ≡ m i) → sum f n + sum g n + sum k n ≡ sum m n
@@ -96,15 +124,6 @@ module _ {s words : List ℕ} (bytes : Bytes s) (a : Accepted s) (h : Holds s wo
         running-band = rw (row_word h i 4 row (omega arith), row_word h i 5 row (omega arith)) bands.running-band;
         no-vehicles = λ none j l. row_word h i j row l ∙ zeros (no-vehicles (cells_of s) (season_list s) (row_at s i) none) j;
       }
-    where
-      zeros : {xs : List ℕ} → xs ≡ 0 ∷ 0 ∷ 0 ∷ 0 ∷ 0 ∷ 0 ∷ [] → (j : ℕ) → at xs j ≡ 0
-      zeros e zero = rw e
-      zeros e (suc zero) = rw e
-      zeros e (suc (suc zero)) = rw e
-      zeros e (suc (suc (suc zero))) = rw e
-      zeros e (suc (suc (suc (suc zero)))) = rw e
-      zeros e (suc (suc (suc (suc (suc zero))))) = rw e
-      zeros e (suc (suc (suc (suc (suc (suc j)))))) = rw e
 
   -- a word for all rows
   whole_word : (j : ℕ) → j < 6 → category_word s words 3 j ≡ subtotal s any_class (rows_of s) j
@@ -112,26 +131,14 @@ module _ {s words : List ℕ} (bytes : Bytes s) (a : Accepted s) (h : Holds s wo
   whole_word j l = h.word (6 * (rows_of s + 3) + j) (omega arith) ∙ category-word-at s 3 j (omega arith) l
 
   -- the grand total
-  grand-word : (j : ℕ) → j < 2 → category_word s words 4 j
-      ≡ category_word s words 3 j + category_word s words 3 (j + 2) + category_word s words 3 (j + 4)
-  unfolding grand_total
+  grand-word : (j : ℕ) → j < 2 → category_word s words 4 j ≡ grand_total s j
   grand-word j l =
       let place : 6 * (rows_of s + 4) + j ≡ 6 * rows_of s + 24 + j = omega arith in
-      let second : 2 + j ≡ j + 2 = omega arith in
-      let third : 4 + j ≡ j + 4 = omega arith in
-      rw (
-        place,
-        h.word (6 * rows_of s + 24 + j) (omega arith),
-        total-at s j l,
-        whole_word j (omega arith),
-        whole_word (j + 2) (omega arith),
-        whole_word (j + 4) (omega arith),
-        second,
-        third,
-      ) refl
+      rw place (h.word (6 * rows_of s + 24 + j) (omega arith) ∙ total-at s j l)
 
   pub promise : ReportPromise s words
+  unfolding grand_total
   promise = record {
     each_row = row-promise;
-    sums = sums-hold a (category-sum h) grand-word;
+    sums = sums-hold a (category-sum h) (grand s words (subtotal s any_class (rows_of s)) whole_word grand-word);
   }

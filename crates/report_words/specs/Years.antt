@@ -27,6 +27,10 @@ pub record SeasonFits (s : List ℕ) (season : Season) (words : List ℕ) : Type
 abbrev pub in_milligrams : List ℕ → List ℕ → ℕ → ℕ
 in_milligrams s words k = (get_or words k 0 * (row_at s (k / 6)).vehicles + k % 2 * (10 ^ 9 - 1)) / 10 ^ 9
 
+-- word m of a row's six, a figure of one vehicle, for so many vehicles in milligrams, rounded likewise
+abbrev pub for_vehicles : List ℕ → ℕ → ℕ → ℕ
+for_vehicles six vehicles m = (get_or six m 0 * vehicles + m % 2 * (10 ^ 9 - 1)) / 10 ^ 9
+
 -- the first n words replaced by those of f
 abbrev pub filled : (ℕ → ℕ) → ℕ → List ℕ → List ℕ
 filled f n old = tab f n ++ drop n old
@@ -35,13 +39,13 @@ filled f n old = tab f n ++ drop n old
 abbrev pub report_word : List ℕ → ℕ → ℕ
 report_word s k = get_or (report s) k 0
 
--- word m of the six from a place on, with a figure of a day for so many days
-abbrev pub days_added : List ℕ → ℕ → ℕ → List ℕ → ℕ → ℕ
-days_added words at days figures m = get_or words (at + m) 0 + days * get_or figures m 0
+-- word m of six, with a figure of a day for so many days
+abbrev pub days_added : List ℕ → ℕ → List ℕ → ℕ → ℕ
+days_added words days figures m = get_or words m 0 + days * get_or figures m 0
 
 -- all six fit 64 bits
-pub record SumsFit (words : List ℕ) (at days : ℕ) (figures : List ℕ) : Type 0 where
-  pub sum_fits : (m : ℕ) → m < 6 → days_added words at days figures m < 2 ^ 64
+pub record SumsFit (words : List ℕ) (days : ℕ) (figures : List ℕ) : Type 0 where
+  pub sum_fits : (m : ℕ) → m < 6 → days_added words days figures m < 2 ^ 64
 
 -- the buffer has room for the words of the rows, and the first of its words are those of f
 pub record RowsHold (f : ℕ → ℕ) (s words : List ℕ) : Type 0 where

@@ -1,13 +1,14 @@
 // The words of a report's rows, in milligrams.
 ghost use Rattle.std.specs.Prelude.{◌≡◌, ◌+◌, ◌*◌, ◌-◌, ◌/◌, ◌%◌, ◌^◌, ◌≤◌, ◌<◌, length};
-ghost use Rattle.refusals.specs.Check.{Pass};
 ghost use Rattle.sheet.specs.Limits.{vehicles_limit};
-ghost use Rattle.sheet.specs.Bytes.{rows_of};
-ghost use Rattle.sheet.specs.Sheet.{sheet_check};
-ghost use Rattle.report_words.specs.Years.{in_milligrams, filled, report_word};
+ghost use Rattle.numbers.specs.Lists.{tab};
+ghost use Rattle.sheet.specs.Bytes.{rows_of, row_at};
+ghost use Rattle.report_words.specs.Years.{in_milligrams, for_vehicles, filled, report_word};
 
 use crate::year::{add_year, clear};
-use fields::{rows_of, vehicles_of};
+use blocks::fill_blocks;
+use bounds::fixed::mul_add_div;
+use checks::accepted::Accepted;
 
 // Units of 10^-12 g in a milligram.
 const MILLIGRAM: u64 = 1000000000;
@@ -15,13 +16,12 @@ const MILLIGRAM: u64 = 1000000000;
 // How many words a row has, and a category.
 pub const ROW_WORDS: usize = 6;
 
-// A year's figure of one vehicle, for all vehicles, in milligrams, with what is to be added before it is cut. In parts,
-// since the product has more than 64 bits.
+// A year's figure of one vehicle, for all vehicles, in milligrams, with what is to be added before it is cut.
 pub fn milligrams(year: u64, vehicles: u64, added: u64) -> u64
     requires { (year < 2 ^ 64) × (vehicles ≤ vehicles_limit) × (added < 10 ^ 9) }
     ensures { result ≡ (year * vehicles + added) / 10 ^ 9 }
 {
-    year / MILLIGRAM * vehicles + (year % MILLIGRAM * vehicles + added) / MILLIGRAM
+    mul_add_div(year, vehicles, added, MILLIGRAM)
 }
 
 // Word k of a row, from its figure of one vehicle: a low, at an even place, is cut down, a high cut up.
@@ -33,24 +33,35 @@ pub fn row_word(figure: u64, vehicles: u64, k: usize) -> u64
     milligrams(figure, vehicles, added)
 }
 
-// The figures of one vehicle become those of a row's vehicles in milligrams, whatever figures they are: a low is cut down, a high cut up.
-pub fn row_words(s: &[u8], words: &mut [u64])
-    requires { (sheet_check s.now ≡ Pass) × (6 * rows_of s.now ≤ length words.old) }
-    ensures { words.new
-        ≡ filled (in_milligrams s.now words.old) (6 * rows_of s.now) words.old }
+// A row's six figures of one vehicle become those of its vehicles in milligrams, whatever figures they are: a low is cut down, a high up.
+pub fn six_words(six: &mut [u64], vehicles: u64)
+    requires { (length six.old ≡ 6) × (vehicles ≤ vehicles_limit) }
+    ensures { six.new ≡ tab (for_vehicles six.old vehicles) 6 }
 {
-    let n = ROW_WORDS * rows_of(s);
-    for k in 0..n {
-        words[k] = row_word(words[k], vehicles_of(s, k / ROW_WORDS), k);
+    for (m, word) in six.iter_mut().enumerate() {
+        *word = row_word(*word, vehicles, m);
     }
 }
 
-// The words of the rows of an accepted sheet, in a buffer with room for them.
-pub fn write_rows(s: &[u8], words: &mut [u64])
-    requires { (sheet_check s.now ≡ Pass) × (6 * rows_of s.now ≤ length words.old) }
-    ensures { words.new ≡ filled (report_word s.now) (6 * rows_of s.now) words.old }
+// The same of all rows.
+pub fn row_words(sheet: Accepted, words: &mut [u64])
+    requires { 6 * rows_of sheet.bytes.now ≤ length words.old }
+    ensures { words.new ≡ filled (in_milligrams sheet.entry.bytes.now words.old) (6 * rows_of sheet.entry.bytes.now) words.old }
 {
-    clear(words, 6 * rows_of(s));
-    add_year(s, words);
-    row_words(s, words);
+    let of_row = |i: usize, six: &mut [u64]|
+        requires { (i < rows_of sheet.bytes.now) × (length six.now ≡ 6) }
+        ensures { six.exit.now ≡ tab (for_vehicles six.entry.now (row_at sheet.entry.bytes.now i).vehicles) 6 }
+    { six_words(six, sheet.vehicles(i)) };
+    fill_blocks(words, ROW_WORDS, sheet.rows(), of_row);
+}
+
+// The words of the rows of an accepted sheet, in a buffer with room for them. Sheet and words aren't one struct: the room is all that is
+// known of the two, the words are lent anew at each step, and three contracts each say the room in one clause.
+pub fn write_rows(sheet: Accepted, words: &mut [u64])
+    requires { 6 * rows_of sheet.bytes.now ≤ length words.old }
+    ensures { words.new ≡ filled (report_word sheet.entry.bytes.now) (6 * rows_of sheet.entry.bytes.now) words.old }
+{
+    clear(words, 6 * sheet.rows());
+    add_year(sheet, words);
+    row_words(sheet, words);
 }

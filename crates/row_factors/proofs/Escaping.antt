@@ -1,5 +1,6 @@
 -- What the program averages is the escape of the definitions: with a canister what breaks through in each cell, without one the vapour
 -- of the mean rise.
+use Rattle.std.proofs.Common.{Option, Some, None}
 use mathlib.Core.Bool.{Bool, false}
 use mathlib.Core.List.{List}
 use mathlib.Core.Path.{◌≡◌, refl, ◌∙◌, ap, ap₂}
@@ -10,13 +11,12 @@ use lib.ListN.{length}
 use Rattle.numbers.specs.Lists.{tab, at, AllAtMost}
 use Rattle.numbers.proofs.Lists.{get_d-tab, tab-at-most, tab-ext}
 use Rattle.exact.specs.declared.Canister.{Canister}
-use Rattle.exact.specs.declared.Canister.TheVariants.{None, Small, Medium, Large}
+use Rattle.exact.specs.declared.Canister.TheVariants.{Small, Medium, Large}
 use Rattle.exact.specs.declared.Season.{Season}
 use Rattle.exact.specs.declared.Row.{Row}
 use Rattle.exact.specs.Factors.{total, end_hour, duration}
 use Rattle.marks.specs.Marks.{raise, rate, tenths}
 use Rattle.marks.specs.AtMarks.{raises_by, rates_at}
-use Rattle.marks.proofs.Heat.{raise-most}
 use Rattle.marks.proofs.Permeation.{rate-most}
 use Rattle.marks.proofs.Curve.{season-rise-most}
 use Rattle.sheet.proofs.Temperature.{warmth-most, warmth-alike}
@@ -44,46 +44,45 @@ use Rattle.breakthrough.specs.Through.{curve_at, through, raise_through}
 use Rattle.breakthrough.proofs.Fitted.{fit-ready, curve-of, through-is, through-none, through-alike}
 use Rattle.row_factors.specs.declared.season.AtSeason.{AtSeason}
 use Rattle.row_factors.specs.declared.season.Day.{Day}
+use Rattle.row_factors.specs.declared.escapes.Kind.{Kind}
+use Rattle.row_factors.specs.declared.escapes.Kind.TheVariants.{Car, TwoWheeler}
 use Rattle.row_factors.specs.declared.escapes.Escapes.{Escapes}
 use Rattle.row_factors.specs.Season.{mean_at, rises_of, lines_in, day_raises, LinesOf, DayReady, SeasonReady, RowReady}
-use Rattle.row_factors.specs.Seven.{parking_through, parking_escape, VapourOf, RisesInRange, CarEscapes, TwoWheelerEscapes}
+use Rattle.row_factors.specs.Seven.{soak_raise, hotsoak_raise, trip_raise, hottrip_raise, RisesOf, VapourOf, RisesInRange}
+use Rattle.row_factors.specs.Seven.{parking_through, parking_escape, trip_escape, EscapesOf}
 
 module _ (season : Season) (row : Row) (counts : List ℕ) where
   -- with a canister the escape of each cell is averaged
-  escape-through : (c : Canister) → 0 < halves c → (mark rise : ℕ → ℕ)
+  escape-through : (c : Option Canister) → 0 < halves c → (mark rise : ℕ → ℕ)
       → mean_units counts (λ (cell : ℕ). through_units season row (mark cell) (rise cell)) ≡ escape_units season row counts c mark rise
   unfolding halves escape_units
   escape-through None h mark rise = absurd (omega arith)
-  escape-through Small h mark rise = refl
-  escape-through Medium h mark rise = refl
-  escape-through Large h mark rise = refl
+  escape-through (Some c) h mark rise = refl
 
   -- and a trip loses no vapour
-  pub open-shut : (c : Canister) → 0 < halves c → (raised : ℕ) → 0 ≡ open_units season row counts c raised
+  pub open-shut : (c : Option Canister) → 0 < halves c → (raised : ℕ) → 0 ≡ open_units season row counts c raised
   unfolding halves open_units
   open-shut None h raised = absurd (omega arith)
-  open-shut Small h raised = refl
-  open-shut Medium h raised = refl
-  open-shut Large h raised = refl
+  open-shut (Some c) h raised = refl
 
   -- without canister the rise is averaged first
-  escape-open : (c : Canister) → halves c ≡ 0 → (mark rise : ℕ → ℕ)
+  escape-open : (c : Option Canister) → halves c ≡ 0 → (mark rise : ℕ → ℕ)
       → gain season row * mean_units counts rise / 2 ^ 40 ≡ escape_units season row counts c mark rise
   unfolding halves escape_units vapour_units
   escape-open None e mark rise = refl
-  escape-open Small e mark rise = absurd (omega arith)
-  escape-open Medium e mark rise = absurd (omega arith)
-  escape-open Large e mark rise = absurd (omega arith)
+  escape-open (Some Small) e mark rise = absurd (omega arith)
+  escape-open (Some Medium) e mark rise = absurd (omega arith)
+  escape-open (Some Large) e mark rise = absurd (omega arith)
 
   -- on a trip too
-  open-open : (c : Canister) → halves c ≡ 0 → (raised : ℕ)
+  open-open : (c : Option Canister) → halves c ≡ 0 → (raised : ℕ)
       → gain season row * mean_units counts (λ (cell : ℕ). raise raised (mark_warmth season (end_of cell))) / 2 ^ 40 ≡
       open_units season row counts c raised
   unfolding halves open_units vapour_units
   open-open None e raised = refl
-  open-open Small e raised = absurd (omega arith)
-  open-open Medium e raised = absurd (omega arith)
-  open-open Large e raised = absurd (omega arith)
+  open-open (Some Small) e raised = absurd (omega arith)
+  open-open (Some Medium) e raised = absurd (omega arith)
+  open-open (Some Large) e raised = absurd (omega arith)
 
 -- Marks as far from 14:00 have the same raises and the same permeation.
 pub raises-alike : (season : Season) (k i : ℕ) → i < 48 → raises_by season k (ahead (apart i)) ≡ raises_by season k i
@@ -94,15 +93,6 @@ rates-alike season k i h = ap (λ (θ : ℕ). rate season.vp (θ + tenths k)) (w
 
 -- How large the values at the marks are.
 module _ {season : Season} (s : SeasonInRange season) where
-  raise-mark-most : (k mark : ℕ) → k ≤ 60 → raises_by season k mark ≤ 56 * 2 ^ 40
-  raise-mark-most k mark h = raise-most (tenths k) (mark_warmth season mark) (omega arith) (warmth-most mark s)
-
-  pub raise-list-most : (k : ℕ) {xs : List ℕ} → k ≤ 60 → xs ≡ day_raises season k → AllAtMost (56 * 2 ^ 40) xs
-  raise-list-most k h e = tab-at-most _ 25 e (λ d _. raise-mark-most k (ahead d) h)
-
-  pub raise-list-fits : (k : ℕ) {xs : List ℕ} → k ≤ 60 → xs ≡ day_raises season k → AllAtMost (2 ^ 54) xs
-  raise-list-fits k h e = record { at_most = λ i. omega (arith, (raise-list-most k h e).at_most i) }
-
   -- permeation, at the marks and by distance
   rate-mark-most : (k mark : ℕ) → k ≤ 150 → rates_at season k mark ≤ 2 ^ 40
   rate-mark-most k mark h =
@@ -157,12 +147,12 @@ module _ {season : Season} {row : Row} {c : List Curve} (f : CurvesOf season row
       escape-through season row cells row.canister p (mark_of ends) (λ (cell : ℕ). raises_by season k (mark_of ends cell))
 
 -- A row with a canister: a and 2·b·s are those of the day.
-lines-are : {season : Season} {day : Day} → DayReady season day → (c : Canister) → 0 < halves c → LinesOf season (halves c) (lines_in day c)
+lines-are : {season : Season} {day : Day} → DayReady season day → (c : Option Canister) → 0 < halves c → LinesOf season (halves c) (lines_in day c)
 unfolding lines_in halves
 lines-are r None p = absurd (omega arith)
-lines-are r Large p = r.large_is
-lines-are r Medium p = r.medium-is
-lines-are r Small p = r.small_is
+lines-are r (Some Large) p = r.large_is
+lines-are r (Some Medium) p = r.medium-is
+lines-are r (Some Small) p = r.small_is
 
 module _ {season : Season} (row : Row) {day : Day} (r : DayReady season day) (p : 0 < halves row.canister) (d : ℕ) (h : d < 25) where
   base-is : (line_at (lines_in day row.canister) d).base ≡ bases_of season row d
@@ -182,7 +172,7 @@ module _ {counts : List ℕ} {list : SeasonList} {made : AtSeason} {row : Row} (
   pub fit_needs : {lines : List Line} {vapour : ℕ} → lines ≡ lines_in made.day row.canister → vapour ≡ gain made.season row
       → (d : ℕ) → d < 25 → FitReady row (line_at lines d).base (line_at lines d).growth vapour
   fit_needs g v d h =
-      rw g (fit-ready its-day.season-in q.0.row_in q.1 d (base-is row its-day q.1 d h) (growth-is row its-day q.1 d h) v)
+      rw g (fit-ready ready.day-ready.season-in q.0.row_in q.1 d (base-is row its-day q.1 d h) (growth-is row its-day q.1 d h) v)
 
   pub fit-right : {lines : List Line} {vapour : ℕ} {c : List Curve} → lines ≡ lines_in made.day row.canister → vapour ≡ gain made.season row
       → ((d : ℕ) → d < 25 → CurveBy (line_at lines d).base (line_at lines d).growth
@@ -193,7 +183,7 @@ module _ {counts : List ℕ} {list : SeasonList} {made : AtSeason} {row : Row} (
   }
 
   pub list-fits : ListFits (72 * 2 ^ 40) list
-  list-fits = (q.0.list-ready q.1).fits (72 * 2 ^ 40) (rises-most its-day.season-in refl)
+  list-fits = (q.0.list-ready q.1).fits (72 * 2 ^ 40) (rises-most ready.day-ready.season-in refl)
 
   module _ {c : List Curve} (f : CurvesOf made.season row c) where
     -- nothing breaks through where nothing rises
@@ -216,19 +206,29 @@ module _ {counts : List ℕ} {list : SeasonList} {made : AtSeason} {row : Row} (
         → x ≡ raise_through counts ends raises c → x ≡ escape_over_units made.season row counts (mark_of ends) (tenths k)
     raise-right k known ends e = e ∙ raise-escape f q.0.row_in.load-most q.1 _ ends k known
 
+-- A raise is of 6 °C at most.
+soak-raised : (kind : Kind) → soak_raise kind ≤ 60
+soak-raised Car = omega arith
+soak-raised TwoWheeler = omega arith
+
+hotsoak-raised : (kind : Kind) → hotsoak_raise kind ≤ 60
+hotsoak-raised Car = omega arith
+hotsoak-raised TwoWheeler = omega arith
+
+hottrip-raised : (kind : Kind) → hottrip_raise kind ≤ 60
+hottrip-raised Car = omega arith
+hottrip-raised TwoWheeler = omega arith
+
 -- A row without canister: how large the mean rises are, and that the vapour of each is its escape.
 module _ {counts : List ℕ} {list : SeasonList} {made : AtSeason} {row : Row} {vapour : ℕ} (ready : SeasonReady counts made)
     (r : RowReady counts list made.season row) (v : vapour ≡ gain made.season row) where
-  season-ok : SeasonInRange made.season
-  season-ok = ready.day-ready.season-in
-
-  rise-mean-most : made.means.rise ≤ 72 * 2 ^ 40
-  rise-mean-most =
+  rise-mean-most : {x : ℕ} → x ≡ mean_units counts (parking_rise made.season) → x ≤ 72 * 2 ^ 40
+  rise-mean-most e =
       omega (
         arith,
-        ready.means-are.rise-is,
+        e,
         mean_units-most counts (parking_rise made.season) (72 * 2 ^ 28)
-            (λ cell. omega (arith, parking-rise-most season-ok r.row_in cell)),
+            (λ cell. omega (arith, parking-rise-most ready.day-ready.season-in r.row_in cell)),
       )
 
   raise-mean-most : (mark : ℕ → ℕ) (k : ℕ) {x : ℕ} → k ≤ 60 → x ≡ mean_at counts mark (raises_by made.season k) → x ≤ 72 * 2 ^ 40
@@ -237,74 +237,42 @@ module _ {counts : List ℕ} {list : SeasonList} {made : AtSeason} {row : Row} {
         arith,
         e,
         mean_units-most counts (λ (cell : ℕ). raises_by made.season k (mark cell))
-            (56 * 2 ^ 28) (λ cell. omega (arith, raise-rise-most season-ok r.row_in k (mark cell) h)),
+            (56 * 2 ^ 28) (λ cell. omega (arith, raise-rise-most ready.day-ready.season-in r.row_in k (mark cell) h)),
       )
-
-  -- two raises from the start of a parking, and two from its end
-  pub open-needs : (i j k l : ℕ) {a b c d : ℕ} → i ≤ 60 → j ≤ 60 → k ≤ 60 → l ≤ 60
-      → a ≡ mean_at counts start_of (raises_by made.season i) → b ≡ mean_at counts start_of (raises_by made.season j)
-      → c ≡ mean_at counts end_of (raises_by made.season k) → d ≡ mean_at counts end_of (raises_by made.season l)
-      → (vapour < 2 ^ 50) × RisesInRange (record { parking = made.means.rise; soak = a; hotsoak = b; trip = c; hottrip = d })
-  open-needs i j k l hi hj hk hl ei ej ek el = (
-    omega (arith, v, gain-most season-ok r.row_in),
-    record {
-      parking-most = rise-mean-most;
-      soak-most = raise-mean-most start_of i hi ei;
-      hotsoak-most = raise-mean-most start_of j hj ej;
-      trip-most = raise-mean-most end_of k hk ek;
-      hottrip-most = raise-mean-most end_of l hl el;
-    },
-  )
 
   -- the vapour of a mean rise
   vapour-of : {x y : ℕ} → x ≡ y → vapour * x / 2 ^ 40 ≡ gain made.season row * y / 2 ^ 40
   vapour-of e = ap₂ (λ (g x : ℕ). g * x / 2 ^ 40) v e
 
-  module _ (none : halves row.canister ≡ 0) where
-    open-parking : vapour * made.means.rise / 2 ^ 40 ≡ parking_escape made.season row counts
-    open-parking = vapour-of ready.means-are.rise-is ∙ escape-open made.season row counts row.canister none _ _
+  module _ {kind : Kind} {rises : Escapes} (m : RisesOf made.season counts kind rises) where
+    pub open-needs : (vapour < 2 ^ 50) × RisesInRange rises
+    open-needs = (
+      omega (arith, v, gain-most ready.day-ready.season-in r.row_in),
+      record {
+        parking-most = rise-mean-most m.parking-is;
+        soak-most = raise-mean-most start_of _ (soak-raised kind) m.soak-is;
+        hotsoak-most = raise-mean-most start_of _ (hotsoak-raised kind) m.hotsoak-is;
+        trip-most = raise-mean-most end_of trip_raise (omega arith) m.trip-is;
+        hottrip-most = raise-mean-most end_of _ (hottrip-raised kind) m.hottrip-is;
+      },
+    )
 
-    open-raise : (mark : ℕ → ℕ) (k : ℕ) {x : ℕ} → x ≡ mean_at counts mark (raises_by made.season k)
-        → vapour * x / 2 ^ 40 ≡ escape_over_units made.season row counts mark (tenths k)
-    unfolding escape_over_units
-    open-raise mark k e = vapour-of e ∙ escape-open made.season row counts row.canister none _ _
+    module _ (none : halves row.canister ≡ 0) where
+      open-raise : (mark : ℕ → ℕ) (k : ℕ) {x : ℕ} → x ≡ mean_at counts mark (raises_by made.season k)
+          → vapour * x / 2 ^ 40 ≡ escape_over_units made.season row counts mark (tenths k)
+      unfolding escape_over_units
+      open-raise mark k e = vapour-of e ∙ escape-open made.season row counts row.canister none _ _
 
-    open-trip : (k : ℕ) {x : ℕ} → x ≡ mean_at counts end_of (raises_by made.season k)
-        → vapour * x / 2 ^ 40 ≡ open_units made.season row counts row.canister (tenths k)
-    open-trip k e = vapour-of e ∙ open-open made.season row counts row.canister none _
+      open-trip : (kind : Kind) (k : ℕ) {x : ℕ} → x ≡ mean_at counts end_of (raises_by made.season k)
+          → vapour * x / 2 ^ 40 ≡ trip_escape made.season row counts kind (tenths k)
+      open-trip Car k e = vapour-of e ∙ open-open made.season row counts row.canister none _
+      open-trip TwoWheeler k e = open-raise end_of k e
 
-    pub open-car : {e : Escapes}
-        → VapourOf vapour
-        (record {
-          parking = made.means.rise;
-          soak = made.means.start45;
-          hotsoak = made.means.start60;
-          trip = made.means.end10;
-          hottrip = made.means.end50;
-        }) e
-        → CarEscapes made.season row counts e
-    open-car o = record {
-      parking-is = o.parking-is ∙ open-parking;
-      soak-is = o.soak-is ∙ open-raise start_of 45 ready.means-are.start45-is;
-      hotsoak-is = o.hotsoak-is ∙ open-raise start_of 60 ready.means-are.start60-is;
-      trip-is = o.trip-is ∙ open-trip 10 ready.means-are.end10-is;
-      hottrip-is = o.hottrip-is ∙ open-trip 50 ready.means-are.end50-is;
-    }
-
-    pub open-two-wheeler : {e : Escapes}
-        → VapourOf vapour
-        (record {
-          parking = made.means.rise;
-          soak = made.means.start15;
-          hotsoak = made.means.start35;
-          trip = made.means.end10;
-          hottrip = made.means.end25;
-        }) e
-        → TwoWheelerEscapes made.season row counts e
-    open-two-wheeler o = record {
-      parking-is = o.parking-is ∙ open-parking;
-      soak-is = o.soak-is ∙ open-raise start_of 15 ready.means-are.start15-is;
-      hotsoak-is = o.hotsoak-is ∙ open-raise start_of 35 ready.means-are.start35-is;
-      trip-is = o.trip-is ∙ open-raise end_of 10 ready.means-are.end10-is;
-      hottrip-is = o.hottrip-is ∙ open-raise end_of 25 ready.means-are.end25-is;
-    }
+      pub open-right : {e : Escapes} → VapourOf vapour rises e → EscapesOf made.season row counts kind e
+      open-right o = record {
+        parking-is = o.parking-is ∙ (vapour-of m.parking-is ∙ escape-open made.season row counts row.canister none _ _);
+        soak-is = o.soak-is ∙ open-raise start_of _ m.soak-is;
+        hotsoak-is = o.hotsoak-is ∙ open-raise start_of _ m.hotsoak-is;
+        trip-is = o.trip-is ∙ open-trip kind trip_raise m.trip-is;
+        hottrip-is = o.hottrip-is ∙ open-trip kind (hottrip_raise kind) m.hottrip-is;
+      }

@@ -1,3 +1,4 @@
 pub mod Escaping
 pub mod SevenFactors
 pub mod Prepared
+pub mod Range

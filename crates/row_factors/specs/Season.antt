@@ -1,14 +1,13 @@
 -- Need not be believed: what the program computes once for all rows of a season.
-use Rattle.std.specs.Prelude.{List, ◌≡◌, ℕ, ◌/◌, ◌<◌}
+use Rattle.std.specs.Prelude.{Option, Some, None, List, ◌≡◌, ℕ, ◌/◌, ◌<◌}
 use Rattle.numbers.specs.Lists.{tab}
 use Rattle.bounds.specs.Ahead.{ahead}
 use Rattle.exact.specs.declared.Canister.{Canister}
-use Rattle.exact.specs.declared.Canister.TheVariants.{None, Small, Medium, Large}
+use Rattle.exact.specs.declared.Canister.TheVariants.{Small, Medium, Large}
 use Rattle.exact.specs.declared.Season.{Season}
 use Rattle.exact.specs.declared.Row.{Row}
-use Rattle.marks.specs.declared.MarkValues.{MarkValues}
 use Rattle.sheet.specs.Range.{SeasonInRange, RowInRange, mark_warmth, halves}
-use Rattle.marks.specs.AtMarks.{MarksOf, AtMarks, raises_by, rates_at}
+use Rattle.marks.specs.AtMarks.{MarksOf, raises_by, rates_at}
 use Rattle.factors.specs.Means.{mean_units}
 use Rattle.factors.specs.Units.{start_of, end_of, parking_rise, parking_rates}
 use Rattle.parking.specs.declared.season_list.SeasonList.{SeasonList}
@@ -36,11 +35,6 @@ pub record MeansOf (season : Season) (counts : List ℕ) (m : Means) : Type 0 wh
   pub end50-is : m.end50 ≡ mean_at counts end_of (raises_by season 50)
   pub start60-is : m.start60 ≡ mean_at counts start_of (raises_by season 60)
 
--- a season in range, and its values at the marks
-pub record MarksReady (season : Season) (values : MarkValues) : Type 0 where
-  pub season-in : SeasonInRange season
-  pub marks-are : AtMarks season values
-
 -- the rises of its parkings
 abbrev pub rises_of : Season → List ℕ
 rises_of season = tab (parking_rise season) 576
@@ -59,19 +53,19 @@ pub record DayReady (season : Season) (day : Day) : Type 0 where
   pub large_is : LinesOf season 1 day.large
   pub medium-is : LinesOf season 2 day.medium
   pub small_is : LinesOf season 4 day.small
-  pub raise10-is : day.raise10 ≡ day_raises season 10
-  pub raise15-is : day.raise15 ≡ day_raises season 15
-  pub raise25-is : day.raise25 ≡ day_raises season 25
-  pub raise35-is : day.raise35 ≡ day_raises season 35
-  pub raise45-is : day.raise45 ≡ day_raises season 45
-  pub raise60-is : day.raise60 ≡ day_raises season 60
+  pub raise10-is : day.raise10.by_distance ≡ day_raises season 10
+  pub raise15-is : day.raise15.by_distance ≡ day_raises season 15
+  pub raise25-is : day.raise25.by_distance ≡ day_raises season 25
+  pub raise35-is : day.raise35.by_distance ≡ day_raises season 35
+  pub raise45-is : day.raise45.by_distance ≡ day_raises season 45
+  pub raise60-is : day.raise60.by_distance ≡ day_raises season 60
 
 -- those of a canister; without one there are none, and nothing asks for them
-unfoldable pub lines_in : Day → Canister → List Line
+unfoldable pub lines_in : Day → Option Canister → List Line
 lines_in day None = day.large
-lines_in day Large = day.large
-lines_in day Medium = day.medium
-lines_in day Small = day.small
+lines_in day (Some Large) = day.large
+lines_in day (Some Medium) = day.medium
+lines_in day (Some Small) = day.small
 
 -- what is made once for all rows of a season, from the counts of the cells: its 48 temperatures and their exponential bounds, its day and
 -- its means

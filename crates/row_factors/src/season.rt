@@ -1,14 +1,16 @@
 // What a season gives to every row: its day, the rises of its parkings, and the means that no row changes.
 ghost use Rattle.std.specs.Prelude.{◌≡◌, ℕ, ◌/◌, ◌^◌};
 ghost use Rattle.numbers.specs.Lists.{AllAtMost};
-ghost use Rattle.sheet.specs.Range.{SeasonInRange};
+ghost use Rattle.marks.specs.AtMarks.{AtMarks};
 ghost use Rattle.factors.specs.Means.{mean_units};
 ghost use Rattle.parking.specs.Grid.{passed_in};
-ghost use Rattle.row_factors.specs.Season.{MeansOf, MarksReady, rises_of, DayReady, SeasonReady};
+ghost use Rattle.row_factors.specs.Season.{MeansOf, rises_of, DayReady, SeasonReady};
 
 use breakthrough::fitting::lines;
 use breakthrough::loads::Line;
 use exact::Season;
+use fields::range::CheckedSeason;
+use marks::warmths::Raises;
 use marks::{MarkValues, Marks, at_marks};
 use parking::cells::Moment;
 use parking::grid::Grid;
@@ -41,13 +43,13 @@ pub struct Day {
     pub large: [Line; 25],
     pub medium: [Line; 25],
     pub small: [Line; 25],
-    // The rise of E(0.0716 T) when T is raised by so many tenths of a degree, in units of 2^-40.
-    pub raise10: [u64; 25],
-    pub raise15: [u64; 25],
-    pub raise25: [u64; 25],
-    pub raise35: [u64; 25],
-    pub raise45: [u64; 25],
-    pub raise60: [u64; 25],
+    // The rise of E(0.0716 T) when T is raised by so many tenths of a degree.
+    pub raise10: Raises,
+    pub raise15: Raises,
+    pub raise25: Raises,
+    pub raise35: Raises,
+    pub raise45: Raises,
+    pub raise60: Raises,
 }
 
 // A season as the functions of its rows have it: its 48 temperatures with their exponential bounds, and what is derived from them.
@@ -68,11 +70,11 @@ pub struct Prepared {
 
 // The day of a season that has these values at its marks. Not inlined, so that its arrays take stack only while it runs.
 #[inline(never)]
-fn day_of(season: Season, values: &MarkValues) -> Day
-    requires { MarksReady season values.now }
-    ensures { DayReady season result }
+fn day_of(checked: CheckedSeason, values: &MarkValues) -> Day
+    requires { AtMarks checked.season values.now }
+    ensures { DayReady checked.season result }
 {
-    let vp = season.vp;
+    let vp = checked.season.vp;
     Day {
         large: lines(&values.warmths, vp, 1),
         medium: lines(&values.warmths, vp, 2),
@@ -98,37 +100,36 @@ fn permeation_mean(grid: &Grid, rates: &[u64; 48]) -> u64
 }
 
 // The means of a season, from the rises of its parkings and its values at the marks.
-fn means_of(grid: &Grid, rises: &[u64; 576], season: Season, values: &MarkValues) -> Means
-    requires { MarksReady season values.now × (rises.now ≡ rises_of season) }
-    ensures { MeansOf season grid.now.cells.counts result }
+fn means_of(grid: &Grid, rises: &[u64; 576], checked: CheckedSeason, values: &MarkValues) -> Means
+    requires { AtMarks checked.season values.now × (rises.now ≡ rises_of checked.season) }
+    ensures { MeansOf checked.season grid.now.cells.counts result }
 {
     Means {
         rise: grid.mean_by_cell(rises),
         permeation: permeation_mean(grid, &values.rate),
         soak: grid.mean_by_distance(Moment::Start, &values.soak),
         run: grid.mean_by_distance(Moment::End, &values.run),
-        end10: grid.mean_by_distance(Moment::End, &values.raise10),
-        start15: grid.mean_by_distance(Moment::Start, &values.raise15),
-        end25: grid.mean_by_distance(Moment::End, &values.raise25),
-        start35: grid.mean_by_distance(Moment::Start, &values.raise35),
-        start45: grid.mean_by_distance(Moment::Start, &values.raise45),
-        end50: grid.mean_by_distance(Moment::End, &values.raise50),
-        start60: grid.mean_by_distance(Moment::Start, &values.raise60),
+        end10: grid.mean_by_distance(Moment::End, &values.raise10.by_distance),
+        start15: grid.mean_by_distance(Moment::Start, &values.raise15.by_distance),
+        end25: grid.mean_by_distance(Moment::End, &values.raise25.by_distance),
+        start35: grid.mean_by_distance(Moment::Start, &values.raise35.by_distance),
+        start45: grid.mean_by_distance(Moment::Start, &values.raise45.by_distance),
+        end50: grid.mean_by_distance(Moment::End, &values.raise50.by_distance),
+        start60: grid.mean_by_distance(Moment::Start, &values.raise60.by_distance),
     }
 }
 
 // A season as the functions of its rows have it, made once for all of them.
-pub fn prepare(grid: &Grid, season: Season) -> Prepared
-    requires { SeasonInRange season }
-    ensures { (result.at.season ≡ season) × SeasonReady grid.now.cells.counts result.at × (result.rises ≡ rises_of season) }
+pub fn prepare(grid: &Grid, checked: CheckedSeason) -> Prepared
+    ensures { (result.at.season ≡ checked.season) × SeasonReady grid.now.cells.counts result.at × (result.rises ≡ rises_of checked.season) }
 {
-    let values = at_marks(season);
+    let values = at_marks(checked);
     let rises = rises(&values.step);
-    let day = day_of(season, &values);
-    let means = means_of(grid, &rises, season, &values);
+    let day = day_of(checked, &values);
+    let means = means_of(grid, &rises, checked, &values);
     let marks = values.marks;
     let at = AtSeason {
-        season,
+        season: checked.season,
         marks,
         day,
         means,

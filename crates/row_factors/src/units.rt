@@ -1,62 +1,58 @@
-// The seven factors of a row in a season, in units of 2^-28 g: factor k of the guidebook stands at place k - 1.
+// The seven factors of a row in a season, in units of 2^-28 g.
 ghost use Rattle.std.specs.Prelude.{◌≡◌, ◌+◌, ◌^◌, ◌<◌};
 ghost use Rattle.row_factors.specs.Season.{RowReady};
-ghost use Rattle.row_factors.specs.Seven.{CarFits, car_seven, two_wheeler_seven, seven_units};
+ghost use Rattle.row_factors.specs.Units.{UnitsInRange};
+ghost use Rattle.row_factors.specs.Seven.{SevenFit, seven_of, seven_units};
 
-use crate::escapes::Escapes;
+use crate::escapes::{Escapes, Kind};
 use crate::rows::SeasonRows;
 use crate::season::Means;
 use breakthrough::loads::LoadedRow;
 
-// The factors of a car: permeation in a parking, in a soak and in the minutes of a trip, and the escapes besides. Two-wheelers have a
-// function of their own, since a trait of both would hold these two lists of sums and nothing more.
-#[tactic(auto, unfolding(crate::specs::Seven::car_seven))]
-fn car_units(e: Escapes, m: Means, minutes: u64) -> [u64; 7]
-    requires { CarFits e m minutes }
-    ensures { result ≡ car_seven e m minutes }
-{
-    let run = minutes * m.run / 60;
-    [
-        e.parking + m.permeation,
-        m.soak,
-        e.soak + m.soak,
-        e.hotsoak + m.soak,
-        run,
-        run + e.trip,
-        run + e.hottrip,
-    ]
+// An array, since the guidebook numbers the factors 1 to 7 and a caller asks for one by its number: factor k stands at place k - 1.
+#[derive(Clone, Copy)]
+pub struct Units {
+    pub factors: [u64; 7],
+    pub ghost in_range: { UnitsInRange factors },
 }
 
-// The factors of a two-wheeler: permeation counts in a parking alone.
-#[tactic(auto, unfolding(crate::specs::Seven::two_wheeler_seven))]
-fn two_wheeler_units(e: Escapes, m: Means) -> [u64; 7]
-    requires { e.parking + m.permeation < 2 ^ 64 }
-    ensures { result ≡ two_wheeler_seven e m }
-{
-    [
-        e.parking + m.permeation,
-        e.soak,
-        e.hotsoak,
-        e.hotsoak,
-        e.trip,
-        e.hottrip,
-        e.hottrip,
-    ]
+#[tactic(auto, unfolding(crate::specs::Seven::seven_of))]
+impl Kind {
+    // The factors of a car: permeation in a parking, in a soak and in the minutes of a trip, and the escapes besides. Of a two-wheeler:
+    // permeation counts in a parking alone.
+    fn factors(self, e: &Escapes, m: &Means, minutes: u64) -> [u64; 7]
+        requires { SevenFit e.now m.now minutes }
+        ensures { result ≡ seven_of self e.now m.now minutes }
+    {
+        let parking = e.parking + m.permeation;
+        let run = minutes * m.run / 60;
+        match self {
+            Kind::Car => [
+                parking,
+                m.soak,
+                e.soak + m.soak,
+                e.hotsoak + m.soak,
+                run,
+                run + e.trip,
+                run + e.hottrip,
+            ],
+            Kind::TwoWheeler => [
+                parking, e.soak, e.hotsoak, e.hotsoak, e.trip, e.hottrip, e.hottrip,
+            ],
+        }
+    }
 }
 
 impl SeasonRows<'_> {
     // The seven factors of a row.
-    pub fn units(&self, row: LoadedRow) -> [u64; 7]
+    pub fn units(&self, row: LoadedRow) -> Units
         requires { RowReady self.now.grid.now.cells.counts self.now.list.now self.now.at.season row.row }
-        ensures { result ≡ seven_units self.now.at.season row.row self.now.grid.now.cells.counts }
+        ensures { result.factors ≡ seven_units self.now.at.season row.row self.now.grid.now.cells.counts }
     {
-        let means = self.at.means;
-        if row.row.class < 5 {
-            let e = self.car(row);
-            car_units(e, means, row.row.minutes)
-        } else {
-            let e = self.two_wheeler(row);
-            two_wheeler_units(e, means)
+        let kind = Kind::of(row.row.class);
+        let escapes = self.escapes(kind, row);
+        Units {
+            factors: kind.factors(&escapes, &self.at.means, row.row.minutes),
         }
     }
 }

@@ -6,11 +6,12 @@ ghost use Rattle.sheet.specs.Integers.{u8_at, u16_at};
 ghost use Rattle.sheet.specs.Bytes.{rows_of, row_place, row_at};
 ghost use Rattle.sheet.specs.Sheet.{no_canister};
 ghost use Rattle.sheet.specs.RunningSums.{vehicles_before};
-ghost use Rattle.checks.specs.Passed.{SeasonsPassed};
 ghost use Rattle.findings.specs.Lines.{site, field, limits, always, line, each_finding};
 ghost use Rattle.findings.specs.Table.{last_technology, class_finding, percent_finding, fleet_finding, use_finding, load_finding};
 ghost use Rattle.findings.specs.Table.{saturated_site, largest, saturation_finding, driven_finding, mileage_finding, row_finding};
 
+use checks::exponent::Demand;
+use checks::passed_seasons::PassedSeasons;
 use exact::Row;
 use fields::classes::{BY_CLASS, LAST_CODE, no_canister};
 use fields::limits::{
@@ -25,7 +26,7 @@ use findings::spans::{
     TECHNOLOGY, TRIPS, VEHICLES,
 };
 use findings::{Judged, Limits};
-use largest_loads::{Demand, Seasons};
+use largest_loads::excess_of;
 use std::ops::Range;
 
 // The classes of the table.
@@ -46,7 +47,7 @@ fn last_technology(class: u64) -> u64
 // A row in its sheet: where it starts, which it is, what it says, and the vehicles of the rows before.
 #[derive(Clone, Copy)]
 struct RowAt<'a> {
-    seasons: Seasons<'a>,
+    seasons: PassedSeasons<'a>,
     at: Record,
     row: Row,
     before: u64,
@@ -60,8 +61,8 @@ struct RowAt<'a> {
 }
 
 impl<'a> RowAt<'a> {
-    // Row i.
-    fn of(seasons: Seasons<'a>, i: usize, before: u64) -> RowAt<'a>
+    // Row i. The row's bytes are asked for, since the sheet is not accepted yet.
+    fn of(seasons: PassedSeasons<'a>, i: usize, before: u64) -> RowAt<'a>
         requires there { row_place seasons.sheet.now i + 24 ≤ length seasons.sheet.now }
         requires counted { before ≡ vehicles_before seasons.sheet.now i }
         requires before_fits { before < 2 ^ 62 }
@@ -80,7 +81,8 @@ impl<'a> RowAt<'a> {
         }
     }
 
-    // The number in one of its bytes, and in two.
+    // The number in one of its bytes, and in two: one function for each width, as fields has them. `RowBytes` of that crate can't stand
+    // for both, since it gives no class and no technology as they are written.
     fn u8_at(self, bytes: Range<u16>) -> u64
         requires { bytes.start < 24 }
         ensures { result ≡ u8_at self.entry.seasons.sheet.now (self.entry.at.place + bytes.start) }
@@ -174,7 +176,7 @@ impl<'a> RowAt<'a> {
             (limits 0 (largest s i p row demand.limit)) }
     {
         let saturation = self.row.saturation;
-        let Some(excess) = self.seasons.excess(demand, saturation) else {
+        let Some(excess) = excess_of(demand, saturation, self.seasons) else {
             return Ok(());
         };
         judge(
@@ -255,15 +257,14 @@ impl<'a> RowAt<'a> {
 
 // The first finding of the rows. An iterator over the rows with the vehicles before each would be a type for this loop alone, and no plainer.
 #[tactic(auto, using(findings::proofs::Steps::in_order))]
-pub fn rows_finding(s: &[u8]) -> Judged
-    requires { SeasonsPassed s.now × (row_place s.now (rows_of s.now) ≤ length s.now) }
-    ensures { result ≡ each_finding (row_finding s.now) (rows_of s.now) }
+pub fn rows_finding(seasons: PassedSeasons) -> Judged
+    requires { row_place seasons.sheet.now (rows_of seasons.sheet.now) ≤ length seasons.sheet.now }
+    ensures { result ≡ each_finding (row_finding seasons.entry.sheet.now) (rows_of seasons.entry.sheet.now) }
 {
-    let seasons = Seasons::of(s);
     let mut before: u64 = 0;
-    for i in 0..rows_of(s) {
+    for i in 0..rows_of(seasons.sheet) {
         RowAt::of(seasons, i, before).finding()?;
-        before += vehicles_of(s, i);
+        before += vehicles_of(seasons.sheet, i);
     }
     Ok(())
 }

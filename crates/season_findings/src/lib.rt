@@ -1,19 +1,20 @@
 // Each season: numbers 10 to 12.
 #![tactic(auto)]
 
-ghost use Rattle.std.specs.Prelude.{◌≡◌, ◌+◌, ◌*◌, ◌<◌, ◌≤◌, length};
+ghost use Rattle.std.specs.Prelude.{◌≡◌, ◌+◌, ◌*◌, ◌<◌, ◌≤◌, MatchResult, length};
 ghost use Rattle.sheet.specs.Bytes.{seasons_of, season_place, row_place};
 ghost use Rattle.sheet.specs.RunningSums.{days_before};
-ghost use Rattle.findings.specs.Lines.{each_finding};
+ghost use Rattle.findings.specs.Lines.{none_found, each_finding};
 ghost use Rattle.findings.specs.Table.{shifted, days_finding, weather_finding, season_finding};
 
+use checks::passed_seasons::PassedSeasons;
 use exact::Season;
 use fields::limits::{COLD_LIMIT, DAYS_LIMIT, VP_LEAST, VP_LIMIT, WARM_LIMIT};
 use fields::{season_at, season_place, seasons_of};
 use finding_lines::Record;
 use findings::reasons::Reason;
 use findings::spans::{DAYS, HIGHEST, LOWEST, VAPOUR_PRESSURE};
-use findings::{Judged, Limits};
+use findings::{Found, Judged, Limits};
 
 // What a temperature is shifted by, so that none is below 0.
 const SHIFT: u16 = 32768;
@@ -72,7 +73,7 @@ impl SeasonAt {
     }
 }
 
-// Season i, with the days of the seasons before it.
+// Season i, with the days of the seasons before it. The season's bytes are asked for, since the sheet is not accepted yet.
 #[tactic(auto, using(findings::proofs::Steps::in_order), unfolding(findings::specs::Table::season_finding))]
 fn season_finding(s: &[u8], i: usize, before: u64) -> Judged
     requires { (season_place s.now i + 8 ≤ length s.now) × (i < 256) × (before ≡ days_before s.now i) × (before ≤ 65536 * 256) }
@@ -90,17 +91,18 @@ fn season_finding(s: &[u8], i: usize, before: u64) -> Judged
     here.weather_finding()
 }
 
-// The first finding of the seasons, with their running sum of days. An iterator over the seasons with the days before each would be a type
-// for this loop alone, and no plainer.
+// The seasons one after another, with their running sum of days: the sheet with the word that they have passed, or the first finding. An
+// iterator over the seasons with the days before each would be a type for this loop alone, and no plainer.
 #[tactic(auto, using(findings::proofs::Steps::in_order))]
-pub fn seasons_finding(s: &[u8]) -> Judged
+pub fn seasons_finding(s: &[u8]) -> Result<PassedSeasons<'_>, Found>
     requires { row_place s.now 0 ≤ length s.now }
-    ensures { result ≡ each_finding (season_finding s.now) (seasons_of s.now) }
+    ensures { let findings = each_finding (season_finding s.now) (seasons_of s.now) in
+        MatchResult result (λ seasons. (seasons.sheet.now ≡ s.now) × (findings ≡ none_found)) (λ found. findings ≡ Err found) }
 {
     let mut before: u64 = 0;
     for i in 0..seasons_of(s) {
         season_finding(s, i, before)?;
         before += season_at(s, i).days;
     }
-    Ok(())
+    Ok(PassedSeasons { sheet: s })
 }

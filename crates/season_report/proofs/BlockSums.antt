@@ -32,6 +32,17 @@ pub sums_at : (s rows : List ℕ) (k : ℕ) → k < 24 → at (sums_of s rows) k
 unfolding sums_of
 sums_at s rows k h = get_d-tab _ 24 k h
 
+-- The words of the rows with the subtotals behind them.
+module _ (s rows : List ℕ) (long : length rows ≡ 6 * rows_of s) where
+  pub front : length (rows ++ sums_of s rows) ≡ 6 * rows_of s + 24
+  front = length-append rows (sums_of s rows) ∙ omega (arith, sums-length s rows)
+
+  -- a subtotal, whatever stands beyond
+  pub subtotal_at : (beyond : List ℕ) (k m : ℕ) → m < 24 → k ≡ 6 * rows_of s + m
+      → at (rows ++ sums_of s rows ++ beyond) k ≡ at (sums_of s rows) m
+  subtotal_at beyond k m h e =
+      get_or-append (rows ++ sums_of s rows) beyond 0 k (omega (arith, front)) ∙ past rows (sums_of s rows) (6 * rows_of s) m k long e
+
 -- none passes 64 bits
 pub record SumsFit (s rows : List ℕ) : Type 0 where
   pub sum_fits : (f : ℕ → Bool) (j : ℕ) → j < 6 → buffer_sum s rows f (rows_of s) j < 2 ^ 64
@@ -61,21 +72,13 @@ module _ (s words rows : List ℕ) (long : length rows ≡ 6 * rows_of s) (first
       rw sums-tab
       (sets-eq (sums_of s rows) words (6 * rows_of s) (omega (arith, sums-length s rows)) ∙ rw (first, sums-length s rows) refl)
 
-  front : length (rows ++ sums_of s rows) ≡ 6 * rows_of s + 24
-  front = length-append rows (sums_of s rows) ∙ omega (arith, sums-length s rows)
-
-  sum-at : (k m : ℕ) → m < 24 → k ≡ 6 * rows_of s + m → at middle k ≡ at (sums_of s rows) m
-  sum-at k m h e =
-      get_or-append (rows ++ sums_of s rows) (drop (6 * rows_of s + 24) words) 0 k (omega (arith, front)) ∙
-      past rows (sums_of s rows) (6 * rows_of s) m k long e
-
   three : (j k : ℕ) → j < 2 → k ≡ 6 * rows_of s + 18 + j → three_word middle k ≡ total_of (sums_of s rows) j
   unfolding three_word
   three j k h e =
       rw (
-        sum-at k (18 + j) (omega arith) (omega arith),
-        sum-at (k + 2) (20 + j) (omega arith) (omega arith),
-        sum-at (k + 4) (22 + j) (omega arith) (omega arith),
+        subtotal_at s rows long _ k (18 + j) (omega arith) (omega arith),
+        subtotal_at s rows long _ (k + 2) (20 + j) (omega arith) (omega arith),
+        subtotal_at s rows long _ (k + 4) (22 + j) (omega arith) (omega arith),
       ) (mod-eq_of_lt (fits.total-fits j h))
 
   -- two words stored after the subtotals
@@ -83,15 +86,16 @@ module _ (s words rows : List ℕ) (long : length rows ≡ 6 * rows_of s) (first
       → sets (sets middle p (a ∷ [])) q (b ∷ []) ≡ rows ++ sums_of s rows ++ (a ∷ b ∷ []) ++ drop (6 * rows_of s + 26) words
   pair-stored p q a b e f =
       let rest : drop (6 * rows_of s + 24) middle ≡ drop (6 * rows_of s + 24) words =
-      drop_at (rows ++ sums_of s rows) (drop (6 * rows_of s + 24) words) (6 * rows_of s + 24) front in
+      drop_at (rows ++ sums_of s rows) (drop (6 * rows_of s + 24) words) (6 * rows_of s + 24) (front s rows long) in
       let beyond : drop (6 * rows_of s + 24 + 2) middle ≡ drop (6 * rows_of s + 26) words =
       sym (drop-drop 2 (6 * rows_of s + 24) middle) ∙ ap (drop 2) rest ∙ drop-drop 2 (6 * rows_of s + 24) words ∙
       ap (λ (k : ℕ). drop k words) {x = 6 * rows_of s + 24 + 2} {y = 6 * rows_of s + 26} (omega arith) in
       let whole : length middle ≡ length words =
-      length-append (rows ++ sums_of s rows) (drop (6 * rows_of s + 24) words) ∙ omega (arith, front, length-drop (6 * rows_of s + 24) words) in
+      length-append (rows ++ sums_of s rows) (drop (6 * rows_of s + 24) words) ∙
+      omega (arith, front s rows long, length-drop (6 * rows_of s + 24) words) in
       rw (e, f)
       (sets-eq (a ∷ b ∷ []) middle (6 * rows_of s + 24) (omega arith) ∙
-      rw (take_at (rows ++ sums_of s rows) (drop (6 * rows_of s + 24) words) (6 * rows_of s + 24) front, beyond) refl)
+      rw (take_at (rows ++ sums_of s rows) (drop (6 * rows_of s + 24) words) (6 * rows_of s + 24) (front s rows long), beyond) refl)
 
   -- all 26
   pub resummed-exact : resummed s words ≡ with_sums s rows ++ drop (6 * rows_of s + 26) words

@@ -1,5 +1,5 @@
 -- The block of a season: what one season adds to words that are 0, in milligrams, with the sums; all fit 64 bits.
-use mathlib.Core.Bool.{Bool, true, false}
+use mathlib.Core.Bool.{Bool}
 use mathlib.Core.List.{List}
 use mathlib.Core.Path.{◌≡◌, refl, ◌∙◌, ap}
 use Prim.Native.Nat.{ℕ, suc, zero, ◌+◌, ◌*◌, ◌-◌, ◌/◌, ◌%◌, ◌^◌, ◌≤◌, ◌<◌}
@@ -16,7 +16,6 @@ use Rattle.masses.specs.Bands.{all_days}
 use Rattle.masses.specs.Day.{day_figures}
 use Rattle.masses.proofs.MassSizes.{vehicle_most, RowSized, word-most, year-fits}
 use Rattle.sheet_factors.proofs.AcceptedRange.{row-shares, sized}
-use Rattle.report_words.specs.Categories.{counted}
 use Rattle.report_words.specs.Years.{season_figure, season_added, SeasonFits, in_milligrams, filled}
 use Rattle.report_words.proofs.Filled.{filled-less, first-at}
 use Rattle.report_words.proofs.YearWords.{row-year-most}
@@ -89,13 +88,18 @@ module _ {s : List ℕ} (bytes : Bytes s) (a : Accepted s) (j : ℕ) (there : j 
       each k h = rw (sums_at s (tab (season_word s j) (6 * rows_of s)) k h) (most _ (k % 6) (omega arith))
 
   -- the season's figures fit 64 bits in words that are 0
-  pub zero-fits : (words : List ℕ) → take (6 * rows_of s) words ≡ tab (λ (k : ℕ). 0) (6 * rows_of s) → SeasonFits s (season_at s j) words
+  zero-fits : (words : List ℕ) → take (6 * rows_of s) words ≡ tab (λ (k : ℕ). 0) (6 * rows_of s) → SeasonFits s (season_at s j) words
   unfolding sum season_figure
   zero-fits words first = record {
     word_fits = λ k h.
         rw (first-at (λ (k : ℕ). 0) words (6 * rows_of s) k first h)
         (omega (arith, row-year-most bytes a (k / 6) (k % 6) (suc j) (omega arith) (omega arith), year-fits));
   }
+
+  -- so they do where the words were cleared
+  pub cleared-fits : (old zeros : List ℕ) → zeros ≡ filled (λ (k : ℕ). 0) (6 * rows_of s) old → SeasonFits s (season_at s j) zeros
+  cleared-fits old zeros cleared =
+      let n = 6 * rows_of s in zero-fits zeros (ap (take n) cleared ∙ filled-less _ old n n (omega arith))
 
   -- The words after each step of the code.
   module _ (old zeros added : List ℕ) (cleared : zeros ≡ filled (λ (k : ℕ). 0) (6 * rows_of s) old)

@@ -1,36 +1,36 @@
--- The call for the report of each season: its last check as a demand, where each block stands, and what is promised of the buffer.
-use mathlib.Core.Bool.{Bool}
+-- The call for the report of each season: where each block stands, and what is promised of the buffer.
 use mathlib.Core.List.{List, [], ◌∷◌, ◌++◌}
-use mathlib.Core.Path.{◌≡◌, refl, sym, ◌∙◌, ap, ap₂}
+use mathlib.Core.Path.{◌≡◌, refl, sym, ◌∙◌, ap}
 use Prim.Native.Nat.{ℕ, suc, zero, ◌+◌, ◌*◌, ◌/◌, ◌%◌, ◌≤◌, ◌<◌}
 use native.Mathlib.Nat.{mul-le-mul_left}
 use native.Mathlib.Omega.{arith}
 use lib.ListN.{length, get_or, drop, length-append, get_or-append}
 use lib.Seq.{get_or-drop}
-use Rattle.numbers.specs.Lists.{tab, at, sum}
+use Rattle.std.specs.Fork.{slice_chunk}
+use Rattle.numbers.specs.Lists.{tab, at}
 use Rattle.numbers.proofs.Lists.{tab-length, past}
 use Rattle.blocks.specs.Blocks.{blocks}
-use Rattle.blocks.proofs.Blocks.{blocks-length, blocks_at, filled_blocks}
+use Rattle.blocks.proofs.Blocks.{blocks-length, blocks_at}
+use Rattle.blocks.proofs.Parts.{blocks-made}
 use Rattle.exact.specs.Masses.{diurnal, soak, running}
 use Rattle.refusals.specs.Check.{Check, Pass}
 use Rattle.sheet.specs.Bytes.{seasons_of, rows_of, cells_of, row_at}
-use Rattle.sheet.specs.Sheet.{sheet_check}
-use Rattle.sheet.proofs.Checks.{Judges, judges-refuse, judges-then, ltb-tests, then-pass, says}
-use Rattle.sheet.proofs.Conditions.{sheet-judged}
+use Rattle.sheet.proofs.Checks.{says}
 use Rattle.sheet.proofs.Accepted.{Bytes, Accepted, accepted}
 use Rattle.masses.specs.Figures.{row_figures}
 use Rattle.masses.proofs.MassWidth.{mass-band, no-vehicles}
 use Rattle.sheet_factors.proofs.AcceptedRange.{row-shares, enclosed}
-use Rattle.report_words.specs.Categories.{report_length, counted, category}
+use Rattle.report_words.specs.Categories.{report_length, category}
 use Rattle.report_words.specs.Promise.{rows_sum, category_word}
-use Rattle.report_words.proofs.Promised.{sums-hold}
+use Rattle.report_words.proofs.Promised.{zeros, summed, grand, sums-hold}
 use Rattle.report_sums.specs.Sums.{buffer_sum}
 use Rattle.inventory.specs.ReportCall.{written}
 use Rattle.refusals.proofs.Numbers.{zero-passes}
+use Rattle.inventory.proofs.CallConditions.{room-judged, room-passed}
 use Rattle.inventory.proofs.Written.{written-first}
 use Rattle.season_report.specs.Seasons.{alone, season_word, sums_of, total_of, with_sums, season_report, report_seasons}
-use Rattle.season_report.specs.Seasons.{seasons_check, seasons_demands, SeasonRowPromise, SeasonPromise, SeasonsCall}
-use Rattle.season_report.proofs.BlockSums.{sums-length, sums_at}
+use Rattle.season_report.specs.Seasons.{seasons_length, seasons_check, SeasonRowPromise, SeasonPromise, SeasonsCall}
+use Rattle.season_report.proofs.BlockSums.{sums-length, sums_at, front, subtotal_at}
 use Rattle.season_report.proofs.SeasonBlocks.{season-word-at}
 
 -- Where the words of a block stand.
@@ -39,22 +39,19 @@ module _ (s rows : List ℕ) (long : length rows ≡ 6 * rows_of s) where
   unfolding with_sums
   with-length = simp length-append (omega (arith, sums-length s rows))
 
-  front : length (rows ++ sums_of s rows) ≡ 6 * rows_of s + 24
-  front = length-append rows (sums_of s rows) ∙ omega (arith, sums-length s rows)
-
   pub row_word : (k : ℕ) → k < 6 * rows_of s → at (with_sums s rows) k ≡ at rows k
   unfolding with_sums
   row_word k h =
-      get_or-append (rows ++ sums_of s rows) _ 0 k (omega (arith, front)) ∙ get_or-append rows (sums_of s rows) 0 k (omega arith)
+      get_or-append (rows ++ sums_of s rows) _ 0 k (omega (arith, front s rows long)) ∙
+      get_or-append rows (sums_of s rows) 0 k (omega arith)
 
   pub sum-word : (k m : ℕ) → m < 24 → k ≡ 6 * rows_of s + m → at (with_sums s rows) k ≡ at (sums_of s rows) m
   unfolding with_sums
-  sum-word k m h e =
-      get_or-append (rows ++ sums_of s rows) _ 0 k (omega (arith, front)) ∙ past rows (sums_of s rows) (6 * rows_of s) m k long e
+  sum-word k m h e = subtotal_at s rows long _ k m h e
 
   pub total-word : (k j : ℕ) → j < 2 → k ≡ 6 * rows_of s + 24 + j → at (with_sums s rows) k ≡ total_of (sums_of s rows) j
   unfolding with_sums
-  total-word k j h e = past (rows ++ sums_of s rows) _ (6 * rows_of s + 24) j k front e ∙ two j h
+  total-word k j h e = past (rows ++ sums_of s rows) _ (6 * rows_of s + 24) j k (front s rows long) e ∙ two j h
     where
       two : (j : ℕ) → j < 2 → get_or (total_of (sums_of s rows) 0 ∷ total_of (sums_of s rows) 1 ∷ []) j 0 ≡ total_of (sums_of s rows) j
       two zero l = refl
@@ -74,13 +71,15 @@ pub block-length : (s : List ℕ) (j : ℕ) → length (season_report s j) ≡ 6
 unfolding season_report
 block-length s j = with-length s (tab (season_word s j) (6 * rows_of s)) (tab-length _ (6 * rows_of s))
 
--- all seasons, before the words beyond
-pub all-written : (s : List ℕ) (j : ℕ) (old : List ℕ) → j ≡ seasons_of s
-    → filled_blocks (season_report s) (6 * rows_of s + 26) (block-length s) old j ≡ written Pass (report_seasons s) old
+-- a buffer whose parts are the blocks, and beyond them as it was
+pub all-filled : (s old words : List ℕ) → ((j : ℕ) → j < seasons_of s → slice_chunk words (6 * rows_of s + 26) j ≡ season_report s j)
+    → drop (seasons_of s * (6 * rows_of s + 26)) words ≡ drop (seasons_of s * (6 * rows_of s + 26)) old
+    → words ≡ written Pass (report_seasons s) old
 unfolding written report_seasons
-all-written s j old e =
+all-filled s old words seasons beyond =
     let long = blocks-length (season_report s) (6 * rows_of s + 26) (block-length s) (seasons_of s) in
-    rw e (ap (λ (k : ℕ). blocks (season_report s) (seasons_of s) ++ drop k old) (sym long))
+    blocks-made (6 * rows_of s + 26) words (season_report s) (seasons_of s) old seasons beyond ∙
+    ap (λ (k : ℕ). blocks (season_report s) (seasons_of s) ++ drop k old) (sym long)
 
 -- word k of season j
 seasons-at : (s : List ℕ) (j k : ℕ) → j < seasons_of s → k < 6 * rows_of s + 26
@@ -111,15 +110,6 @@ module _ {s : List ℕ} (bytes : Bytes s) (a : Accepted s) (j : ℕ) (there : j 
         running-band = rw (row-at i 4 row (omega arith), row-at i 5 row (omega arith)) (band running);
         no-vehicles = λ none m l. row-at i m row l ∙ zeros (no-vehicles (cells_of s) (alone s j) (row_at s i) none) m;
       }
-    where
-      zeros : {xs : List ℕ} → xs ≡ 0 ∷ 0 ∷ 0 ∷ 0 ∷ 0 ∷ 0 ∷ [] → (m : ℕ) → at xs m ≡ 0
-      zeros e zero = rw e
-      zeros e (suc zero) = rw e
-      zeros e (suc (suc zero)) = rw e
-      zeros e (suc (suc (suc zero))) = rw e
-      zeros e (suc (suc (suc (suc zero)))) = rw e
-      zeros e (suc (suc (suc (suc (suc zero))))) = rw e
-      zeros e (suc (suc (suc (suc (suc (suc m)))))) = rw e
 
   abbrev rows : List ℕ
   rows = tab (season_word s j) (6 * rows_of s)
@@ -128,64 +118,52 @@ module _ {s : List ℕ} (bytes : Bytes s) (a : Accepted s) (j : ℕ) (there : j 
   same_row : (i m : ℕ) → i < rows_of s → m < 6 → at words (6 * i + m) ≡ at rows (6 * i + m)
   same_row i m row h = row-at i m row h ∙ sym (season-word-at bytes a j there i m row h)
 
-  -- so their sums are
-  sum_is : (f : ℕ → Bool) (n m : ℕ) → n ≤ rows_of s → m < 6
-      → buffer_sum s rows f n m ≡ sum (λ (i : ℕ). counted (f (row_at s i).class) (at words (6 * i + m))) n
-  unfolding buffer_sum sum
-  sum_is f zero m l h = refl
-  sum_is f (suc n) m l h = ap₂ ◌+◌ (sum_is f n m (omega arith) h) (ap (counted (f (row_at s n).class)) (sym (same_row n m l h)))
-
+  -- so the words of a category are sums of the buffer's words
   category-sum : (c m : ℕ) → c < 4 → m < 6 → category_word s words c m ≡ rows_sum s words (category c) m
-  unfolding season_report
+  unfolding season_report buffer_sum
   category-sum c m l h =
       holds (6 * (rows_of s + c) + m) (omega arith) ∙
-      category-word s rows (tab-length _ (6 * rows_of s)) (6 * (rows_of s + c) + m) c m l h refl ∙ sum_is (category c) (rows_of s) m (omega arith) h
+      category-word s rows (tab-length _ (6 * rows_of s)) (6 * (rows_of s + c) + m) c m l h refl ∙
+      summed s words (category c) m (λ (n : ℕ). buffer_sum s rows (category c) n m) (λ (i : ℕ). at rows (6 * i + m)) refl (λ _. refl)
+      (rows_of s) (λ i row. same_row i m row h)
 
   -- the six words for all rows
-  all-rows : (m k : ℕ) → m < 6 → k ≡ 18 + m → at (sums_of s rows) k ≡ category_word s words 3 m
-  unfolding season_report
-  all-rows m k h e =
-      sym (holds (6 * (rows_of s + 3) + m) (omega arith) ∙
-      sum-word s rows (tab-length _ (6 * rows_of s)) (6 * (rows_of s + 3) + m) k (omega arith) (omega arith))
+  abbrev all : ℕ → ℕ
+  all m = at (sums_of s rows) (18 + m)
 
-  grand : (m : ℕ) → m < 2 → category_word s words 4 m ≡ category_word s words 3 m + category_word s words 3 (m + 2) + category_word s words 3 (m + 4)
+  whole_word : (m : ℕ) → m < 6 → category_word s words 3 m ≡ all m
   unfolding season_report
-  grand m h =
-      holds (6 * (rows_of s + 4) + m) (omega arith) ∙
-      total-word s rows (tab-length _ (6 * rows_of s)) (6 * (rows_of s + 4) + m) m h (omega arith) ∙
-      rw (
-        all-rows m (18 + m) (omega arith) refl,
-        all-rows (m + 2) (20 + m) (omega arith) (omega arith),
-        all-rows (m + 4) (22 + m) (omega arith) (omega arith),
-      ) refl
+  whole_word m h =
+      holds (6 * (rows_of s + 3) + m) (omega arith) ∙
+      sum-word s rows (tab-length _ (6 * rows_of s)) (6 * (rows_of s + 3) + m) (18 + m) (omega arith) (omega arith)
+
+  -- the grand total
+  grand-word : (m : ℕ) → m < 2 → category_word s words 4 m ≡ all m + all (2 + m) + all (4 + m)
+  unfolding season_report
+  grand-word m h =
+      let second : 18 + (2 + m) ≡ 20 + m = omega arith in
+      let third : 18 + (4 + m) ≡ 22 + m = omega arith in
+      rw (second, third)
+      (holds (6 * (rows_of s + 4) + m) (omega arith) ∙
+      total-word s rows (tab-length _ (6 * rows_of s)) (6 * (rows_of s + 4) + m) m h (omega arith))
 
   pub season-promise : SeasonPromise s j words
-  season-promise = record { each_row = row-promise; sums = sums-hold a category-sum grand }
-
--- number 22 as a demand, after those of the sheet
-seasons-judged : (s : List ℕ) (room : ℕ) → Judges (seasons_check s room) (seasons_demands s room)
-unfolding seasons_check
-seasons-judged s room = judges-then (sheet-judged s) (judges-refuse (ltb-tests room (report_length s * seasons_of s)))
-
--- the sheet is accepted, and the buffer has room
-pub seasons-passed : (s : List ℕ) (room : ℕ) → seasons_check s room ≡ Pass → (sheet_check s ≡ Pass) × (report_length s * seasons_of s ≤ room)
-unfolding seasons_check
-seasons-passed s room h = ((then-pass _ _ h).0, ((seasons-judged s room).passes h).1)
+  season-promise = record { each_row = row-promise; sums = sums-hold a category-sum (grand s words all whole_word grand-word) }
 
 -- What holds after the call.
 pub seasons-answer : {s old words : List ℕ} {r : Check} → Bytes s → r ≡ seasons_check s (length old)
     → words ≡ written r (report_seasons s) old → SeasonsCall s old words r
-unfolding report_length report_seasons
+unfolding report_length report_seasons seasons_check
 seasons-answer {s} {old} {words} {r} bytes e w = record {
   answer-is = e;
   words_are = w;
-  says = rw e (says (seasons_check s (length old)) (seasons-judged s (length old)));
+  says = rw e (says (seasons_check s (length old)) (room-judged seasons_length s (length old)));
   promise = λ zero j there.
       let passed : seasons_check s (length old) ≡ Pass =
       zero-passes (seasons_check s (length old)) (rw e at zero) in
       let all : words ≡ written Pass (report_seasons s) old = rw (e ∙ passed) at w in
       let long = blocks-length (season_report s) (6 * rows_of s + 26) (block-length s) (seasons_of s) in
-      season-promise bytes (accepted s (seasons-passed s (length old) passed).0) j there (drop ((6 * rows_of s + 26) * j) words)
+      season-promise bytes (accepted s (room-passed seasons_length s (length old) passed).0) j there (drop ((6 * rows_of s + 26) * j) words)
       (λ k l.
       get_or-drop ((6 * rows_of s + 26) * j) words k 0 ∙
       rw all (written-first (report_seasons s) old ((6 * rows_of s + 26) * j + k) (omega (arith, mul-le-mul_left (6 * rows_of s + 26) there))) ∙

@@ -1,19 +1,19 @@
 -- What the call for the report of each season answers and what it leaves in the buffer. Definitions only.
-use Rattle.std.specs.Prelude.{List, [], ◌∷◌, ◌++◌, ◌≡◌, ℕ, ◌+◌, ◌*◌, ◌/◌, ◌%◌, ◌≤◌, ◌<◌, ltb, length, drop}
+use Rattle.std.specs.Prelude.{List, [], ◌∷◌, ◌++◌, ◌≡◌, ℕ, ◌+◌, ◌*◌, ◌/◌, ◌%◌, ◌≤◌, ◌<◌, length, drop}
 use Rattle.numbers.specs.Lists.{tab, at}
 use Rattle.blocks.specs.Blocks.{blocks}
 use Rattle.exact.specs.declared.Season.{Season}
 use Rattle.exact.specs.Masses.{diurnal, soak, running}
 use Rattle.refusals.specs.declared.Rule.TheVariants as rule
-use Rattle.refusals.specs.Check.{Check, refuse, ◌then◌, number_of, place_of}
+use Rattle.refusals.specs.Check.{Check, number_of, place_of}
 use Rattle.sheet.specs.Bytes.{seasons_of, rows_of, cells_of, season_at, row_at}
-use Rattle.sheet.specs.Sheet.{sheet_check}
 use Rattle.sheet.specs.Demands.{Demands, demand, ◌next◌, Says, demands}
 use Rattle.masses.specs.Figures.{row_figures}
 use Rattle.masses.specs.Bands.{MassBand}
 use Rattle.report_words.specs.Categories.{report_length, category}
 use Rattle.report_words.specs.Promise.{SumsPromise}
 use Rattle.report_sums.specs.Sums.{buffer_sum}
+use Rattle.inventory.specs.ReportAnswers.{room_check}
 use Rattle.inventory.specs.ReportCall.{written}
 
 -- season j alone
@@ -44,12 +44,16 @@ season_report s j = with_sums s (tab (season_word s j) (6 * rows_of s))
 unfoldable pub report_seasons : List ℕ → List ℕ
 report_seasons s = blocks (season_report s) (seasons_of s)
 
+-- which have so many words
+abbrev pub seasons_length : List ℕ → ℕ
+seasons_length s = report_length s * seasons_of s
+
 -- number 22 where the buffer is short, after every check of the sheet
 unfoldable pub seasons_check : List ℕ → ℕ → Check
-seasons_check s room = sheet_check s then refuse (ltb room (report_length s * seasons_of s)) rule.Room 0
+seasons_check s room = room_check seasons_length s room
 
 abbrev pub seasons_demands : List ℕ → ℕ → Demands
-seasons_demands s room = demands s next demand rule.Room 0 (report_length s * seasons_of s ≤ room)
+seasons_demands s room = demands s next demand rule.Room 0 (seasons_length s ≤ room)
 
 -- What is promised of the words of season j: each row's exact mass of that season lies in its band, as wide as the days of that season allow,
 -- and all sums are exact.

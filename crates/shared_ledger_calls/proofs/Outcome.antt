@@ -4,10 +4,10 @@ use Rattle.std.proofs.Common.{Ok, Err}
 use mathlib.Core.Bool.{false, not}
 use mathlib.Core.List.{List}
 use mathlib.Core.Path.{◌≡◌, refl, sym, subst, ◌∙◌}
-use Prim.Native.Nat.{ℕ, ◌+◌, ◌*◌, ◌-◌, ◌≤◌, ◌<◌}
+use Prim.Native.Nat.{ℕ, ◌+◌, ◌*◌, ◌≤◌, ◌<◌}
 use native.Mathlib.Omega.{arith}
 use borrow.Author.Tests.{leb-false, lt-ltb, ne_eqb}
-use lib.Dec.{leb, ltb, eqb}
+use lib.Dec.{leb, eqb}
 use lib.ListN.{length}
 use Rattle.refusals.specs.declared.Refusal.{Refusal}
 use Rattle.refusals.specs.declared.Rule.TheVariants as rule
@@ -24,22 +24,14 @@ use Rattle.inventory.specs.ReportCall.{written}
 use Rattle.inventory.specs.ReportAnswers.{report_check}
 use Rattle.inventory.proofs.ReportPromise.{report-answer}
 use Rattle.ledger.specs.declared.Call.{Call}
-use Rattle.ledger.specs.declared.Call.TheVariants.{Arrival}
 use Rattle.ledger.specs.Machine.{row_of, wrong}
 use Rattle.ledger.specs.Ledger.{sheet_after, words_after}
-use Rattle.ledger_calls.proofs.Outcome.{room-left}
-use Rattle.shared_ledger.specs.Opening.{vehicles_each, vehicles_held, shared_check, OpenCall}
+use Rattle.shared_ledger.specs.Opening.{vehicles_held, shared_check, OpenCall}
 use Rattle.shared_ledger.specs.Calls.{owner_of, may_change, may_read, past_share, shared_change_check, shared_row_check}
 use Rattle.shared_ledger.specs.Calls.{shared_totals_check, words_from, row_told, shared_row_demands, shared_totals_demands}
 use Rattle.shared_ledger.specs.Calls.{shared_row_answer, totals_told, shared_totals_answer, SharedChangeCall, SharedRowCall, SharedTotalsCall}
 use Rattle.shared_ledger.proofs.Conditions.{shared-report, shared-sheet, shared-room, shared_says, shared-zero, change-says, row-says, totals-says}
 use Rattle.shared_ledger.proofs.Changed.{change-passed}
-
--- what is left of the limit says whether an arrival passes a participant's vehicles
-pub arrival-share : (held : ℕ) {call : Call} {row k : ℕ} → call ≡ Arrival row k → held ≤ vehicles_each
-    → ltb (vehicles_each - held) k ≡ past_share held call
-unfolding past_share
-arrival-share held {call} {row} {k} e h = rw e (room-left held k h)
 
 -- whether a participant may change a row: whoever has a number above 0 and owns it
 pub owns-changes : (s owners : List ℕ) (who i : ℕ) → 0 < who → eqb (owner_of s owners i) who ≡ may_change s owners who i

@@ -37,7 +37,7 @@ pub share-unowned : (s owners : List ℕ) (i : ℕ) → outside 1 participants (
 unfolding share_wrong
 share-unowned s owners i h = rw h refl
 
-pub share-owned : (s owners : List ℕ) (i : ℕ) {who rows vehicles : ℕ} → who ≡ at owners i → outside 1 participants who ≡ false
+share-owned : (s owners : List ℕ) (i : ℕ) {who rows vehicles : ℕ} → who ≡ at owners i → outside 1 participants who ≡ false
     → rows ≡ rows_held owners who (i + 1) → vehicles ≡ vehicles_held s owners who (i + 1)
     → (ltb rows_each rows || ltb vehicles_each vehicles) ≡ share_wrong s owners i
 unfolding share_wrong
@@ -120,10 +120,10 @@ module _ (s owners : List ℕ) (n : ℕ) {holdings : List Holding} {who : ℕ} (
   mine = eq-eqb (at owners n) who (sym own)
 
   -- they have so many,
-  pub rows-with : {more : ℕ} → more ≡ (holding_at holdings who).rows + 1 → more ≡ rows_held owners who (n + 1)
+  rows-with : {more : ℕ} → more ≡ (holding_at holdings who).rows + 1 → more ≡ rows_held owners who (n + 1)
   rows-with e = e ∙ rows-theirs owners who n mine (before.rows who range)
 
-  pub vehicles-with : {more v : ℕ} → more ≡ (holding_at holdings who).vehicles + v → v ≡ (row_at s n).vehicles
+  vehicles-with : {more v : ℕ} → more ≡ (holding_at holdings who).vehicles + v → v ≡ (row_at s n).vehicles
       → more ≡ vehicles_held s owners who (n + 1)
   vehicles-with e row = e ∙ held-theirs s owners who n mine (before.vehicles who range) row
 
@@ -146,6 +146,22 @@ module _ (s owners : List ℕ) (n : ℕ) {holdings : List Holding} {who : ℕ} (
           | no q ↦ rw (get_or-set_other holdings who j next nothing q) (held-others s owners j n (not-mine j q) (before.vehicles j l))
         ];
   }
+
+-- An owner with one row more: what they have, and whether it is too much.
+pub record WithRow (s owners : List ℕ) (n who : ℕ) (next : Holding) : Type 0 where
+  pub rows : next.rows ≡ rows_held owners who (n + 1)
+  pub vehicles : next.vehicles ≡ vehicles_held s owners who (n + 1)
+  pub wrong : {past : Bool} → past ≡ (ltb rows_each next.rows || ltb vehicles_each next.vehicles) → past ≡ share_wrong s owners n
+
+pub with-row : (s owners : List ℕ) (n : ℕ) {holdings : List Holding} {who v : ℕ} {next : Holding} → Holdings s owners n holdings
+    → (who ≡ at owners n) × (outside 1 participants who ≡ false)
+    → (next.rows ≡ (holding_at holdings who).rows + 1) × (next.vehicles ≡ (holding_at holdings who).vehicles + v)
+    → v ≡ (row_at s n).vehicles → WithRow s owners n who next
+with-row s owners n {next = next} before (own, owned) (rows, vehicles) row =
+    let range = owned-range _ owned in
+    let so_many : next.rows ≡ rows_held owners _ (n + 1) = rows-with s owners n before own range rows in
+    let of_these : next.vehicles ≡ vehicles_held s owners _ (n + 1) = vehicles-with s owners n before own range vehicles row in
+    record { rows = so_many; vehicles = of_these; wrong = λ e. e ∙ share-owned s owners n own owned so_many of_these }
 
 -- No one has more than all rows.
 counted-most : (b : Bool) (v : ℕ) → counted b v ≤ v

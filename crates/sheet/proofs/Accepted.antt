@@ -1,12 +1,12 @@
 -- What an accepted sheet is: every limit of document 01, in plain arithmetic.
 -- Assumes nothing.
+use Rattle.std.proofs.Common.{None}
 use mathlib.Core.List.{List}
 use mathlib.Core.Logic.{◌⊎◌}
 use mathlib.Core.Path.{◌≡◌}
 use Prim.Native.Nat.{ℕ, suc, zero, ◌+◌, ◌*◌, ◌≤◌, ◌<◌}
 use native.Mathlib.Omega.{arith}
 use lib.ListN.{length, get_or}
-use Rattle.exact.specs.declared.Canister.TheVariants.{None}
 use Rattle.exact.specs.Classes.{absent, equipment}
 use Rattle.exact.specs.Factors.{total}
 use Rattle.refusals.specs.Check.{Pass}

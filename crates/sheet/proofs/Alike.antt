@@ -1,6 +1,7 @@
 -- A canister or a tank that is written, and one left to the class that stands for the same, count alike: the sheet is accepted
 -- or refused alike, and gives the same values to all that follows.
 -- Assumes nothing.
+use Rattle.std.proofs.Common.{Option, Some, None}
 use mathlib.Core.List.{List}
 use mathlib.Core.Logic.{inl, inr, ⊎_elim}
 use mathlib.Core.Path.{◌≡◌, refl, ap, ◌∙◌}
@@ -13,7 +14,7 @@ use lib.ListN.{length, set, length-set}
 use lib.Seq.{get_or-set_same, get_or-set_other}
 use Rattle.std.proofs.lemmas.Nat.{same_from_place}
 use Rattle.exact.specs.declared.Canister.{Canister}
-use Rattle.exact.specs.declared.Canister.TheVariants.{None, Small, Medium, Large}
+use Rattle.exact.specs.declared.Canister.TheVariants.{Small, Medium, Large}
 use Rattle.exact.specs.Classes.{fitted_with}
 use Rattle.exact.specs.declared.Row.{Row}
 use Rattle.sheet.specs.Limits.{tank_limit}
@@ -40,29 +41,29 @@ pub record Alike (s s' : List ℕ) : Type 0 where
   pub row_same : (j : ℕ) → j < rows_of s → row_at s' j ≡ row_at s j
 
 -- a canister's code passes as 255 does,
-code-counts : (c : Canister) → code_wrong (code_of c) ≡ code_wrong 255
+code-counts : (c : Option Canister) → code_wrong (code_of c) ≡ code_wrong 255
 unfolding code_wrong
 code-counts None = refl
-code-counts Small = refl
-code-counts Medium = refl
-code-counts Large = refl
+code-counts (Some Small) = refl
+code-counts (Some Medium) = refl
+code-counts (Some Large) = refl
 
 -- and stands for the same where the class has that canister
-canister-counts : (c : Canister) (t : ℕ) → canister_of (code_of c) (fitted_with c t) ≡ canister_of 255 (fitted_with c t)
+canister-counts : (c : Option Canister) (t : ℕ) → canister_of (code_of c) (fitted_with c t) ≡ canister_of 255 (fitted_with c t)
 unfolding canister_of fitted_canister written_canister
 canister-counts None t = refl
-canister-counts Small t = refl
-canister-counts Medium t = refl
-canister-counts Large t = refl
+canister-counts (Some Small) t = refl
+canister-counts (Some Medium) t = refl
+canister-counts (Some Large) t = refl
 
 -- a tank that is written counts as 0 does, where the class has that tank
-tank-counts : (c : Canister) (t : ℕ) → tank_of t (fitted_with c t) ≡ tank_of 0 (fitted_with c t)
+tank-counts : (c : Option Canister) (t : ℕ) → tank_of t (fitted_with c t) ≡ tank_of 0 (fitted_with c t)
 unfolding tank_of fitted_tank
 tank-counts c zero = refl
 tank-counts c (suc t) = refl
 
 -- and passes as 0 does
-tank-passes : (s : List ℕ) (p : ℕ) {c : Canister} {t : ℕ} → equipment_at s p ≡ fitted_with c t → ltb tank_limit t ≡ ltb tank_limit 0
+tank-passes : (s : List ℕ) (p : ℕ) {c : Option Canister} {t : ℕ} → equipment_at s p ≡ fitted_with c t → ltb tank_limit t ≡ ltb tank_limit 0
 unfolding equipment_at fitted_tank
 tank-passes s p {c} {t} e =
     let most = (equipment-tank (u8_at s p) (u8_at s (p + 1)) (λ a. let z : ◌≡◌ {A = ℕ} 0 1 = cc in omega arith)).1 in
@@ -85,7 +86,7 @@ same_alike {p} h = record {
 }
 
 -- and where the canister or the tank is written
-written-alike : {s s' : List ℕ} {p t : ℕ} {c : Canister} → equipment_at s p ≡ fitted_with c t → Written s s' p c t → RowAlike s s' p
+written-alike : {s s' : List ℕ} {p t : ℕ} {c : Option Canister} → equipment_at s p ≡ fitted_with c t → Written s s' p c t → RowAlike s s' p
 written-alike {s} {s'} {p} {t} {c} fitted w =
     let class : Same s' s p p 2 = record { byte = λ k l. w.elsewhere (p + k) (λ e. omega arith) (λ e. omega arith) (λ e. omega arith) } in
     let shares : Same s' s (p + 3) (p + 3) 3 = record {
@@ -103,7 +104,7 @@ written-alike {s} {s'} {p} {t} {c} fitted w =
     = ⊎_elim (λ h. (cc, cc)) (λ (h, g). (cc (tank-passes s p fitted), cc (tank-counts c t))) w.tank in
     record { row = row_counts class shares rest (cc) (cc); equipment = equipment; code = code; limit = limit }
 
-module _ (s s' : List ℕ) (i : ℕ) (c : Canister) (t : ℕ) (fitted : equipment_at s (row_place s i) ≡ fitted_with c t)
+module _ (s s' : List ℕ) (i : ℕ) (c : Option Canister) (t : ℕ) (fitted : equipment_at s (row_place s i) ≡ fitted_with c t)
     (w : Written s s' (row_place s i) c t) where
   -- bytes before the rows are the same
   before : BeforeRows s s'
@@ -171,11 +172,11 @@ module _ (s s' : List ℕ) (i : ℕ) (c : Canister) (t : ℕ) (fitted : equipmen
   }
 
 -- nothing written
-nothing_written : (s : List ℕ) (p : ℕ) (c : Canister) (t : ℕ) → Written s s p c t
+nothing_written : (s : List ℕ) (p : ℕ) (c : Option Canister) (t : ℕ) → Written s s p c t
 nothing_written s p c t = record { same_length = refl; elsewhere = λ k a b d. refl; canister = inl refl; tank = inl refl }
 
 -- the canister written, where the row left it to the class
-canister-written : {s s' : List ℕ} {p : ℕ} {c : Canister} {t : ℕ} → p + 24 ≤ length s → u8_at s (p + 2) ≡ 255 → Written s s' p c t
+canister-written : {s s' : List ℕ} {p : ℕ} {c : Option Canister} {t : ℕ} → p + 24 ≤ length s → u8_at s (p + 2) ≡ 255 → Written s s' p c t
     → Written s (set s' (p + 2) (code_of c)) p c t
 canister-written {s} {s'} {p} {c} inside h w =
     let kept : (k : ℕ) → ¬ (k ≡ p + 2) → u8_at (set s' (p + 2) (code_of c)) k ≡ u8_at s' k = λ k a. get_or-set_other s' (p + 2) k (code_of c) 0 a in
@@ -189,7 +190,7 @@ canister-written {s} {s'} {p} {c} inside h w =
     }
 
 -- the tank written, where the row left it to the class
-tank-written : {s s' : List ℕ} {p : ℕ} {c : Canister} {t : ℕ} → p + 24 ≤ length s → u16_at s (p + 6) ≡ 0 → Written s s' p c t
+tank-written : {s s' : List ℕ} {p : ℕ} {c : Option Canister} {t : ℕ} → p + 24 ≤ length s → u16_at s (p + 6) ≡ 0 → Written s s' p c t
     → Written s (set (set s' (p + 6) (t % 256)) (p + 7) (t / 256)) p c t
 tank-written {s} {s'} {p} {c} {t} inside h w =
     let low : List ℕ = set s' (p + 6) (t % 256) in
@@ -209,6 +210,6 @@ tank-written {s} {s'} {p} {c} {t} inside h w =
     }
 
 -- So there is such a sheet for every row inside s that leaves both to its class.
-pub both-written : {s : List ℕ} {p : ℕ} {c : Canister} {t : ℕ} → p + 24 ≤ length s → u8_at s (p + 2) ≡ 255 → u16_at s (p + 6) ≡ 0
+pub both-written : {s : List ℕ} {p : ℕ} {c : Option Canister} {t : ℕ} → p + 24 ≤ length s → u8_at s (p + 2) ≡ 255 → u16_at s (p + 6) ≡ 0
     → Written s (set (set (set s (p + 2) (code_of c)) (p + 6) (t % 256)) (p + 7) (t / 256)) p c t
 both-written {s} {p} {c} {t} inside h k = tank-written inside k (canister-written inside h (nothing_written s p c t))

@@ -11,7 +11,6 @@ use Rattle.std.proofs.Common.{Option, Some, None}
 use Rattle.std.proofs.lemmas.Bool.{true≢false}
 use Rattle.numbers.specs.Fraction.{◌≤ᶠ◌, whole, ◌/10^◌}
 use Rattle.exact.specs.declared.Canister.{Canister}
-use Rattle.exact.specs.declared.Canister.TheVariants as canister
 use Rattle.exact.specs.declared.Fitted.{Fitted}
 use Rattle.exact.specs.Classes.{absent}
 use Rattle.exact.specs.declared.Season.{Season}
@@ -93,36 +92,30 @@ unfolding code_wrong
 code-tests code = &&-tests (ltb-tests 3 code) (not-tests (eqb-shows code 255))
 
 -- 19: a load up to m_sat, and m_sat 0 with no canister
-load-tests : (c : Canister) (load saturation : ℕ) → Tests (load_wrong c load saturation) ((load ≤ saturation) × (c ≡ canister.None → saturation ≡ 0))
+load-tests : (c : Option Canister) (load saturation : ℕ) → Tests (load_wrong c load saturation) ((load ≤ saturation) × (c ≡ None → saturation ≡ 0))
 unfolding load_wrong
-load-tests canister.None load saturation =
+load-tests None load saturation =
     tests-as (λ (h, k). (omega arith, λ _. omega arith)) (λ (h, k). let z : saturation ≡ 0 = k refl in (omega arith, omega arith))
     (||-tests (ltb-tests 0 load) (ltb-tests 0 saturation))
-load-tests canister.Small load saturation = tests-as (λ h. (h, λ e. cc)) (λ (h, k). h) (ltb-tests saturation load)
-load-tests canister.Medium load saturation = tests-as (λ h. (h, λ e. cc)) (λ (h, k). h) (ltb-tests saturation load)
-load-tests canister.Large load saturation = tests-as (λ h. (h, λ e. cc)) (λ (h, k). h) (ltb-tests saturation load)
+load-tests (Some c) load saturation = tests-as (λ h. (h, λ e. cc)) (λ (h, k). h) (ltb-tests saturation load)
 
 -- a size is a canister
-fitted : {c : Canister} → no_canister c ≡ false → ¬ (c ≡ canister.None)
+fitted : {c : Option Canister} → no_canister c ≡ false → ¬ (c ≡ None)
 unfolding no_canister
 fitted h e = true≢false (sym (ap no_canister e) ∙ h)
 
-none-tests : (c : Canister) → Tests (no_canister c) (¬ (c ≡ canister.None))
+none-tests : (c : Option Canister) → Tests (no_canister c) (¬ (c ≡ None))
 unfolding no_canister
-none-tests canister.None = record { holds = λ e. absurd (true≢false e); fails = λ _ n. n refl }
-none-tests canister.Small = record { holds = fitted; fails = λ e. absurd (true≢false (sym e)) }
-none-tests canister.Medium = record { holds = fitted; fails = λ e. absurd (true≢false (sym e)) }
-none-tests canister.Large = record { holds = fitted; fails = λ e. absurd (true≢false (sym e)) }
+none-tests None = record { holds = λ e. absurd (true≢false e); fails = λ _ n. n refl }
+none-tests (Some c) = record { holds = fitted; fails = λ e. absurd (true≢false (sym e)) }
 
 -- 20, and the last part of 25, in one season, for a canister if there is one
-pub saturation-tests : (limit : ℕ) (c : Canister) (saturation : ℕ) (season : Season)
+pub saturation-tests : (limit : ℕ) (c : Option Canister) (saturation : ℕ) (season : Season)
     → Tests (saturation_above limit c saturation season)
-    (¬ (c ≡ canister.None) → exponent_at season (signed_tenths season.highest) (size c) (saturation /10^ 1) ≤ᶠ whole limit)
+    (¬ (c ≡ None) → exponent_at season (signed_tenths season.highest) (size c) (saturation /10^ 1) ≤ᶠ whole limit)
 unfolding saturation_above exponent_above no_canister
-saturation-tests limit canister.None saturation season = record { holds = λ _ n. absurd (n refl); fails = λ e. absurd (true≢false (sym e)) }
-saturation-tests limit canister.Small saturation season = tests-as (λ h _. h) (λ f. f (fitted refl)) (not-tests (≤-shows _ _))
-saturation-tests limit canister.Medium saturation season = tests-as (λ h _. h) (λ f. f (fitted refl)) (not-tests (≤-shows _ _))
-saturation-tests limit canister.Large saturation season = tests-as (λ h _. h) (λ f. f (fitted refl)) (not-tests (≤-shows _ _))
+saturation-tests limit None saturation season = record { holds = λ _ n. absurd (n refl); fails = λ e. absurd (true≢false (sym e)) }
+saturation-tests limit (Some c) saturation season = tests-as (λ h _. h) (λ f. f (fitted refl)) (not-tests (≤-shows _ _))
 
 -- a test at some season demands the same of every season
 some_tests : {P : Season → Type 0} (wrong : Season → Bool) → ((season : Season) → Tests (wrong season) (P season))

@@ -24,7 +24,7 @@ module _ {s t : List ℕ} {p q n : ℕ} (h : Same s t p q n) where
   long-at k x y e f l = cc (word_at k x y e f (omega arith), word_at (k + 2) (x + 2) (y + 2) (omega arith) (omega arith) (omega arith))
 
   -- m of the bytes, from k places on
-  part : (k m x y : ℕ) → x ≡ p + k → y ≡ q + k → k + m ≤ n → Same s t x y m
+  pub part : (k m x y : ℕ) → x ≡ p + k → y ≡ q + k → k + m ≤ n → Same s t x y m
   part k m x y e f l = record { byte = λ j b. byte_at (k + j) (x + j) (y + j) (omega arith) (omega arith) (omega arith) }
 
   -- a season's eight bytes

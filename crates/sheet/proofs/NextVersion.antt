@@ -20,7 +20,7 @@ use Rattle.sheet.specs.NextVersion.{NextVersion, SameRow, FourthVersion}
 use Rattle.sheet.proofs.Versions.{grid-version, rows-many, rows_few, most-many, most-few, start-grid, cells-grid}
 use Rattle.sheet.proofs.Conditions.{sheet-judged, met-accepted}
 use Rattle.sheet.proofs.Accepted.{accepted}
-use Rattle.sheet.proofs.Local.{Same, season-same, row_same, counts_same}
+use Rattle.sheet.proofs.Local.{Same, part, season-same, row_same, counts_same}
 use Rattle.sheet.proofs.RowDemands.{VersionMet, row-met}
 use Rattle.sheet.proofs.Fleet.{vehicles-more, vehicles-rise}
 use Rattle.sheet.proofs.Alike.{Alike}
@@ -35,12 +35,7 @@ pub record SheetKept (s t : List ℕ) : Type 0 where
 module _ {s t : List ℕ} (same : SheetKept s t) where
   -- n bytes that stand k places on are the same:
   from : (n k : ℕ) {p q : ℕ} → p ≡ 8 + k → q ≡ 8 + k → k + n ≤ 1152 + 8 * seasons_of s → Same t s p q n
-  from n k {p} {q} e f h = record {
-    byte = λ j l.
-        let a : p + j ≡ 8 + (k + j) = omega arith in
-        let b : q + j ≡ 8 + (k + j) = omega arith in
-        rw (a, b) (same.bytes (k + j) (omega arith));
-  }
+  from n k {p} {q} e f h = part (record { byte = same.bytes }) k n p q e f h
 
   -- the counts of the grid, which are those of the cells,
   pub counts-kept : grid_counts t ≡ grid_counts s
@@ -121,13 +116,10 @@ module _ {s t : List ℕ} (next : Renumbered s t) where
   start-t = start-grid t next.grid-of-t
 
   row-bytes : (i : ℕ) → Same t s (row_place t i) (row_place s i) 24
-  row-bytes i = record {
-    byte = λ k l.
-        let m : ℕ = 1155 + 8 * seasons_of s + 24 * i + k in
-        let p : row_place t i + k ≡ 5 + m = omega (arith, seasons, start-t) in
-        let q : row_place s i + k ≡ 5 + m = omega (arith, start-s) in
-        rw (p, q) (next.after m);
-  }
+  row-bytes i =
+      let k = 1155 + 8 * seasons_of s + 24 * i in
+      part {n = k + 24} (record { byte = λ j _. next.after j }) k 24 _ _ (omega (arith, seasons, start-t)) (omega (arith, start-s))
+      (omega arith)
 
   row : (i : ℕ) → row_at t i ≡ row_at s i
   unfolding row_at

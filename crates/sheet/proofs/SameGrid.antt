@@ -21,7 +21,7 @@ use Rattle.sheet.specs.SameGrid.{GridOf}
 use Rattle.sheet.proofs.Versions.{most-few, start-grid, start-lists, cells-grid, cells-lists}
 use Rattle.sheet.proofs.Conditions.{sheet-judged, met-accepted}
 use Rattle.sheet.proofs.Accepted.{row-accepted}
-use Rattle.sheet.proofs.Local.{Same, season-same, row_same}
+use Rattle.sheet.proofs.Local.{Same, part, season-same, row_same}
 use Rattle.sheet.proofs.RowDemands.{RowKept, row-met}
 use Rattle.sheet.proofs.Alike.{Alike}
 
@@ -42,12 +42,7 @@ module _ {s t : List ℕ} (g : GridOf s t) where
 
   -- and n bytes that stand k places after the parking are the same:
   from : (n k : ℕ) {p q : ℕ} → p ≡ 1160 + k → q ≡ 104 + k → Same t s p q n
-  from n k {p} {q} e f = record {
-    byte = λ j l.
-        let a : p + j ≡ 1160 + (k + j) = omega arith in
-        let b : q + j ≡ 104 + (k + j) = omega arith in
-        rw (a, b) (g.after (k + j));
-  }
+  from n k {p} {q} e f = part {n = k + n} (record { byte = λ j _. g.after j }) k n p q e f (omega arith)
 
   -- each season,
   season : (j : ℕ) → season_at t j ≡ season_at s j

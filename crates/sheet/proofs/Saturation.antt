@@ -1,5 +1,6 @@
 -- Numbers 20 and 25 on whole numbers: the comparison of a + b·s·m_sat with a limit, in units of 1/20,000,000.
 -- Assumes nothing.
+use Rattle.std.proofs.Common.{Option, Some, None}
 use mathlib.Core.Path.{◌≡◌, refl, ap}
 use Prim.Native.Nat.{ℕ, ◌+◌, ◌*◌, ◌-◌, ◌≤◌, ◌<◌}
 use native.Mathlib.Nat.{mul-le-mul}
@@ -9,7 +10,7 @@ use lib.Dec.{ltb, lit<}
 use Rattle.numbers.specs.Fraction.{Fraction, ◌≤ᶠ◌, ◌≈ᶠ◌, ◌+ᶠ◌, ◌-ᶠ◌, negᶠ, ◌*ᶠ◌, whole, ◌/10^◌, ◌over◌}
 use Rattle.numbers.proofs.Order.{≈-refl, ≈-sym, ≈-trans, ≤-by, +-cong, *-cong}
 use Rattle.exact.specs.declared.Canister.{Canister}
-use Rattle.exact.specs.declared.Canister.TheVariants.{None, Small, Medium, Large}
+use Rattle.exact.specs.declared.Canister.TheVariants.{Small, Medium, Large}
 use Rattle.exact.specs.declared.Season.{Season}
 use Rattle.exact.specs.Day.{signed_tenths}
 use Rattle.exact.specs.Canister.{a, b, size}
@@ -91,14 +92,14 @@ above-is limit season s halves m bits warm l size =
     (not-tests (≤-shows _ _)))
 
 -- for each canister, and without one, in a season in range
-pub saturation-is : (limit : ℕ) (c : Canister) (m : ℕ) {season : Season} → SeasonInRange season
+pub saturation-is : (limit : ℕ) (c : Option Canister) (m : ℕ) {season : Season} → SeasonInRange season
     → ltb (most limit season.vp) (reached season.vp (warmth season.highest) (halves c) m) ≡ saturation_above limit c m season
 unfolding halves saturation_above whole ◌over◌ ◌/10^◌
 saturation-is limit None m {season} r =
     le-ltb (most limit season.vp) (reached season.vp (warmth season.highest) 0 m) (omega (arith, r.warm))
-saturation-is limit Small m r = above-is limit _ (size Small) 4 m r.highest-bits r.warm r.vp-most (record { cross = refl })
-saturation-is limit Medium m r = above-is limit _ (size Medium) 2 m r.highest-bits r.warm r.vp-most (record { cross = refl })
-saturation-is limit Large m r = above-is limit _ (size Large) 1 m r.highest-bits r.warm r.vp-most (record { cross = refl })
+saturation-is limit (Some Small) m r = above-is limit _ (size (Some Small)) 4 m r.highest-bits r.warm r.vp-most (record { cross = refl })
+saturation-is limit (Some Medium) m r = above-is limit _ (size (Some Medium)) 2 m r.highest-bits r.warm r.vp-most (record { cross = refl })
+saturation-is limit (Some Large) m r = above-is limit _ (size (Some Large)) 1 m r.highest-bits r.warm r.vp-most (record { cross = refl })
 
 -- b times the halves fits 64 bits
 pub b-size : {x halves : ℕ} → x ≤ 120000 → halves ≤ 4 → x * halves ≤ 480000

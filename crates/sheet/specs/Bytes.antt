@@ -1,7 +1,7 @@
 -- The fields of a sheet as documents 01 and 02 place them. Definitions only.
 use Rattle.std.specs.Prelude.{true, false, List, [], ◌∷◌, Option, Some, None, ℕ, suc, zero, ◌+◌, ◌*◌, eqb}
 use Rattle.exact.specs.declared.Canister.{Canister}
-use Rattle.exact.specs.declared.Canister.TheVariants as canister
+use Rattle.exact.specs.declared.Canister.TheVariants.{Small, Medium, Large}
 use Rattle.exact.specs.declared.Fitted.{Fitted}
 use Rattle.exact.specs.declared.Season.{Season}
 use Rattle.exact.specs.declared.Row.{Row}
@@ -64,8 +64,8 @@ season_list s = seasons_from s 0 (seasons_of s)
 unfoldable pub equipment_at : List ℕ → ℕ → Option Fitted
 equipment_at s p = equipment (u8_at s p) (u8_at s (p + 1))
 
-unfoldable pub fitted_canister : Option Fitted → Canister
-fitted_canister None = canister.None
+unfoldable pub fitted_canister : Option Fitted → Option Canister
+fitted_canister None = None
 fitted_canister (Some e) = e.canister
 
 unfoldable pub fitted_tank : Option Fitted → ℕ
@@ -73,14 +73,14 @@ fitted_tank None = 0
 fitted_tank (Some e) = e.tank
 
 -- "canister (0 none, 1 small, 2 medium, 3 large, 255 by class)"; any other code is refused
-unfoldable pub written_canister : ℕ → Canister
-written_canister zero = canister.None
-written_canister (suc zero) = canister.Small
-written_canister (suc (suc zero)) = canister.Medium
-written_canister (suc (suc (suc zero))) = canister.Large
-written_canister (suc (suc (suc (suc code)))) = canister.None
+unfoldable pub written_canister : ℕ → Option Canister
+written_canister zero = None
+written_canister (suc zero) = Some Small
+written_canister (suc (suc zero)) = Some Medium
+written_canister (suc (suc (suc zero))) = Some Large
+written_canister (suc (suc (suc (suc code)))) = None
 
-unfoldable pub canister_of : ℕ → Option Fitted → Canister
+unfoldable pub canister_of : ℕ → Option Fitted → Option Canister
 canister_of code e = elim (eqb code 255) [ true ↦ fitted_canister e | false ↦ written_canister code ]
 
 -- "u16 tank in tenths of a litre, 0 by class"

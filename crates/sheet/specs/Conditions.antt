@@ -1,8 +1,7 @@
 -- "Where a sheet stops", from the side of a refusal: what each number tells of the sheet and of its place, in the figures of documents 01 and
 -- 02. Proved as `conditions` in proofs/Conditions. Definitions only.
-use Rattle.std.specs.Prelude.{List, ◌⊎◌, ◌≡◌, ℕ, ◌+◌, ◌*◌, ◌≤◌, ◌<◌, length}
+use Rattle.std.specs.Prelude.{None, List, ◌⊎◌, ◌≡◌, ℕ, ◌+◌, ◌*◌, ◌≤◌, ◌<◌, length}
 use Rattle.numbers.specs.Fraction.{◌≤ᶠ◌, negᶠ, ◌/10^◌}
-use Rattle.exact.specs.declared.Canister.TheVariants.{None}
 use Rattle.exact.specs.declared.Season.{Season}
 use Rattle.exact.specs.declared.Row.{Row}
 use Rattle.exact.specs.Classes.{absent}

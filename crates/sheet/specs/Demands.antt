@@ -1,8 +1,7 @@
 -- "Where a sheet stops" once more, in plain arithmetic: what is demanded of a sheet, each demand with the number and the place that are
 -- returned where it is the first that is not met. That the table of Sheet says the same is proved. Definitions only.
-use Rattle.std.specs.Prelude.{List, ◌⊎◌, ◌≡◌, ℕ, suc, zero, ◌+◌, ◌*◌, ◌≤◌, ◌<◌, length}
+use Rattle.std.specs.Prelude.{None, List, ◌⊎◌, ◌≡◌, ℕ, suc, zero, ◌+◌, ◌*◌, ◌≤◌, ◌<◌, length}
 use Rattle.numbers.specs.Fraction.{Fraction, ◌≤ᶠ◌, ◌+ᶠ◌, negᶠ, ◌*ᶠ◌, whole, ◌/10^◌}
-use Rattle.exact.specs.declared.Canister.TheVariants.{None}
 use Rattle.exact.specs.declared.Season.{Season}
 use Rattle.exact.specs.declared.Row.{Row}
 use Rattle.exact.specs.Classes.{absent}

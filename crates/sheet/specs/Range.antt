@@ -1,9 +1,9 @@
 -- The values of an accepted sheet as whole numbers: the hypothesis of request One's theorems, and the `requires` of the functions of a row.
 -- That every accepted sheet has them is proved, so that nothing here has to be believed of a call.
-use Rattle.std.specs.Prelude.{◌≡◌, ℕ, ◌+◌, ◌*◌, ◌-◌, ◌%◌, ◌^◌, ◌≤◌, ◌<◌}
+use Rattle.std.specs.Prelude.{Option, Some, None, ◌≡◌, ℕ, ◌+◌, ◌*◌, ◌-◌, ◌%◌, ◌^◌, ◌≤◌, ◌<◌}
 use Rattle.bounds.specs.Weights.{w}
 use Rattle.exact.specs.declared.Canister.{Canister}
-use Rattle.exact.specs.declared.Canister.TheVariants.{None, Small, Medium, Large}
+use Rattle.exact.specs.declared.Canister.TheVariants.{Small, Medium, Large}
 use Rattle.exact.specs.declared.Season.{Season}
 use Rattle.exact.specs.declared.Row.{Row}
 use Rattle.sheet.specs.Limits.{cold_limit, warm_limit, vp_limit, percent_limit, tank_limit, minutes_limit, mileage_limit}
@@ -29,12 +29,12 @@ pub record SeasonInRange (season : Season) : Type 0 where
   pub warm : warmth season.highest ≤ warmth_limit
   pub vp-most : season.vp ≤ vp_limit
 
--- s in halves
-unfoldable pub halves : Canister → ℕ
+-- s in halves, 0 without a canister
+unfoldable pub halves : Option Canister → ℕ
 halves None = 0
-halves Small = 4
-halves Medium = 2
-halves Large = 1
+halves (Some Small) = 4
+halves (Some Medium) = 2
+halves (Some Large) = 1
 
 -- a row with a mileage above 0 that passed number 25
 pub record DrivenInRange (season : Season) (row : Row) : Type 0 where

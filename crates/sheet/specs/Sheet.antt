@@ -3,7 +3,6 @@
 use Rattle.std.specs.Prelude.{Bool, true, false, not, ◌&&◌, ◌||◌, List, Option, Some, None, ℕ, suc, zero, ◌+◌, ◌*◌, ltb, leb, eqb, length}
 use Rattle.numbers.specs.Fraction.{Fraction, ◌+ᶠ◌, negᶠ, ◌*ᶠ◌, whole, ◌/10^◌, ◌≤?◌}
 use Rattle.exact.specs.declared.Canister.{Canister}
-use Rattle.exact.specs.declared.Canister.TheVariants as canister
 use Rattle.exact.specs.declared.Fitted.{Fitted}
 use Rattle.exact.specs.declared.Season.{Season}
 use Rattle.exact.specs.declared.Row.{Row}
@@ -87,11 +86,9 @@ unfoldable pub percent_wrong : Row → Bool
 percent_wrong row = ltb percent_limit row.carburettor || ltb percent_limit row.hot || ltb percent_limit row.fill
 
 -- "load above m_sat, or a load or m_sat with no canister"; "Loads equal to m_sat pass."
-unfoldable pub load_wrong : Canister → ℕ → ℕ → Bool
-load_wrong canister.None load saturation = ltb 0 load || ltb 0 saturation
-load_wrong canister.Small load saturation = ltb saturation load
-load_wrong canister.Medium load saturation = ltb saturation load
-load_wrong canister.Large load saturation = ltb saturation load
+unfoldable pub load_wrong : Option Canister → ℕ → ℕ → Bool
+load_wrong None load saturation = ltb 0 load || ltb 0 saturation
+load_wrong (Some c) load saturation = ltb saturation load
 
 -- "at its highest temperature, a + b·s·m_sat above 3", or above another limit, for a canister of size s; m_sat in tenths of a gram
 unfoldable pub exponent_above : ℕ → Season → Fraction → ℕ → Bool
@@ -101,11 +98,9 @@ exponent_above limit season s saturation =
     not (a vp T +ᶠ b vp T *ᶠ s *ᶠ saturation /10^ 1 ≤? whole limit)
 
 -- "Rule 20 applies to rows with a canister only."
-unfoldable pub saturation_above : ℕ → Canister → ℕ → Season → Bool
-saturation_above limit canister.None saturation season = false
-saturation_above limit canister.Small saturation season = exponent_above limit season (size canister.Small) saturation
-saturation_above limit canister.Medium saturation season = exponent_above limit season (size canister.Medium) saturation
-saturation_above limit canister.Large saturation season = exponent_above limit season (size canister.Large) saturation
+unfoldable pub saturation_above : ℕ → Option Canister → ℕ → Season → Bool
+saturation_above limit None saturation season = false
+saturation_above limit (Some c) saturation season = exponent_above limit season (size (Some c)) saturation
 
 -- "in some season" of the first n
 unfoldable pub some_season : (Season → Bool) → List ℕ → ℕ → Bool
@@ -113,11 +108,9 @@ some_season wrong s zero = false
 some_season wrong s (suc n) = some_season wrong s n || wrong (season_at s n)
 
 -- "with no canister"
-unfoldable pub no_canister : Canister → Bool
-no_canister canister.None = true
-no_canister canister.Small = false
-no_canister canister.Medium = false
-no_canister canister.Large = false
+unfoldable pub no_canister : Option Canister → Bool
+no_canister None = true
+no_canister (Some c) = false
 
 -- "a mileage above 1,000,000, or one above 0 with no canister, or beside a load, or where the left side of rule 20 is above 0"
 unfoldable pub mileage_wrong : List ℕ → Row → Bool

@@ -2,12 +2,14 @@
 -- Assumes nothing.
 use mathlib.Core.Bool.{Bool, true, false}
 use mathlib.Core.List.{List}
-use mathlib.Core.Path.{◌≡◌, refl}
+use mathlib.Core.Path.{◌≡◌, refl, sym, ◌∙◌}
 use Prim.Native.Nat.{ℕ, suc, zero, ◌+◌, ◌≤◌, ◌<◌}
 use native.Mathlib.Omega.{arith}
 use lib.ListN.{length}
 use Rattle.exact.specs.declared.Season.{Season}
-use Rattle.exact.specs.Factors.{total}
+use Rattle.exact.specs.Factors.{total, products}
+use Rattle.refusals.specs.Check.{Pass}
+use Rattle.sheet.specs.Sheet.{sheet_check}
 use Rattle.parking.specs.Grid.{CellsInRange}
 use Rattle.parking.proofs.Products.{products-in-range}
 use Rattle.factors.proofs.Sizes.{high_micrograms-most}
@@ -16,7 +18,7 @@ use Rattle.sheet.specs.Bytes.{seasons_of, rows_of, duration_counts, hour_counts,
 use Rattle.sheet.specs.RunningSums.{days_before}
 use Rattle.sheet.proofs.Versions.{grid-version, lists-version, cells-grid, cells-lists}
 use Rattle.sheet.proofs.Counts.{counts-length}
-use Rattle.sheet.proofs.Accepted.{Bytes, AcceptedRow, Accepted}
+use Rattle.sheet.proofs.Accepted.{Bytes, AcceptedRow, Accepted, accepted}
 use Rattle.sheet.proofs.InRange.{row-in-range}
 use Rattle.masses.specs.Bands.{all_days}
 use Rattle.masses.specs.AnyCounts.{Every, Shares, InRange, Enclosed}
@@ -26,11 +28,11 @@ use Rattle.masses.proofs.MassSizes.{Sized, RowSized}
 -- The counts.
 
 -- 24 counts in each list,
-pub durations-length : (s : List ℕ) → length (duration_counts s) ≡ 24
+durations-length : (s : List ℕ) → length (duration_counts s) ≡ 24
 unfolding duration_counts
 durations-length s = counts-length s 8 24
 
-pub hours-length : (s : List ℕ) → length (hour_counts s) ≡ 24
+hours-length : (s : List ℕ) → length (hour_counts s) ≡ 24
 unfolding hour_counts
 hours-length s = counts-length s 56 24
 
@@ -40,7 +42,7 @@ unfolding grid_counts
 grid-length s = counts-length s 8 576
 
 -- the two lists of a sheet without a grid are in range, and so are the cells, whichever they are
-pub lists-most : {s : List ℕ} → Accepted s → has_grid s ≡ false → (total (duration_counts s) ≤ 1000) × (total (hour_counts s) ≤ 1000)
+lists-most : {s : List ℕ} → Accepted s → has_grid s ≡ false → (total (duration_counts s) ≤ 1000) × (total (hour_counts s) ≤ 1000)
 lists-most {s} a h = let old = lists-version s h in ((a.durations old).1, (a.hours old).1)
 
 pub cells-in-range : {s : List ℕ} → Accepted s → CellsInRange (cells_of s)
@@ -55,6 +57,26 @@ cells-in-range {s} a = go (has_grid s) refl
         let (p, P) = a.durations old in
         let (q, Q) = a.hours old in
         rw (cells-lists s h) (products-in-range (duration_counts s) (hour_counts s) (durations-length s) (hours-length s) p P q Q)
+
+-- What a sheet's cells are read as, where a test has shown whether it has a grid.
+module _ (s : List ℕ) {grid : Bool} (passed : sheet_check s ≡ Pass) (tested : grid ≡ has_grid s) where
+  are-in-range : {cells : List ℕ} → cells ≡ cells_of s → (cells ≡ cells_of s) × CellsInRange cells
+  are-in-range e = (e, rw e (cells-in-range (accepted s passed)))
+
+  -- the counts of the grid
+  pub grid-read : {cells : List ℕ} → grid ≡ true → cells ≡ grid_counts s → (cells ≡ cells_of s) × CellsInRange cells
+  grid-read h e = are-in-range (e ∙ sym (cells-grid s (sym tested ∙ h)))
+
+  module _ (h : grid ≡ false) {durations hours : List ℕ} (d : durations ≡ duration_counts s) (e : hours ≡ hour_counts s) where
+    -- or two lists,
+    pub lists-in-range : (length durations ≡ 24) × (length hours ≡ 24) × (total durations ≤ 1000) × (total hours ≤ 1000)
+    lists-in-range =
+        let (p, q) = lists-most (accepted s passed) (sym tested ∙ h) in
+        rw (d, e) (durations-length s, hours-length s, p, q)
+
+    -- with their products
+    pub products-read : {cells : List ℕ} → cells ≡ products durations hours → (cells ≡ cells_of s) × CellsInRange cells
+    products-read f = are-in-range (rw (d, e) at f ∙ sym (cells-lists s (sym tested ∙ h)))
 
 -- at least one parking is counted
 pub cells-least : {s : List ℕ} → Accepted s → 0 < total (cells_of s)

@@ -19,7 +19,7 @@ use Rattle.parking.specs.SeasonList.{ListReady}
 use Rattle.row_factors.specs.declared.season.Prepared.{Prepared}
 use Rattle.row_factors.specs.Season.{rises_of, SeasonReady, RowReady}
 use Rattle.row_factors.specs.Seven.{seven_units}
-use Rattle.masses.specs.Day.{UseInRange}
+use Rattle.masses.specs.Use.{UseInRange}
 use Rattle.sheet_factors.specs.Ready.{SeasonOf}
 
 -- the shares and trips of row i

@@ -5,6 +5,8 @@ ghost use Rattle.std.specs.Prelude.{◌≡◌, ◌+◌, ◌-◌, ◌≤◌};
 ghost use Rattle.speciation.specs.Table.{shares};
 ghost use Rattle.speciation.specs.Split.{all_shares, part_of, species_masses, SpeciesPromise};
 
+use bounds::fixed::mul_add_div;
+
 // Table 3-14 in printed order, in hundredths of a percent.
 static SHARES: [u64; 29] = [
     // alkanes
@@ -20,12 +22,12 @@ static SHARES: [u64; 29] = [
 // What they sum to, and so what a share is out of.
 const ALL_SHARES: u64 = 10001;
 
-// The whole part of total · c / 10,001. The product has 128 bits, and since c is at most 10,001 the quotient has 64.
+// The whole part of total · c / 10,001.
 fn part_of(total: u64, c: u64) -> u64
     requires { c ≤ all_shares }
     ensures { result ≡ part_of total c }
 {
-    (total as u128 * c as u128 / ALL_SHARES as u128) as u64
+    mul_add_div(total, c, 0, ALL_SHARES)
 }
 
 // What a species gets, from the sum of the shares before it and its own.
@@ -42,6 +44,7 @@ pub fn split(total: u64) -> [u64; 29]
 {
     let mut masses = [0u64; 29];
     let mut before: u64 = 0;
+    // By the place and not by `zip`, since the definition of a mass takes the place of its share.
     for (i, &share) in SHARES.iter().enumerate() {
         masses[i] = mass_of(total, before, share);
         before += share;

@@ -18,7 +18,8 @@ use std::io::Write;
 // The bytes of the longest text: 44 · 29 + 52.
 const TEXT: usize = 1328;
 
-// The text that the program makes of a sheet.
+// The text that the program makes of a sheet. The programs `report` and `species` differ in it, in its length and in their names, and share
+// all else in `print_sheet`.
 #[derive(Drop)]
 struct Species;
 

@@ -31,18 +31,18 @@ pub loaded-most : (a k σ l : ℕ) → loaded a k σ l ≤ σ
 unfolding loaded
 loaded-most a k σ l = omega arith
 
-half_pos : 0 < 2
-half_pos = omega arith
+pub halves-pos : 0 < 2
+halves-pos = omega arith
 
 -- halves and quarters
-half-and-half : ratio 1 2 half_pos +ᶠ ratio 1 2 half_pos ≈ᶠ whole 1
-half-and-half = ≈-trans (ratio-sum 1 1 2 half_pos) (ratio-one 2 half_pos)
+half-and-half : ratio 1 2 halves-pos +ᶠ ratio 1 2 halves-pos ≈ᶠ whole 1
+half-and-half = ≈-trans (ratio-sum 1 1 2 halves-pos) (ratio-one 2 halves-pos)
 
 quarter-and-rest : ratio 1 4 four-pos +ᶠ ratio 3 4 four-pos ≈ᶠ whole 1
 quarter-and-rest = ≈-trans (ratio-sum 1 3 4 four-pos) (ratio-one 4 four-pos)
 
 -- a quarter of 1.56 is at most a half
-slope-half : ratio 1 4 four-pos *ᶠ 156 /10^ 2 ≤ᶠ ratio 1 2 half_pos
+slope-half : ratio 1 4 four-pos *ᶠ 156 /10^ 2 ≤ᶠ ratio 1 2 halves-pos
 unfolding ratio ◌*ᶠ◌ ◌/10^◌
 slope-half = record { cross = omega arith }
 
@@ -128,14 +128,14 @@ module _ (n A K G W : ℕ) {σ : ℕ} {saturation m : Fraction} (n40 : 40 ≤ n)
       abbrev back : Fraction
       back = raised -ᶠ m
 
-      half-way : m ≤ᶠ raised → raised ≤ᶠ m +ᶠ ratio 1 2 half_pos *ᶠ back
+      half-way : m ≤ᶠ raised → raised ≤ᶠ m +ᶠ ratio 1 2 halves-pos *ᶠ back
       half-way g =
           let d0 : NonNegative back = sub-NonNegative g in
           let b0 : NonNegative (156 /10^ 2) = decimal-NonNegative 156 2 in
-          let slope : rising K *ᶠ back *ᶠ 156 /10^ 2 ≤ᶠ ratio 1 2 half_pos *ᶠ back =
+          let slope : rising K *ᶠ back *ᶠ 156 /10^ 2 ≤ᶠ ratio 1 2 halves-pos *ᶠ back =
           ≤_trans (≈→≤ (*-swap (rising K) back (156 /10^ 2)))
           (*-mono-left d0 (≤_trans (*-mono-left b0 (quarter K hK)) slope-half)) in
-          let lost-more : loss-exact ≤ᶠ lost n A K m +ᶠ ratio 1 2 half_pos *ᶠ back =
+          let lost-more : loss-exact ≤ᶠ lost n A K m +ᶠ ratio 1 2 halves-pos *ᶠ back =
           ≤_trans loss-low (≤_trans (climbed n A K g loss-steep) (+-mono (≤-refl _) slope)) in
           let all : units l +ᶠ lost n A K m ≤ᶠ m = ≤_trans (≈→≤ (+_comm _ _)) (rw net-is h) in
           ≤_trans (+-mono (≤-refl (units l)) lost-more) (≤_trans (≈→≥ (+_assoc _ _ _)) (+-mono all (≤-refl _)))
@@ -143,7 +143,7 @@ module _ (n A K G W : ℕ) {σ : ℕ} {saturation m : Fraction} (n40 : 40 ≤ n)
       not_back : m ≤ᶠ raised → raised ≤ᶠ m
       not_back g =
           let none : back ≤ᶠ whole 0 =
-          solve-most (ratio 1 2 half_pos) back (ratio-positive half_pos (omega arith)) half-and-half {x = whole 0} {z = whole 0}
+          solve-most (ratio 1 2 halves-pos) back (ratio-positive halves-pos (omega arith)) half-and-half {x = whole 0} {z = whole 0}
           (≈→≥ (≈-trans (*-comm _ _) (*-zero _))) (≤_trans (≤-sub m _ (half-way g)) (≈→≥ (+-zero _))) in
           ≤_trans (sub-≤ raised m none) (≈→≤ (+-zero m))
 

@@ -22,9 +22,7 @@ use Rattle.thresholds.proofs.Found.{enough-reaches, enough-least, lower-enough, 
 use Rattle.starting_loads.specs.Net.{net, start_units}
 use Rattle.starting_loads.proofs.Bracket.{starting_load-balanced}
 use Rattle.starting_loads.proofs.Loaded.{loaded_width, loaded-within}
-
-pub halves-pos : 0 < 2
-halves-pos = omega arith
+pub use Rattle.starting_loads.proofs.Loaded.{halves-pos}
 
 -- "(s·g + 22.92)/8.13", the exponent of the kilometres driven
 abbrev pub driven_exponent : Fraction → Fraction → Fraction

@@ -3,6 +3,7 @@ ghost use Rattle.std.specs.Prelude.{◌≡◌, ◌*◌, ◌^◌, ◌<◌, ◌≤
 ghost use Rattle.thresholds.specs.Thresholds.{first_kilometres};
 ghost use Rattle.starting_loads.specs.Net.{net, net_of};
 
+use bounds::fixed::mul_add_div;
 use thresholds::Mileage;
 
 // 22.92 in units of 10^-16.
@@ -18,8 +19,7 @@ fn net_from(y: u64, halves: u64) -> u64
     requires { (282 * 10 ^ 12 ≤ y) × (y ≤ 14 * 10 ^ 14) × (0 < halves) }
     ensures { (result ≡ net halves y) × (result < 2 ^ 50) }
 {
-    let t = 2 * (813 * y - OFFSET) / halves;
-    t / FIVES * TWOS + t % FIVES * TWOS / FIVES
+    mul_add_div(2 * (813 * y - OFFSET) / halves, TWOS, 0, FIVES)
 }
 
 // The net load of a canister with 2 s = halves.

@@ -22,6 +22,7 @@ impl Writer<'_> {
     }
 
     // One function for this loop and that of `rows` would take a closure that writes, with a clause on what it wrote: longer than both.
+    #[tactic(auto, unfolding(crate::specs::Lines::fields))]
     fn fields(&mut self, words: &[u64])
         ensures { Put self.old (fields words.now) self.new }
     {
@@ -50,6 +51,7 @@ impl Writer<'_> {
     }
 
     // The lines of all rows, from the six words of each.
+    #[tactic(auto, unfolding(crate::specs::Lines::row_lines))]
     fn rows(&mut self, words: &[u64])
         ensures { Put self.old (row_lines words.now (length words.now / 6)) self.new }
     {

@@ -78,12 +78,7 @@ impl Mileage {
     fn whole_above(self) -> usize
         ensures { (result ≡ whole_above self.kilometres) × (3 ≤ result) × (result ≤ 14) }
     {
-        for c in 3..14 {
-            if self.below(c).within(0) {
-                return c;
-            }
-        }
-        14
+        (3..14).find(|c| self.below(*c).within(0)).unwrap_or(14)
     }
 
     // A lower bound of the logarithm of M: E at this exponent is below M for every n from 40 upward, and at least M a margin above it.

@@ -2,7 +2,7 @@
 use refusals::Check;
 use std::fmt;
 
-// Where a sheet is refused
+// Where a sheet is refused. The number is no `Rule`, since the input may expect one that no rule has.
 #[derive(Clone, Copy, Debug, PartialEq, Eq)]
 pub struct Refusal {
     pub number: u64,

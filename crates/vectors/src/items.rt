@@ -64,6 +64,8 @@ impl<'a> Rest<'a> {
     }
 }
 
+// Of numbers there is an `impl` for each width: one for all would want a trait of numbers with `from_le_bytes`, which std has not.
+
 impl<'a> Item<'a> for u8 {
     fn read(input: &mut Rest<'a>) -> Option<u8> {
         Some(u8::from_le_bytes(input.chunk()?))
@@ -108,7 +110,7 @@ pub fn tally_of<
     let mut rest = Rest::of(bytes);
     let mut all = T::default();
     let mut position: u64 = 0;
-    // No count of an index: how many bytes a record takes, the record itself says.
+    // The records are counted as they are read. An iterator over them would be a type for this loop alone, and its `next` would be `item`.
     while let Some(record) = rest.item() {
         position = position.wrapping_add(1);
         all = all + judge(position, record)?;

@@ -2,7 +2,8 @@
 use std::ops::Add;
 use std::{fmt, io};
 
-// Whether an answer is right; of a band its width, and how far off the exact value was
+// Whether an answer is right; of a band its width, and how far off the exact value was. Three numbers and no enum: a band that is not right
+// has a width too.
 #[derive(Clone, Copy, Debug, Default, PartialEq, Eq)]
 pub struct Verdict {
     pub right: bool,
@@ -62,6 +63,12 @@ impl Tally {
             print()?;
         }
         Ok(verdict.into())
+    }
+
+    // Prints its line, behind a name, and hands it on.
+    pub fn printed(self, rt: &impl Print, name: &str) -> io::Result<Tally> {
+        println!(rt; "{name} {self}")?;
+        Ok(self)
     }
 
     // How many were tried and how many were right, with a word for right ones between them

@@ -1,5 +1,5 @@
 // The words of a buffer that a report was written to, and the rows that are expected of it: words left as they were, and sums.
-ghost use Rattle.std.specs.Prelude.{◌<◌, ◌≤◌, length};
+ghost use Rattle.std.specs.Prelude.{◌≤◌, length};
 
 use crate::items::item_at;
 
@@ -17,7 +17,8 @@ pub fn kept(words: &[u64]) -> bool {
     words.iter().all(|word| *word == OLD)
 }
 
-// Whether a row counts in the subtotal of a category, or in that of all rows
+// Whether a row counts in the subtotal of a category, or in that of all rows, which has none. A category is the number that the input has of
+// it, which is compared and nothing else.
 fn counts(row: &[u8; ROW], category: Option<u64>) -> bool {
     category.is_none() || item_at(row, 0) == category
 }
@@ -46,13 +47,13 @@ fn subtotals_right(words: &[[u64; 6]], subtotals: &[[u64; 6]], rows: &[[u8; ROW]
     ) == *sums)
 }
 
-// The low or the high end, 0 or 1, of the grand total of the three masses of all rows
-fn total(all: &[u64; 6], end: usize) -> u64
-    requires { end < 2 }
-{
-    all[end]
-        .wrapping_add(all[end + 2])
-        .wrapping_add(all[end + 4])
+// The grand total of the three masses of all rows, its low and its high
+fn totals(all: &[u64; 6]) -> [u64; 2] {
+    let [a, b, c, d, e, f] = *all;
+    [
+        a.wrapping_add(c).wrapping_add(e),
+        b.wrapping_add(d).wrapping_add(f),
+    ]
 }
 
 // Whether the subtotals and totals are the sums of the rows' words, and the words beyond the report as they were
@@ -63,6 +64,7 @@ pub fn sums_right(words: &[u64; WORDS], rows: &[[u8; ROW]]) -> bool
     let (of_rows, _) = words.as_chunks();
     let all = &of_rows[n + 3];
     let at = 6 * n + 24;
-    let totals = (words[at] == total(all, 0)) & (words[at + 1] == total(all, 1));
-    subtotals_right(&of_rows[..n], &of_rows[n..n + 4], rows) & totals & kept(&words[at + 2..])
+    subtotals_right(&of_rows[..n], &of_rows[n..n + 4], rows)
+        & (words[at..at + 2] == totals(all)[..])
+        & kept(&words[at + 2..])
 }

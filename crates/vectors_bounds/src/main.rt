@@ -127,54 +127,30 @@ fn powers(s: &[u8]) -> io::Result<Tally> {
     tally_of(s, |_, v: Vector| Ok(with_temperature(v)))
 }
 
-fn print(rt: &impl Print, name: &str, tally: Tally) -> io::Result<()> {
+fn print(rt: &impl Print, values: &str, range: &str, tally: Tally) -> io::Result<()> {
     println!(rt;
-        "{name}: {} largest error {} of {}",
+        "{values} {range}: {} largest error {} of {}",
         tally.counts("enclosed"),
         tally.farthest,
         tally.widest
     )
 }
 
-// The line of a range of exponents
-fn print_range(rt: &impl Print, name: &str, exponents: Exponents, s: &[u8]) -> io::Result<()> {
-    print(rt, name, exponentials(exponents, s)?)
-}
-
 // A line for each range, since the error follows the size of E. Below 1 / 4096 both table entries are 1 and the result is the quadratic;
 // below 1 / 16 the first is 1.
 fn print_ranges(rt: &impl Print, s: &[u8]) -> io::Result<()> {
-    print_range(
-        rt,
-        "exponentials from 0 below 1/4096",
-        Exponents::between(ZERO, FINE_STEP),
-        s,
-    )?;
-    print_range(
-        rt,
-        "exponentials from 0 below 1/16",
-        Exponents::between(ZERO, COARSE_STEP),
-        s,
-    )?;
-    print_range(
-        rt,
-        "exponentials up to 2.3",
-        Exponents::between(0, PAST_2_3),
-        s,
-    )?;
-    print_range(rt, "exponentials up to 3", Exponents::between(0, PAST_3), s)?;
-    print_range(
-        rt,
-        "exponentials up to 3.6",
-        Exponents::between(0, PAST_3_6),
-        s,
-    )?;
-    print_range(
-        rt,
-        "exponentials below 4.1",
-        Exponents::between(0, LIMIT),
-        s,
-    )
+    let ranges = [
+        ("from 0 below 1/4096", Exponents::between(ZERO, FINE_STEP)),
+        ("from 0 below 1/16", Exponents::between(ZERO, COARSE_STEP)),
+        ("up to 2.3", Exponents::between(0, PAST_2_3)),
+        ("up to 3", Exponents::between(0, PAST_3)),
+        ("up to 3.6", Exponents::between(0, PAST_3_6)),
+        ("below 4.1", Exponents::between(0, LIMIT)),
+    ];
+    for (name, exponents) in ranges {
+        print(rt, "exponentials", name, exponentials(exponents, s)?)?;
+    }
+    Ok(())
 }
 
 // The exponents and the temperatures, where the input is of the length that it says
@@ -193,7 +169,7 @@ fn report(rt: &impl Print, input: &[u8]) -> io::Result<()> {
         return println!(rt; "the input is not of the length that it says");
     };
     print_ranges(rt, exponents)?;
-    print(rt, "powers up to 65 degrees", powers(temperatures)?)
+    print(rt, "powers", "up to 65 degrees", powers(temperatures)?)
 }
 
 fn main(rt: HostRuntime) -> io::Result<()> {

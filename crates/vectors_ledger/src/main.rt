@@ -4,7 +4,7 @@
 
 use crate::runs::{Asked, Opened, Run};
 use std::io;
-use vectors::bytes::{LONGEST, zeros};
+use vectors::bytes::{LONGEST, copied};
 use vectors::input::hold;
 use vectors::items::tally_of;
 use vectors::tally::Tally;
@@ -61,16 +61,13 @@ fn with_calls(
 
 // The calls on two copies of the sheet: the ledger's, and the one that is to have the counts that are expected
 fn with_copies(rt: &impl Print, ledger: u64, opened: Opened, pass: Pass) -> io::Result<Tally> {
-    let (mut sheet, mut expected) = (zeros::<LONGEST>(), zeros::<LONGEST>());
-    let n = opened.sheet.len().min(LONGEST);
-    sheet[..n].copy_from_slice(&opened.sheet[..n]);
-    expected[..n].copy_from_slice(&opened.sheet[..n]);
+    let (mut sheet, mut expected) = ([0; LONGEST], [0; LONGEST]);
     let mut words = [OLD; WORDS];
     let _ = inventory::report(opened.sheet, &mut words[..opened.room]);
     let mut run = Run {
-        sheet: &mut sheet[..n],
+        sheet: copied(&mut sheet, opened.sheet),
         words: &mut words[..opened.room],
-        expected: &mut expected[..n],
+        expected: copied(&mut expected, opened.sheet),
     };
     with_calls(rt, ledger, opened.calls, &mut run, pass)
 }
@@ -83,18 +80,11 @@ fn tally_pass(rt: &impl Print, ledgers: &[u8], pass: Pass) -> io::Result<Tally> 
     })
 }
 
-// The line of one pass
-fn print_pass(rt: &impl Print, ledgers: &[u8], pass: Pass, name: &str) -> io::Result<Tally> {
-    let tally = tally_pass(rt, ledgers, pass)?;
-    println!(rt; "{name} {tally}")?;
-    Ok(tally)
-}
-
 // The line of each pass, and how many calls they looked at. A ledger that is cut off is missing; the count that the input gives shows it.
 fn report(rt: &impl Print, ledgers: &[u8]) -> io::Result<u64> {
-    print_pass(rt, ledgers, Pass::Openings, "openings")?;
-    let passed = print_pass(rt, ledgers, Pass::Passed, "calls that pass")?;
-    let refused = print_pass(rt, ledgers, Pass::Refused, "calls that are refused")?;
+    tally_pass(rt, ledgers, Pass::Openings)?.printed(rt, "openings")?;
+    let passed = tally_pass(rt, ledgers, Pass::Passed)?.printed(rt, "calls that pass")?;
+    let refused = tally_pass(rt, ledgers, Pass::Refused)?.printed(rt, "calls that are refused")?;
     Ok((passed + refused).tried)
 }
 

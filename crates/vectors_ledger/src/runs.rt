@@ -54,7 +54,7 @@ impl<'a> Item<'a> for Asked {
             vehicles: input.item()?,
         };
         Some(Asked {
-            call: call_of(kind, row, vehicles),
+            call: call_of(kind, row, vehicles)?,
             answer: (number.into(), place.into()).into(),
             count: (at != 0).then_some(count),
         })
@@ -74,16 +74,17 @@ impl<'a> Item<'a> for Opened<'a> {
     }
 }
 
-// An arrival, 0, or a departure, 1
-fn call_of(kind: u8, row: u64, vehicles: u64) -> Call {
-    if kind == 0 {
-        Call::Arrival(row, vehicles)
-    } else {
-        Call::Departure(row, vehicles)
+// An arrival, 0, or a departure, 1. No `TryFrom`, since the type is not of this crate
+fn call_of(kind: u8, row: u64, vehicles: u64) -> Option<Call> {
+    match kind {
+        0 => Some(Call::Arrival(row, vehicles)),
+        1 => Some(Call::Departure(row, vehicles)),
+        _ => None,
     }
 }
 
-// Whether the words are those that a fresh report of the sheet leaves in a buffer like the one that the ledger was opened in
+// Whether the words are those that a fresh report of the sheet leaves in a buffer like the one that the ledger was opened in. The crate vectors
+// names nothing that is tried, so vectors_shared_ledger has such a test of its own.
 fn is_fresh(s: &[u8], words: &[u64]) -> bool {
     let mut buffer = [OLD; WORDS];
     let Some(fresh) = buffer.get_mut(..words.len()) else {

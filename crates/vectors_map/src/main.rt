@@ -21,7 +21,7 @@ const ROW: usize = 184;
 
 const SUM: usize = 88;
 
-// A cell with its doubles as patterns
+// A cell with its doubles as patterns. Kinds and numbers stand here, and in the answers below, as C gets them, since its calls are tried.
 #[derive(Clone, Copy, Debug, PartialEq, Eq)]
 struct Cell {
     kind: u64,
@@ -129,6 +129,7 @@ impl From<EvpCellSum> for SumAnswer {
     }
 }
 
+// No `From`, since neither type is of this crate
 fn span_of(band: Band) -> Span {
     Span {
         low: band.low,

@@ -2,9 +2,8 @@
 // figures are to get each verdict, and how many of them get it and are off by as much.
 #![tactic(auto)]
 
-use marking::{Filed, Unit, Verdict, mark};
+use marking::{Band, Filed, Unit, Verdict, mark};
 use std::{fmt, io};
-use vectors::band::Band;
 use vectors::input::hold;
 use vectors::items::{Item, Rest, tally_of};
 use vectors::tally::{Tally, compare};
@@ -84,7 +83,7 @@ impl From<Verdict> for Mark {
     }
 }
 
-// No `TryFrom`, since neither type is of this crate
+// No `TryFrom`, since neither type is of this crate; that of the crate boundary reads what C hands in.
 fn unit_of(unit: u64) -> Option<Unit> {
     match unit {
         0 => Some(Unit::Milligram),
@@ -113,9 +112,13 @@ impl<'a> Item<'a> for Vector {
             places: input.item()?,
             unit: unit_of(input.item()?)?,
         };
+        let band = Band {
+            low: input.item()?,
+            high: input.item()?,
+        };
         Some(Vector {
             filed,
-            band: input.item()?,
+            band,
             expected: input.item()?,
         })
     }
@@ -124,7 +127,7 @@ impl<'a> Item<'a> for Vector {
 // A figure, and a line where its mark is another than the one expected; figures are counted from 1, as
 // tools/vectors/marks.py lists them.
 fn with_figure(rt: &impl Print, position: u64, vector: Vector) -> io::Result<Tally> {
-    let found = Mark::from(mark(vector.filed, vector.band.low, vector.band.high));
+    let found = Mark::from(mark(vector.filed, vector.band));
     compare(rt, "figure", position, vector.expected, found)
 }
 

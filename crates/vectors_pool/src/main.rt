@@ -127,18 +127,11 @@ fn tally_pass(rt: &impl Print, pairs: &[u8], pass: Pass) -> io::Result<Tally> {
     })
 }
 
-// The line of one pass
-fn print_pass(rt: &impl Print, pairs: &[u8], pass: Pass, name: &str) -> io::Result<Tally> {
-    let tally = tally_pass(rt, pairs, pass)?;
-    println!(rt; "{name} {tally}")?;
-    Ok(tally)
-}
-
 // The line of each pass, and how many pairs they looked at. A pair that is cut off is missing; the count that the input gives shows it.
 fn report(rt: &impl Print, pairs: &[u8]) -> io::Result<u64> {
-    let refused = print_pass(rt, pairs, Pass::Refusals, "refused pairs")?;
-    let accepted = print_pass(rt, pairs, Pass::Sheets, "pooled sheets")?;
-    print_pass(rt, pairs, Pass::Words, "pooled reports")?;
+    let refused = tally_pass(rt, pairs, Pass::Refusals)?.printed(rt, "refused pairs")?;
+    let accepted = tally_pass(rt, pairs, Pass::Sheets)?.printed(rt, "pooled sheets")?;
+    tally_pass(rt, pairs, Pass::Words)?.printed(rt, "pooled reports")?;
     Ok((refused + accepted).tried)
 }
 

@@ -164,10 +164,8 @@ fn print_passes(rt: &impl Print, vectors: &[u8]) -> io::Result<u64> {
     print_bands(rt, vectors, Kind::Diurnal, "diurnal", "vehicle and day")?;
     print_bands(rt, vectors, Kind::Soak, "soak", "trip")?;
     print_bands(rt, vectors, Kind::Running, "running", "trip")?;
-    let sums = tally_pass(rt, vectors, Pass::Sums)?;
-    println!(rt; "sums of accepted sheets {sums}")?;
-    let refusals = tally_pass(rt, vectors, Pass::Refusals)?;
-    println!(rt; "refused sheets {refusals}")?;
+    let sums = tally_pass(rt, vectors, Pass::Sums)?.printed(rt, "sums of accepted sheets")?;
+    let refusals = tally_pass(rt, vectors, Pass::Refusals)?.printed(rt, "refused sheets")?;
     Ok((sums + refusals).tried)
 }
 

@@ -7,7 +7,7 @@
 use std::io;
 use std::ops::Add;
 use vectors::answer::Answer;
-use vectors::bytes::{LONGEST, zeros};
+use vectors::bytes::{LONGEST, copied};
 use vectors::input::hold;
 use vectors::items::{Item, Rest, tally_of};
 use vectors::tally::Tally;
@@ -93,7 +93,8 @@ fn with_calls(
     })
 }
 
-// Whether the words of a ledger are those that a fresh report leaves in a buffer that held nothing
+// Whether the words of a ledger are those that a fresh report leaves in a buffer that held nothing. The crate vectors names nothing that is
+// tried, so vectors_ledger has such a test of its own.
 fn is_fresh(run: &Run) -> bool {
     let mut fresh = [OLD; WORDS];
     let _ = inventory::report(run.sheet, &mut fresh);
@@ -137,14 +138,13 @@ fn with_ledger(
     opened: Opened,
     before: &mut [Option<Reply>; 25],
 ) -> io::Result<Tallies> {
-    let n = opened.sheet.len().min(LONGEST);
-    let (mut sheet, mut words) = (zeros::<LONGEST>(), [OLD; WORDS]);
-    sheet[..n].copy_from_slice(&opened.sheet[..n]);
-    let found = shared_ledger_calls::open(&sheet[..n], opened.owners, &mut words);
+    let (mut sheet, mut words) = ([0; LONGEST], [OLD; WORDS]);
+    let sheet = copied(&mut sheet, opened.sheet);
+    let found = shared_ledger_calls::open(sheet, opened.owners, &mut words);
     let answered = Answer::from(found) == opened.answer;
     let left = opened.answer.0.is_ok() | kept(&words);
     let mut run = Run {
-        sheet: &mut sheet[..n],
+        sheet,
         owners: opened.owners,
         words: &mut words,
     };
@@ -159,10 +159,10 @@ fn report(rt: &impl Print, ledgers: &[u8]) -> io::Result<u64> {
     let tallies: Tallies = tally_of(ledgers, |ledger, opened: Opened| {
         with_ledger(rt, ledger, opened, &mut before)
     })?;
-    println!(rt; "openings {}", tallies.openings)?;
-    println!(rt; "calls {}", tallies.calls)?;
-    println!(rt; "words at the end {}", tallies.ends)?;
-    println!(rt; "pairs told the same {}", tallies.pairs)?;
+    tallies.openings.printed(rt, "openings")?;
+    tallies.calls.printed(rt, "calls")?;
+    tallies.ends.printed(rt, "words at the end")?;
+    tallies.pairs.printed(rt, "pairs told the same")?;
     Ok(tallies.calls.tried)
 }
 

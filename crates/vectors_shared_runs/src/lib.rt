@@ -5,18 +5,17 @@ use refusals::{Check, Refusal};
 use shared_ledger::{Caller, RowRead};
 use shared_ledger_calls::SharedLedger;
 use vectors::answer::Answer;
-use vectors::bytes::{LONGEST, zeros};
+use vectors::bytes::{LONGEST, copied};
 use vectors::items::{Item, Rest};
 use vectors::words::WORDS;
 
 // The bytes of a call
 pub const CALL: usize = 36;
 
-// What is asked: a change of a row by so many vehicles, a read of a row, or of the totals
+// What is asked: a change of a row, a read of a row, or of the totals
 #[derive(Clone, Copy, Debug, PartialEq, Eq)]
 enum Call {
-    Arrive(u64, u64),
-    Depart(u64, u64),
+    Change(ledger::Call),
     Row(u64),
     Totals,
 }
@@ -25,7 +24,7 @@ enum Call {
 // and where the reply is kept to be compared, if it is
 #[derive(Clone, Copy)]
 pub struct Asked {
-    who: u64,
+    who: Caller,
     call: Call,
     answer: Answer,
     count: u64,
@@ -43,7 +42,7 @@ impl<'a> Item<'a> for Asked {
         let count: u32 = input.item()?;
         let (at, slot): (u16, u16) = (input.item()?, input.item()?);
         Some(Asked {
-            who,
+            who: who.into(),
             call: call_of(kind, row, vehicles)?,
             answer: (number.into(), place.into()).into(),
             count: count.into(),
@@ -55,8 +54,8 @@ impl<'a> Item<'a> for Asked {
 
 fn call_of(kind: u8, row: u64, vehicles: u64) -> Option<Call> {
     match kind {
-        0 => Some(Call::Arrive(row, vehicles)),
-        1 => Some(Call::Depart(row, vehicles)),
+        0 => Some(Call::Change(ledger::Call::Arrival(row, vehicles))),
+        1 => Some(Call::Change(ledger::Call::Departure(row, vehicles))),
         2 => Some(Call::Row(row)),
         3 => Some(Call::Totals),
         _ => None,
@@ -120,7 +119,7 @@ impl Run<'_, '_, '_> {
     // Makes a call.
     pub fn reply(&mut self, asked: Asked) -> Reply {
         match asked.call {
-            Call::Arrive(_, _) | Call::Depart(_, _) => self.change(asked.who, asked.call),
+            Call::Change(change) => self.change(asked.who, change),
             Call::Row(row) => self.row(asked.who, row),
             Call::Totals => self.totals(asked.who),
         }
@@ -135,37 +134,33 @@ impl Run<'_, '_, '_> {
         }
     }
 
-    fn row(&self, who: u64, row: u64) -> Reply {
-        self.ledger().read_row(Caller::from(who), row).into()
+    fn row(&self, who: Caller, row: u64) -> Reply {
+        self.ledger().read_row(who, row).into()
     }
 
-    fn totals(&self, who: u64) -> Reply {
-        self.ledger().read_totals(Caller::from(who)).into()
+    fn totals(&self, who: Caller) -> Reply {
+        self.ledger().read_totals(who).into()
     }
 
-    // The call itself, where it is an arrival or a departure
-    fn changed(&mut self, who: u64, call: Call) -> Check {
+    // An arrival or a departure
+    fn changed(&mut self, who: Caller, call: ledger::Call) -> Check {
         let Run {
             sheet,
             owners,
             words,
         } = self;
-        let change = match call {
-            Call::Arrive(row, vehicles) => ledger::Call::Arrival(row, vehicles),
-            Call::Depart(row, vehicles) => ledger::Call::Departure(row, vehicles),
-            Call::Row(_) | Call::Totals => return Ok(()),
-        };
-        shared_ledger_calls::change(sheet, owners, words, Caller::from(who), change)
+        shared_ledger_calls::change(sheet, owners, words, who, call)
     }
 
     // A change, and whether it is refused and has changed a byte or a word
-    fn change(&mut self, who: u64, call: Call) -> Reply {
-        let (n, m) = (self.sheet.len().min(LONGEST), self.words.len().min(WORDS));
-        let (mut bytes, mut words) = (zeros::<LONGEST>(), [0u64; WORDS]);
-        bytes[..n].copy_from_slice(&self.sheet[..n]);
-        words[..m].copy_from_slice(&self.words[..m]);
+    fn change(&mut self, who: Caller, call: ledger::Call) -> Reply {
+        let (mut bytes, mut words) = ([0; LONGEST], [0; WORDS]);
+        let (bytes, words) = (
+            copied(&mut bytes, self.sheet),
+            copied(&mut words, self.words),
+        );
         let mut reply = Reply::of(self.changed(who, call), Returned::Nothing);
-        reply.spoilt = reply.answer.0.is_err() & !self.is(&bytes[..n], &words[..m]);
+        reply.spoilt = reply.answer.0.is_err() & !self.is(bytes, words);
         reply
     }
 

@@ -5,56 +5,20 @@ use std::fmt;
 use vectors::answer::Answer;
 use vectors::items::{Item, Rest};
 
-// A finding: the number and the place that the check answers with, both 0 where the sheet is accepted
+// A finding, with its line: its number and place are those that the check answers with, both 0 where the sheet is accepted.
 #[derive(Clone, Copy, Debug, PartialEq, Eq)]
-pub struct Found {
-    number: u64,
-    place: u64,
-    reason: Reason,
-    field: Field,
-}
-
-#[derive(Clone, Copy, Debug, PartialEq, Eq)]
-struct Reason {
-    reason: u64,
-    index: u64,
-    season: u64,
-}
-
-#[derive(Clone, Copy, Debug, PartialEq, Eq)]
-struct Field {
-    at: u64,
-    bytes: u64,
-    value: u64,
-    least: u64,
-    most: u64,
-}
+pub struct Found(Finding);
 
 impl From<Finding> for Found {
-    fn from(f: Finding) -> Found {
-        Found {
-            number: f.number,
-            place: f.place,
-            reason: Reason {
-                reason: f.reason,
-                index: f.index,
-                season: f.season,
-            },
-            field: Field {
-                at: f.at,
-                bytes: f.bytes,
-                value: f.value,
-                least: f.least,
-                most: f.most,
-            },
-        }
+    fn from(finding: Finding) -> Found {
+        Found(finding)
     }
 }
 
 impl Found {
     // What a finding has of the check's answer
     pub fn answer(self) -> Answer {
-        (self.number, self.place).into()
+        (self.0.number, self.0.place).into()
     }
 }
 
@@ -64,7 +28,7 @@ impl<'a> Item<'a> for Found {
         let (place, index): (u16, u16) = (input.item()?, input.item()?);
         let (at, bytes): (u16, u16) = (input.item()?, input.item()?);
         let (value, least, most): (u32, u32, u32) = (input.item()?, input.item()?, input.item()?);
-        Some(Found::from(Finding {
+        Some(Found(Finding {
             number: number.into(),
             place: place.into(),
             reason: reason.into(),
@@ -79,29 +43,16 @@ impl<'a> Item<'a> for Found {
     }
 }
 
-impl fmt::Display for Reason {
-    fn fmt<W: fmt::Write>(&self, f: &mut fmt::Formatter<W>) -> fmt::Result {
-        write!(
-            f,
-            "reason {} index {} season {}",
-            self.reason, self.index, self.season
-        )
-    }
-}
-
-impl fmt::Display for Field {
-    fn fmt<W: fmt::Write>(&self, f: &mut fmt::Formatter<W>) -> fmt::Result {
-        write!(
-            f,
-            "field {} size {} value {}",
-            self.at, self.bytes, self.value
-        )?;
-        write!(f, " least {} most {}", self.least, self.most)
-    }
-}
-
 impl fmt::Display for Found {
     fn fmt<W: fmt::Write>(&self, f: &mut fmt::Formatter<W>) -> fmt::Result {
-        write!(f, "{} {} {}", self.answer(), self.reason, self.field)
+        let found = self.0;
+        write!(f, "{} reason {}", self.answer(), found.reason)?;
+        write!(f, " index {} season {}", found.index, found.season)?;
+        write!(f, " field {} size {}", found.at, found.bytes)?;
+        write!(
+            f,
+            " value {} least {} most {}",
+            found.value, found.least, found.most
+        )
     }
 }

@@ -1,8 +1,7 @@
 -- "Ten. More volatile fuel, more vapour.": two sheets, their exact masses and their words. Definitions only.
-use Rattle.std.specs.Prelude.{List, ◌≡◌, ℕ, ◌+◌, ◌*◌, ◌≤◌, ◌<◌}
+use Rattle.std.specs.Prelude.{None, List, ◌≡◌, ℕ, ◌+◌, ◌*◌, ◌≤◌, ◌<◌}
 use Rattle.numbers.specs.Fraction.{◌≤ᶠ◌}
 use Rattle.numbers.specs.Lists.{at}
-use Rattle.exact.specs.declared.Canister.TheVariants.{None}
 use Rattle.exact.specs.Masses.{Mechanism, diurnal, soak, running, mass}
 use Rattle.refusals.specs.Check.{Check, Pass, number_of}
 use Rattle.sheet.specs.Integers.{u8_at, u16_at}

@@ -2,8 +2,7 @@
 -- Assumes nothing.
 use mathlib.Core.Path.{sym, ◌∙◌}
 use native.Mathlib.Omega.{arith}
-use borrow.Author.Rules.{rules}
-use Rattle.findings.proofs.Explained.{head-there, length-is, seasons-passed}
+use Rattle.findings.proofs.Explained.{head-there, length-is}
 use Rattle.explanation.proofs.stages.Goals as goal
 
 pub numbers_finding-requires : goal.numbers_finding-requires
@@ -20,10 +19,5 @@ seasons_finding-requires c = omega (arith, length-is _ (sym c.length_finding.ens
 
 pub rows_finding-requires : goal.rows_finding-requires
 rows_finding-requires c =
-    let ends = length-is _ (sym c.length_finding.ensures ∙ c.in_ok-length_finding.was) in (
-      record {
-        there = omega arith;
-        passed = seasons-passed _ (record { byte = λ k. search rules }) (sym c.seasons_finding.ensures ∙ c.in_ok-seasons_finding.was);
-      },
-      omega arith,
-    )
+    let ends = length-is _ (sym c.length_finding.ensures ∙ c.in_ok-length_finding.was) in
+    rw c.in_ok-seasons.ensures.0 (omega arith)

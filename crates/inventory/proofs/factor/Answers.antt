@@ -1,24 +1,30 @@
 -- `inventory::factor` meets its contract: the answer is a function of the bytes and the three numbers, and is what document 01 promises.
 -- Assumes nothing.
-use mathlib.Core.Path.{◌≡◌, sym, ◌∙◌}
-use Rattle.std.proofs.Common.{Err, rules}
-use Rattle.sheet.proofs.Accepted.{Bytes}
-use Rattle.inventory.specs.FactorBand.{FactorAnswer}
+use mathlib.Core.Path.{◌∙◌}
+use Rattle.refusals.proofs.Chain.{handed}
+use Rattle.inventory.proofs.CallConditions.{bytes-of, factor-absent, factor-there}
 use Rattle.inventory.proofs.FactorPromise.{refusal_is, band-is, promised}
 use Rattle.inventory.proofs.factor.Goals as goal
 
-pub returns-in_err-factor_check : goal.returns-in_err-factor_check
-returns-in_err-factor_check c =
-    let bytes : Bytes c.args.s.now = record { byte = λ k. (c.shared_slice_known-1.given k).fits } in
-    let handed : ◌≡◌ {A = FactorAnswer} c.from_residual.result (Err c.in_err-factor_check.field-0.0) = search rules in
-    promised _ _ _ _ bytes (handed ∙ refusal_is _ _ _ _ bytes (sym c.factor_check.ensures ∙ c.in_err-factor_check.was))
+pub returns-in_err-asked : goal.returns-in_err-asked
+returns-in_err-asked c =
+    let refused = handed c.from_residual.result _ c.from_residual.ensures in
+    promised _ _ _ _ (bytes-of c.type_inv.s) (refused ∙ refusal_is _ _ _ _ (bytes-of c.type_inv.s) (c.in_err-asked.ensures c.args.k))
+
+pub returns-in_err-factor : goal.returns-in_err-factor
+returns-in_err-factor c =
+    let asked = c.in_ok-asked.asked in
+    let (same, season, row) = c.in_ok-asked.ensures in
+    let (refusal, outside) = c.in_err-factor.ensures in
+    let refused = handed c.from_residual-in_err-factor.result _ c.from_residual-in_err-factor.ensures in
+    promised _ _ _ _ (bytes-of c.type_inv.s) (refused ∙ rw refusal (refusal_is _ _ _ _ (bytes-of c.type_inv.s)
+    (factor-absent _ _ _ c.args.k (rw same at asked.sheet.passed) outside)))
 
 pub returns : goal.returns
 returns c =
-    let bytes : Bytes c.args.s.now = record { byte = λ k. (c.shared_slice_known-1.given k).fits } in
-    promised _ _ _ _ bytes
-    (band-is _ _ _ _ bytes (sym c.factor_check.ensures ∙ c.in_ok-factor_check.was)
-    c.units_at-units.ensures.0 c.low_micrograms.ensures c.high_micrograms.ensures)
-
-pub units_at-units-requires : goal.units_at-units-requires
-units_at-units-requires c = sym c.factor_check.ensures ∙ c.in_ok-factor_check.was
+    let asked = c.in_ok-asked.asked in
+    let (same, season, row) = c.in_ok-asked.ensures in
+    let (number, inside) = c.in_ok-factor.ensures in
+    let there = factor-there _ _ _ _ (rw same at asked.sheet.passed) (rw (same, season) at asked.season_there)
+    (rw (same, row) at asked.row_there) inside in
+    promised _ _ _ _ (bytes-of c.type_inv.s) (band-is _ _ _ _ (bytes-of c.type_inv.s) there (rw (same, season, row, number) at c.band_of.ensures))

@@ -1,24 +1,28 @@
 -- `inventory::report` meets its contract: a refusal leaves the buffer, and an accepted report is what document 01 promises.
 -- Assumes nothing.
-use mathlib.Core.Path.{◌≡◌, refl, sym, ◌∙◌}
-use Rattle.std.proofs.Common.{Err, rules}
-use Rattle.refusals.specs.Check.{Check}
-use Rattle.sheet.proofs.Accepted.{Bytes}
+use mathlib.Core.Path.{refl, sym, ◌∙◌}
+use lib.ListN.{length}
+use Rattle.refusals.proofs.Chain.{handed}
+use Rattle.report_words.specs.Categories.{report_length}
+use Rattle.inventory.specs.ReportAnswers.{report_check}
 use Rattle.inventory.specs.ReportCall.{written}
+use Rattle.inventory.proofs.CallConditions.{bytes-of, room-passed}
 use Rattle.inventory.proofs.ReportPromise.{report-answer}
 use Rattle.inventory.proofs.report.Goals as goal
 
-pub returns-in_err-report_check : goal.returns-in_err-report_check
-unfolding written
-returns-in_err-report_check c =
-    let bytes : Bytes c.args.s.now = record { byte = λ k. (c.shared_slice_known-1.given k).fits } in
-    let handed : ◌≡◌ {A = Check} c.from_residual.result (Err c.in_err-report_check.field-0.0) = search rules in
-    report-answer bytes (handed ∙ sym c.in_err-report_check.was ∙ c.report_check.ensures) (rw handed refl)
+pub returns-in_err-sheet : goal.returns-in_err-sheet
+unfolding written report_check
+returns-in_err-sheet c =
+    let refused = handed c.from_residual.result _ c.from_residual.ensures in
+    report-answer (bytes-of c.type_inv.s) (refused ∙ sym (c.in_err-sheet.ensures report_length (λ sheet n p. p.1.0))) (rw refused refl)
 
 pub write_report-requires : goal.write_report-requires
-write_report-requires c = sym c.report_check.ensures ∙ c.in_ok-report_check.was
+write_report-requires c =
+    let (same, passed) = c.in_ok-sheet.ensures report_length (λ sheet n p. p.1.0) in
+    rw same (room-passed report_length _ (length c.args.words.now) passed).1
 
 pub returns : goal.returns
+unfolding report_check
 returns c =
-    let bytes : Bytes c.args.s.now = record { byte = λ k. (c.shared_slice_known-1.given k).fits } in
-    report-answer bytes (sym c.in_ok-report_check.was ∙ c.report_check.ensures) c.write_report.ensures
+    let (same, passed) = c.in_ok-sheet.ensures report_length (λ sheet n p. p.1.0) in
+    report-answer (bytes-of c.type_inv.s) (sym passed) (rw same at c.write_report.ensures)

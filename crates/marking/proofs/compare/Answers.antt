@@ -1,4 +1,5 @@
 -- `marking::compare` meets its contract: the tests of the definition in its order.
+-- Four answers say what `from` is, each in a line: their contexts differ, and a lemma would take the same two facts.
 -- Assumes nothing.
 use mathlib.Core.Path.{◌∙◌}
 use native.Mathlib.Omega.{arith}

@@ -7,7 +7,7 @@ use Rattle.marks.proofs.at_marks.Goals as goal
 
 pub returns : goal.returns
 returns c =
-    let season = c.args.season in
+    let season = c.args.checked.season in
     let few = c.of_marks-warmths.result.by_distance in
     let there = few-at season c.season_temperatures-temperature.ensures.0 c.of_marks-warmths.ensures in
     let are = few-are season c.season_temperatures-temperature.ensures.0 c.of_marks-warmths.ensures in

@@ -8,7 +8,7 @@ use Rattle.sheet.specs.Range.{mark_warmth}
 use Rattle.sheet.proofs.Temperature.{warmth-most}
 use Rattle.marks.proofs.season_temperatures.Goals as goal
 
-same : (c : goal.After-temperatures) → c.temperatures.result ≡ tab (mark_warmth c.args.season) 48
+same : (c : goal.After-temperatures) → c.temperatures.result ≡ tab (mark_warmth c.args.checked.season) 48
 unfolding mark_warmth
 same c =
     rw (
@@ -19,7 +19,7 @@ same c =
 
 pub returns : goal.returns
 returns c =
-    (same c, tab-at-most _ 48 (same c) (λ i l. warmth-most i c.requires))
+    (same c, tab-at-most _ 48 (same c) (λ i l. warmth-most i c.args.checked.in_range))
 
 pub temperatures-requires : goal.temperatures-requires
 temperatures-requires c = (search rules, search rules, record { at_most = λ k. rw c.weights_table.ensures (w-most k) })

@@ -1,17 +1,17 @@
 -- `pooling_calls::pool` meets its contract: a refusal leaves the buffer, and where all passes the pooled sheet is written.
 -- Assumes nothing.
-use mathlib.Core.Path.{◌≡◌, refl, sym, ◌∙◌}
-use Rattle.std.proofs.Common.{Err, rules}
+use mathlib.Core.Path.{refl, sym, ◌∙◌}
+use Rattle.refusals.proofs.Chain.{handed}
 use Rattle.inventory.specs.ReportCall.{written}
-use Rattle.pooling.specs.PoolCall.{PoolAnswer, check_of}
+use Rattle.pooling.specs.PoolCall.{check_of}
 use Rattle.pooling.proofs.PoolWritten.{pool-reply, answer-passes}
 use Rattle.pooling_calls.proofs.pool.Goals as goal
 
 pub returns-in_err-pool_answer : goal.returns-in_err-pool_answer
 unfolding check_of written
 returns-in_err-pool_answer c =
-    let handed : ◌≡◌ {A = PoolAnswer} c.from_residual.result (Err c.in_err-pool_answer.field-0.0) = search rules in
-    pool-reply (handed ∙ sym c.in_err-pool_answer.was ∙ c.pool_answer.ensures) (rw handed refl)
+    let refused = handed c.from_residual.result _ c.from_residual.ensures in
+    pool-reply (refused ∙ sym c.in_err-pool_answer.was ∙ c.pool_answer.ensures) (rw refused refl)
 
 pub returns : goal.returns
 unfolding check_of

@@ -4,7 +4,6 @@ use Rattle.std.proofs.Common.{◌≡◌, arith}
 use Rattle.sheet.specs.Bytes.{rows_of}
 use Rattle.report_words.specs.Categories.{category}
 use Rattle.report_sums.specs.Numbers.{number}
-use Rattle.sheet.proofs.Places.{parking-there, row-there}
 use Rattle.report_sums.proofs.BufferSums.{sum-none, sum_more, sum_same}
 use Rattle.report_sums.proofs.sum_of.Goals as goal
 use Rattle.report_sums.proofs.sum_of.Goals.{then-belongs, else-belongs}
@@ -16,23 +15,9 @@ loop-i-preserved c =
     let x = c.args in
     elim c.if-belongs.branch [
       | then-belongs w ↦
-          rw w.sum-is (sum_more x.s.now x.words.now (category (number x.c)) l.i x.j l.sum l.invariant (cc (c.belongs.ensures, w.if-belongs.true)))
+          rw w.sum-is (sum_more x.sheet.bytes.now x.rows.now (category (number x.c)) l.i x.j l.sum l.invariant
+          (cc (c.belongs.ensures, w.if-belongs.true)))
       | else-belongs w ↦
-          rw w.sum-is (sum_same x.s.now x.words.now (category (number x.c)) l.i x.j l.sum l.invariant (cc (c.belongs.ensures, w.if-belongs.false)))
+          rw w.sum-is (sum_same x.sheet.bytes.now x.rows.now (category (number x.c)) l.i x.j l.sum l.invariant
+          (cc (c.belongs.ensures, w.if-belongs.false)))
     ]
-
-pub returns : goal.returns
-returns c =
-    let l = c.loop-i in
-    let s = c.args.s.now in
-    let all : l.i ≡ rows_of s = omega arith in
-    rw all at l.invariant
-
-pub rows_of-i-end-requires : goal.rows_of-i-end-requires
-rows_of-i-end-requires c = omega (arith, parking-there _ c.requires.0)
-
-pub loop-i-init : goal.loop-i-init
-loop-i-init c = sum-none _ _ _ _
-
-pub class_of-requires : goal.class_of-requires
-class_of-requires c = row-there _ c.requires.0 (omega arith)

@@ -7,4 +7,4 @@ use Rattle.report_sums.specs.Sums.{buffer_sum}
 use Rattle.report_sums.proofs.sum_of.Given as goal
 
 abbrev pub invariant-loop-i : goal.invariant-loop-i
-invariant-loop-i l = l.sum ≡ buffer_sum l.s l.words (category (number l.c)) l.i l.j % 2 ^ 64
+invariant-loop-i l = l.sum ≡ buffer_sum l.sheet.bytes.now l.rows (category (number l.c)) l.i l.j % 2 ^ 64

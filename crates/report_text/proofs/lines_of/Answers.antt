@@ -1,19 +1,17 @@
 -- `report_text::lines_of` meets its contract: the words that are handed on are the report's.
 -- Assumes nothing.
-use mathlib.Core.Path.{◌≡◌, sym}
+use mathlib.Core.Path.{sym}
 use Prim.Native.Nat.{◌+◌, ◌*◌}
 use native.Mathlib.Omega.{arith}
-use Rattle.std.proofs.Common.{Result, Err, rules, length-take-le}
-use Rattle.refusals.specs.declared.Refusal.{Refusal}
+use Rattle.std.proofs.Common.{length-take-le}
+use Rattle.refusals.proofs.Chain.{handed}
 use Rattle.text.proofs.LineSizes.{Words}
-use Rattle.report_text.specs.declared.ReportLines.{ReportLines}
 use Rattle.report_text.proofs.SheetText.{lines-made, lines-most, head-there, words-there, refusal_is, refusal-short}
 use Rattle.report_text.proofs.lines_of.Goals as goal
 
 pub returns-in_err-check-clause-text : goal.returns-in_err-check-clause-text
 returns-in_err-check-clause-text c =
-    let handed : ◌≡◌ {A = Result ReportLines Refusal} c.from_residual.result (Err c.in_err-check.field-0.0) = search rules in
-    rw (handed, c.in_err-check.was) (refusal_is c.args.s.now c.in_err-check.field-0.0)
+    rw (handed c.from_residual.result _ c.from_residual.ensures, c.in_err-check.was) (refusal_is c.args.s.now c.in_err-check.field-0.0)
 
 pub returns-in_err-check-clause-most : goal.returns-in_err-check-clause-most
 returns-in_err-check-clause-most c =

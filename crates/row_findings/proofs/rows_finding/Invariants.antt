@@ -8,4 +8,5 @@ use Rattle.findings.specs.Table.{row_finding}
 use Rattle.row_findings.proofs.rows_finding.Given as goal
 
 abbrev pub invariant-loop-i : goal.invariant-loop-i
-invariant-loop-i l = (each_finding (row_finding l.s) l.i ≡ none_found) × (l.before ≡ vehicles_before l.s l.i) × (l.before ≤ l.i * 2 ^ 32)
+invariant-loop-i l = (each_finding (row_finding l.seasons.sheet.now) l.i ≡ none_found) ×
+    (l.before ≡ vehicles_before l.seasons.sheet.now l.i) × (l.before ≤ l.i * 2 ^ 32)

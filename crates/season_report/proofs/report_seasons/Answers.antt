@@ -1,25 +1,26 @@
 -- `season_report::report_seasons` meets its contract: a refusal leaves the buffer, and an accepted call stores what is promised.
-use mathlib.Core.Path.{◌≡◌, refl, sym, ◌∙◌}
-use Rattle.std.proofs.Common.{Err, rules}
-use Rattle.refusals.specs.Check.{Check}
-use Rattle.sheet.proofs.Accepted.{Bytes}
+use mathlib.Core.Path.{refl, sym, ◌∙◌}
+use lib.ListN.{length}
+use Rattle.refusals.proofs.Chain.{handed}
 use Rattle.inventory.specs.ReportCall.{written}
-use Rattle.season_report.proofs.SeasonsPromise.{seasons-answer, seasons-passed}
+use Rattle.inventory.proofs.CallConditions.{bytes-of, room-passed}
+use Rattle.season_report.specs.Seasons.{seasons_length, seasons_check}
+use Rattle.season_report.proofs.SeasonsPromise.{seasons-answer}
 use Rattle.season_report.proofs.report_seasons.Goals as goal
 
-pub returns-in_err-seasons_check : goal.returns-in_err-seasons_check
-unfolding written
-returns-in_err-seasons_check c =
-    -- each element of the sheet is a byte
-    let bytes : Bytes c.args.s.now = record { byte = λ k. (c.type_inv.s k).fits } in
-    let handed : ◌≡◌ {A = Check} c.from_residual.result (Err c.in_err-seasons_check.field-0.0) = search rules in
-    seasons-answer bytes (handed ∙ sym c.in_err-seasons_check.was ∙ c.seasons_check.ensures) (rw handed refl)
+pub returns-in_err-sheet : goal.returns-in_err-sheet
+unfolding written seasons_check
+returns-in_err-sheet c =
+    let refused = handed c.from_residual.result _ c.from_residual.ensures in
+    seasons-answer (bytes-of c.type_inv.s) (refused ∙ sym (c.in_err-sheet.ensures seasons_length (λ sheet n p. p.1))) (rw refused refl)
 
-pub write_all-requires : goal.write_all-requires
-write_all-requires c = seasons-passed _ _ (sym c.seasons_check.ensures ∙ c.in_ok-seasons_check.was)
+pub write_seasons-requires : goal.write_seasons-requires
+write_seasons-requires c =
+    let (same, passed) = c.in_ok-sheet.ensures seasons_length (λ sheet n p. p.1) in
+    rw same (room-passed seasons_length _ (length c.args.words.now) passed).1
 
 pub returns : goal.returns
+unfolding seasons_check
 returns c =
-    -- each element of the sheet is a byte
-    let bytes : Bytes c.args.s.now = record { byte = λ k. (c.type_inv.s k).fits } in
-    seasons-answer bytes (sym c.in_ok-seasons_check.was ∙ c.seasons_check.ensures) c.write_all.ensures
+    let (same, passed) = c.in_ok-sheet.ensures seasons_length (λ sheet n p. p.1) in
+    seasons-answer (bytes-of c.type_inv.s) (sym passed) (rw same at c.write_seasons.ensures)

@@ -1,16 +1,15 @@
 -- `shared_ledger_calls::change` meets its contract.
 -- Assumes nothing.
-use mathlib.Core.Path.{◌≡◌, refl, sym, ◌∙◌}
-use Rattle.std.proofs.Common.{Err, rules}
-use Rattle.refusals.specs.Check.{Check}
+use mathlib.Core.Path.{refl, sym, ◌∙◌}
+use Rattle.refusals.proofs.Chain.{handed}
 use Rattle.shared_ledger.specs.Caller.{who_of}
 use Rattle.shared_ledger_calls.proofs.Outcome.{change-refused, change-allowed, change-done}
 use Rattle.shared_ledger_calls.proofs.change.Goals as goal
 
 pub returns-in_err-change_check : goal.returns-in_err-change_check
 returns-in_err-change_check c =
-    let handed : ◌≡◌ {A = Check} c.from_residual.result (Err c.in_err-change_check.field-0.0) = search rules in
-    change-refused _ _ _ _ _ (handed ∙ sym c.in_err-change_check.was ∙ c.change_check.ensures) handed
+    let refused = handed c.from_residual.result _ c.from_residual.ensures in
+    change-refused _ _ _ _ _ (refused ∙ sym c.in_err-change_check.was ∙ c.change_check.ensures) refused
 
 pub apply-requires : goal.apply-requires
 apply-requires c =

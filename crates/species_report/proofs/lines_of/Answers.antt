@@ -1,18 +1,15 @@
 -- `species_report::lines_of` meets its contract: the version of the sheet and its species, or the refusal.
 -- Assumes nothing.
-use mathlib.Core.Path.{◌≡◌}
 use native.Mathlib.Omega.{arith}
-use Rattle.std.proofs.Common.{Err, rules}
-use Rattle.refusals.specs.Check.{Answer}
-use Rattle.species_report.specs.declared.lines.SpeciesLines.{SpeciesLines}
+use Rattle.refusals.proofs.Chain.{handed}
 use Rattle.species_report.proofs.SpeciesPrinted.{refusal_is, refusal-short, lines-made, lines-short}
 use Rattle.species_report.proofs.SpeciesSizes.{masses-words}
 use Rattle.species_report.proofs.lines_of.Goals as goal
 
 pub returns-in_err-composition-clause-text : goal.returns-in_err-composition-clause-text
 returns-in_err-composition-clause-text c =
-    let handed : ◌≡◌ {A = Answer SpeciesLines} c.from_residual.result (Err c.in_err-composition.field-0.0) = search rules in
-    rw (handed, c.in_err-composition.was) (refusal_is c.args.s.now c.in_err-composition.field-0.0)
+    rw (handed c.from_residual.result _ c.from_residual.ensures, c.in_err-composition.was)
+    (refusal_is c.args.s.now c.in_err-composition.field-0.0)
 
 pub returns-in_err-composition-clause-most : goal.returns-in_err-composition-clause-most
 returns-in_err-composition-clause-most c =

@@ -1,4 +1,5 @@
 -- `vectors_map::nan_pattern` meets its contract.
+-- The word stays: the attribute of the function takes no definition of `lib.Ieee` to unfold.
 use lib.Ieee.{nan_bits}
 use Rattle.vectors_map.proofs.nan_pattern.Goals as goal
 

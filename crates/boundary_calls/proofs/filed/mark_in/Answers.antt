@@ -9,7 +9,7 @@ pub returns-in-Ok : goal.returns-in-Ok
 unfolding handed_verdict
 returns-in-Ok c =
     let e = c.in-Ok.ensures in
-    rw e.0 (c.mark.ensures.0 ∙ ap (λ (f : Filed). verdict f c.args.low c.args.high) e.1)
+    rw e.0 (c.mark.ensures.0 ∙ ap (λ (f : Filed). verdict f c.args.band.low c.args.band.high) e.1)
 
 pub returns-in-Err : goal.returns-in-Err
 unfolding handed_verdict

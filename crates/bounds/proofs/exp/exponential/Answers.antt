@@ -5,12 +5,9 @@ use Rattle.bounds.specs.Exponential.{exponential}
 use Rattle.bounds.proofs.ExponentialBound.{exponential-size, exponential-within}
 use Rattle.bounds.proofs.exp.exponential.Goals as goal
 
--- the result is the computed exponential
-same : (c : goal.After-mul_above) → c.mul_above.result ≡ exponential c.args.x
-unfolding exponential
-same c = cc
-
 pub returns : goal.returns
+unfolding exponential
 returns c =
     let l = c.requires in
-    (same c, rw (same c) (exponential-size _ l), rw (same c) (exponential-within _ l))
+    let e : c.mul_above.result ≡ exponential c.args.x = cc in
+    (e, rw e (exponential-size _ l), rw e (exponential-within _ l))

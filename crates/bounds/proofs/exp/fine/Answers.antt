@@ -4,12 +4,9 @@ use Rattle.bounds.specs.Exponential.{fine}
 use Rattle.bounds.proofs.ExponentialBound.{fine-least, fine-size}
 use Rattle.bounds.proofs.exp.fine.Goals as goal
 
--- the result is the computed exponential of the part below a sixteenth
-same : (c : goal.After-mul_above) → c.mul_above.result ≡ fine c.args.d
-unfolding fine
-same c = cc
-
 pub returns : goal.returns
+unfolding fine
 returns c =
     let l = c.requires in
-    (same c, rw (same c) (fine-least _ l), rw (same c) (fine-size _ l))
+    let e : c.mul_above.result ≡ fine c.args.d = cc in
+    (e, rw e (fine-least _ l), rw e (fine-size _ l))

@@ -5,12 +5,9 @@ use Rattle.bounds.specs.Power.{power, power_from}
 use Rattle.bounds.proofs.PowerBound.{power_size, power-within}
 use Rattle.bounds.proofs.power.power.Goals as goal
 
--- the result is the computed T^2.5
-same : (c : goal.After-half_power) → c.half_power.result * 8307674973 / 2 ^ 24 ≡ power c.args.warmth
-unfolding power power_from
-same c = cc
-
 pub returns : goal.returns
+unfolding power power_from
 returns c =
     let l = c.requires in
-    (same c, rw (same c) (power_size _ l), rw (same c) (power-within _ l))
+    let e : c.half_power.result * 8307674973 / 2 ^ 24 ≡ power c.args.warmth = cc in
+    (e, rw e (power_size _ l), rw e (power-within _ l))

@@ -12,14 +12,14 @@ use Rattle.breakthrough.proofs.losses.through_raises.Goals as goal
 
 pub mean_by_distance-requires : goal.mean_by_distance-requires
 mean_by_distance-requires c =
-    let made : c.from_fn-losses.result ≡ tab (λ (d : ℕ). through (curve_at c.args.c.now.by_distance d) (at c.args.raises.now d)) 25
+    let made : c.from_fn-losses.result ≡ tab (λ (d : ℕ). through (curve_at c.args.c.now.by_distance d) (at c.args.raises.now.by_distance d)) 25
     = made-all _ _ _ (λ i y q w. search rules) c.from_fn-losses.ensures.items in
-    tab-at-most _ 25 made (λ d h. through-most _ _ (c.args.c.now.ready d h) (omega (arith, c.requires.at_most d)))
+    tab-at-most _ 25 made (λ d h. through-most _ _ (c.args.c.now.ready d h) (omega (arith, c.args.raises.now.moderate.at_most d)))
 
 pub returns : goal.returns
 returns c =
     let ends = is_end c.args.moment in
-    let f : ℕ → ℕ = λ d. through (curve_at c.args.c.now.by_distance d) (at c.args.raises.now d) in
+    let f : ℕ → ℕ = λ d. through (curve_at c.args.c.now.by_distance d) (at c.args.raises.now.by_distance d) in
     let made : c.from_fn-losses.result ≡ tab f 25 = made-all _ _ _ (λ i y q w. search rules) c.from_fn-losses.ensures.items in
     c.mean_by_distance.ensures ∙
     mean-ext _ (λ cell. rw made (get_d-tab f 25 (apart_of ends cell) (apart_of-below ends cell)))

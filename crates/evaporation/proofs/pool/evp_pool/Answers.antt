@@ -2,8 +2,5 @@
 use Rattle.boundary.proofs.PoolNumbers.{pool-numbers}
 use Rattle.evaporation.proofs.pool.evp_pool.Goals as goal
 
-pub pool_numbers-requires : goal.pool_numbers-requires
-pool_numbers-requires c = c.pool-answer.ensures.answer-is
-
 pub returns : goal.returns
 returns c = pool-numbers c.pool-answer.ensures c.pool_numbers.ensures

@@ -1,23 +1,26 @@
 -- `factor_table::table::factors` meets its contract: a refusal leaves the buffer, and an accepted call stores what is promised.
-use mathlib.Core.Path.{◌≡◌, refl, sym, ◌∙◌}
-use Rattle.std.proofs.Common.{Err, rules}
-use Rattle.refusals.specs.Check.{Check}
-use Rattle.sheet.proofs.Accepted.{Bytes}
+use mathlib.Core.Path.{refl, sym, ◌∙◌}
+use lib.ListN.{length}
+use Rattle.refusals.proofs.Chain.{handed}
 use Rattle.inventory.specs.ReportCall.{written}
-use Rattle.factor_table.proofs.TablePromise.{factors-answer, factors-passed}
+use Rattle.inventory.proofs.CallConditions.{bytes-of, room-passed}
+use Rattle.factor_table.specs.Factors.{factors_length, factors_check}
+use Rattle.factor_table.proofs.TablePromise.{factors-answer}
 use Rattle.factor_table.proofs.table.factors.Goals as goal
 
-pub returns-in_err-factors_check : goal.returns-in_err-factors_check
-unfolding written
-returns-in_err-factors_check c =
-    let bytes : Bytes c.args.s.now = record { byte = λ k. (c.type_inv.s k).fits } in
-    let handed : ◌≡◌ {A = Check} c.from_residual.result (Err c.in_err-factors_check.field-0.0) = search rules in
-    factors-answer bytes (handed ∙ sym c.in_err-factors_check.was ∙ c.factors_check.ensures) (rw handed refl)
+pub returns-in_err-sheet : goal.returns-in_err-sheet
+unfolding written factors_check
+returns-in_err-sheet c =
+    let refused = handed c.from_residual.result _ c.from_residual.ensures in
+    factors-answer (bytes-of c.type_inv.s) (refused ∙ sym (c.in_err-sheet.ensures factors_length (λ sheet n p. p.1))) (rw refused refl)
 
-pub write_factors-requires : goal.write_factors-requires
-write_factors-requires c = factors-passed _ _ (sym c.factors_check.ensures ∙ c.in_ok-factors_check.was)
+pub all_factors-requires : goal.all_factors-requires
+all_factors-requires c =
+    let (same, passed) = c.in_ok-sheet.ensures factors_length (λ sheet n p. p.1) in
+    rw same (room-passed factors_length _ (length c.args.words.now) passed).1
 
 pub returns : goal.returns
+unfolding factors_check
 returns c =
-    let bytes : Bytes c.args.s.now = record { byte = λ k. (c.type_inv.s k).fits } in
-    factors-answer bytes (sym c.in_ok-factors_check.was ∙ c.factors_check.ensures) c.write_factors.ensures
+    let (same, passed) = c.in_ok-sheet.ensures factors_length (λ sheet n p. p.1) in
+    factors-answer (bytes-of c.type_inv.s) (sym passed) (rw same at c.all_factors.ensures)

@@ -1,5 +1,7 @@
 -- `ledger_calls::steps::apply` meets its contract: the count is changed, and the words of its row and all sums are made anew.
+-- The answers name the same sheet and row, each of its own context.
 -- Assumes nothing.
+use Rattle.std.proofs.Common.{rules}
 use mathlib.Core.Path.{◌≡◌, ◌∙◌, ap}
 use Prim.Native.Nat.{ℕ}
 use native.Mathlib.Omega.{arith}
@@ -14,8 +16,8 @@ use Rattle.ledger.specs.Ledger.{sheet_after, words_after}
 use Rattle.ledger_calls.proofs.Outcome.{right-room, row-named-there, new-most, with-count-same}
 use Rattle.ledger_calls.proofs.steps.apply.Goals as goal
 
-pub count_after-new-requires : goal.count_after-new-requires
-count_after-new-requires c = let p = c.requires in (report-sheet _ _ p.0, p.1)
+pub invariant_of-count_after : goal.invariant_of-count_after
+invariant_of-count_after c = record { passed = report-sheet _ _ c.requires.0; are_bytes = λ k. search rules }
 
 pub set_vehicles-requires : goal.set_vehicles-requires
 set_vehicles-requires c =
@@ -37,7 +39,16 @@ pub renew_row-requires : goal.renew_row-requires
 renew_row-requires c =
     let x = c.args in
     rw (stored_is _ _ x.call c.set_vehicles.ensures c.row-i.ensures c.count_after-new.ensures, c.row-i.ensures)
-    (right-room x.s.now x.words.now x.call c.requires.0 c.requires.1)
+    (right-room x.s.now x.words.now x.call c.requires.0 c.requires.1).1
+
+pub invariant_of-renew_row : goal.invariant_of-renew_row
+invariant_of-renew_row c =
+    let x = c.args in
+    record {
+      passed = rw (stored_is _ _ x.call c.set_vehicles.ensures c.row-i.ensures c.count_after-new.ensures)
+          (right-room x.s.now x.words.now x.call c.requires.0 c.requires.1).0;
+      are_bytes = λ k. search rules;
+    }
 
 pub returns : goal.returns
 unfolding sheet_after words_after

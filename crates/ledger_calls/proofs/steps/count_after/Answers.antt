@@ -12,16 +12,13 @@ use Rattle.sheet.specs.Sheet.{sheet_check}
 use Rattle.sheet.specs.Bytes.{rows_of, row_at}
 use Rattle.sheet.specs.Versions.{has_many_rows}
 use Rattle.sheet.specs.Counts.{counts_of}
-use Rattle.sheet.proofs.Places.{row-there}
 use Rattle.ledger.specs.declared.Call.{Call}
 use Rattle.ledger.specs.Machine.{row_of, moved, past, wrong}
 use Rattle.ledger_calls.proofs.Outcome.{row-named-there, entry-is, past-wrong, arrival-fits, departure-fits}
 use Rattle.ledger_calls.proofs.steps.count_after.Goals as goal
 
-pub vehicles_of-v-requires : goal.vehicles_of-v-requires
-vehicles_of-v-requires c =
-    let p = c.requires in
-    rw c.row.ensures (row-there _ p.0 (row-named-there _ p.0 _ p.1))
+pub vehicles-v-requires : goal.vehicles-v-requires
+vehicles-v-requires c = rw c.row.ensures (row-named-there _ c.args.sheet.passed _ c.requires)
 
 module _ (s : List ℕ) (pass : sheet_check s ≡ Pass) (call : Call) (right : wrong (has_many_rows s) (counts_of s) call ≡ false)
     {row v : ℕ} (named : row ≡ row_of call) (is : v ≡ (row_at s row).vehicles) where
@@ -38,18 +35,22 @@ module _ (s : List ℕ) (pass : sheet_check s ≡ Pass) (call : Call) (right : w
 
 pub overflow_add-result : goal.overflow_add-result
 overflow_add-result c =
-    let p = c.requires in
-    record { fits = omega (arith, arrival-fits _ _ _ c.in-Arrival.is (within _ p.0 _ p.1 c.row.ensures c.vehicles_of-v.ensures.0)) }
+    record {
+      fits = omega (
+        arith,
+        arrival-fits _ _ _ c.in-Arrival.is (within _ c.args.sheet.passed _ c.requires c.row.ensures
+            c.vehicles-v.ensures.0),
+      );
+    }
 
 pub overflow_sub-result : goal.overflow_sub-result
 overflow_sub-result c =
-    let p = c.requires in
-    departure-fits _ _ _ c.in-Departure.is (within _ p.0 _ p.1 c.row.ensures c.vehicles_of-v.ensures.0)
+    departure-fits _ _ _ c.in-Departure.is (within _ c.args.sheet.passed _ c.requires c.row.ensures c.vehicles-v.ensures.0)
 
 pub returns-in-Arrival : goal.returns-in-Arrival
 unfolding moved
-returns-in-Arrival c = let p = c.requires in cc (entry _ p.0 _ p.1 c.row.ensures c.vehicles_of-v.ensures.0)
+returns-in-Arrival c = cc (entry _ c.args.sheet.passed _ c.requires c.row.ensures c.vehicles-v.ensures.0)
 
 pub returns-in-Departure : goal.returns-in-Departure
 unfolding moved
-returns-in-Departure c = let p = c.requires in cc (entry _ p.0 _ p.1 c.row.ensures c.vehicles_of-v.ensures.0)
+returns-in-Departure c = cc (entry _ c.args.sheet.passed _ c.requires c.row.ensures c.vehicles-v.ensures.0)

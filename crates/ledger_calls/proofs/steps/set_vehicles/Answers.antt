@@ -1,18 +1,11 @@
 -- `ledger_calls::steps::set_vehicles` meets its contract: four bytes stand in place of those of the count.
 -- Assumes nothing.
 use Rattle.std.proofs.Common.{◌≡◌, ℕ, ◌+◌, ◌-◌, ◌≤◌, List, length, ◌∙◌, arith, append_assoc}
-use borrow.Author.Rules.{rules}
 use borrow.Rule.Slice.PartMut.{put_mid, Post-is}
 use lib.Seq.{sets, sets-eq}
 use Rattle.sheet.specs.Bytes.{row_place}
 use Rattle.sheet.specs.Counts.{four_bytes, with_count}
 use Rattle.ledger_calls.proofs.steps.set_vehicles.Goals as goal
-
-pub row_place-place-requires : goal.row_place-place-requires
-row_place-place-requires c = search rules
-
-pub overflow_add-place : goal.overflow_add-place
-overflow_add-place c = search rules
 
 -- four bytes in place of those from a place on
 stored : (s : List ℕ) (place v : ℕ) → place + 4 ≤ length s → put_mid place (place + 4 - place) s (four_bytes v) ≡ sets s place (four_bytes v)

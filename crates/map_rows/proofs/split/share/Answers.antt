@@ -6,10 +6,10 @@ pub returns-then-c-gt0 : goal.returns-then-c-gt0
 returns-then-c-gt0 c =
     let i = c.requires in
     let e = c.cut_product-c.ensures in
-    rw c.in-Up.is (share-up-some _ _ _ _ _ i.some i.within e.0 e.1 c.if-c-gt0.true)
+    rw c.in-Up.is (share-up-some _ _ _ _ _ i.some i.within e.0.whole_is e.0.rest-is c.if-c-gt0.true)
 
 pub returns-else-c-gt0 : goal.returns-else-c-gt0
 returns-else-c-gt0 c =
     let i = c.requires in
     let e = c.cut_product-c.ensures in
-    rw c.in-Up.is (share-up-none _ _ _ _ _ i.some i.within e.0 e.1 c.if-c-gt0.false)
+    rw c.in-Up.is (share-up-none _ _ _ _ _ i.some i.within e.0.whole_is e.0.rest-is c.if-c-gt0.false)

@@ -1,26 +1,26 @@
 -- `pooling_calls::check::pool_answer` meets its contract: the first sheet, the second, and the two together; the first that refuses is the answer.
+-- Each answer names the checks that came before it, of its own context: a lemma would take the same facts.
 -- Assumes nothing.
-use mathlib.Core.Path.{◌≡◌, refl, sym, ap, ◌∙◌}
-use Rattle.std.proofs.Common.{Err, rules}
+use mathlib.Core.Path.{refl, sym, ap, ◌∙◌}
+use Rattle.refusals.proofs.Chain.{handed}
 use Rattle.pooling.specs.declared.PoolRefusal.TheVariants.{First, Second, Pooled}
-use Rattle.pooling.specs.PoolCall.{PoolAnswer}
 use Rattle.pooling.proofs.PoolAnswers.{named, named-is, in-turn, answer-in-turn, named-passes}
 use Rattle.pooling_calls.proofs.check.pool_answer.Goals as goal
 
 pub returns-in_err-map_err : goal.returns-in_err-map_err
 unfolding in-turn
 returns-in_err-map_err c =
-    let handed : ◌≡◌ {A = PoolAnswer} c.from_residual.result (Err c.in_err-map_err.field-0.0) = search rules in
+    let refused = handed c.from_residual.result _ c.from_residual.ensures in
     let first = named-is First _ _ c.map_err.ensures.cases ∙ ap (named First) c.region_check.ensures in
-    handed ∙ answer-in-turn _ _ _ (sym c.in_err-map_err.was ∙ first) refl refl
+    refused ∙ answer-in-turn _ _ _ (sym c.in_err-map_err.was ∙ first) refl refl
 
 pub returns-in_err-map_err-2 : goal.returns-in_err-map_err-2
 unfolding in-turn
 returns-in_err-map_err-2 c =
-    let handed : ◌≡◌ {A = PoolAnswer} c.from_residual-in_err-map_err-2.result (Err c.in_err-map_err-2.field-0.0) = search rules in
+    let refused = handed c.from_residual-in_err-map_err-2.result _ c.from_residual-in_err-map_err-2.ensures in
     let first = named-is First _ _ c.map_err.ensures.cases ∙ ap (named First) c.region_check.ensures in
     let second = named-is Second _ _ c.map_err-2.ensures.cases ∙ ap (named Second) c.region_check-2.ensures in
-    handed ∙ answer-in-turn _ _ _ (sym c.in_ok-map_err.was ∙ first) (sym c.in_err-map_err-2.was ∙ second) refl
+    refused ∙ answer-in-turn _ _ _ (sym c.in_ok-map_err.was ∙ first) (sym c.in_err-map_err-2.was ∙ second) refl
 
 pub of-requires : goal.of-requires
 of-requires c =

@@ -1,6 +1,6 @@
 -- `pooling_calls::pair::put` meets its contract.
 -- Assumes nothing.
-use Rattle.std.proofs.Common.{◌≡◌, ℕ, ◌+◌, ◌-◌, ◌≤◌, List, length, ◌∙◌, arith, append_assoc}
+use Rattle.std.proofs.Common.{◌≡◌, ℕ, ◌+◌, ◌-◌, ◌≤◌, List, length, arith, append_assoc}
 use borrow.Rule.Slice.PartMut.{put_mid, Post-is}
 use lib.Seq.{sets, sets-eq}
 use Rattle.pooling_calls.proofs.pair.put.Goals as goal

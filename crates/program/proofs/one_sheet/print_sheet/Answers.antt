@@ -4,7 +4,7 @@ use Rattle.program.proofs.Printing.{unread_prints}
 use Rattle.program.proofs.one_sheet.print_sheet.Goals as goal
 
 pub returns-in-Err-clause-ran : goal.returns-in-Err-clause-ran
-returns-in-Err-clause-ran g c = unread c.in-Err.ensures.unread
+returns-in-Err-clause-ran g c = unread c.in-Err.ensures.read.unread
 
 pub returns-in-Err-clause-prints : goal.returns-in-Err-clause-prints
 returns-in-Err-clause-prints g c = unread_prints _ _ _

@@ -6,10 +6,8 @@ use Rattle.masses.proofs.FigureSizes.{figures-are}
 use Rattle.sheet_factors.proofs.SeasonWork.{use-in-range}
 use Rattle.report_sums.proofs.renewal.day_of.Goals as goal
 
-pub six_figures-requires : goal.six_figures-requires
-six_figures-requires c =
-    let p = c.requires in
-    rw p.2 (c.units_with.ensures.1, use-in-range (accepted _ c.args.sheet.now.passes) p.1)
+pub invariant_of-six_figures : goal.invariant_of-six_figures
+invariant_of-six_figures c = record { in_range = rw c.requires.2 (use-in-range (accepted _ c.args.sheet.now.sheet.passed) c.requires.1) }
 
 pub returns : goal.returns
-returns c = c.six_figures.ensures ∙ rw (c.units_with.ensures.0, c.requires.2) (figures-are _ _ _)
+returns c = c.six_figures.ensures ∙ rw (c.units_with-units.ensures, c.requires.2) (figures-are _ _ _)

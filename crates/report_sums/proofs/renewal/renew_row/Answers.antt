@@ -3,11 +3,10 @@
 use Rattle.std.proofs.Common.{◌≡◌, ℕ, ◌+◌, ◌-◌, ◌*◌, ◌≤◌, List, length, ap, ◌∙◌, arith, append_assoc}
 use borrow.Rule.Slice.PartMut.{put_mid, Post-is}
 use lib.Seq.{sets, sets-eq}
-use Rattle.numbers.proofs.Lists.{tab-length}
 use Rattle.report_words.specs.Report.{words_of}
 use Rattle.report_sums.specs.Sums.{resummed}
 use Rattle.report_sums.specs.Renewed.{renewed}
-use Rattle.report_sums.proofs.OneRow.{words-tab}
+use Rattle.report_sums.proofs.OneRow.{words-length}
 use Rattle.report_sums.proofs.renewal.renew_row.Goals as goal
 
 -- six words in place of those from a place on
@@ -23,6 +22,6 @@ pub returns : goal.returns
 unfolding renewed
 returns c =
     let x = c.args in
-    let six : c.copy_from_slice.new.self ≡ words_of x.s.now x.i = c.copy_from_slice.ensures.after ∙ c.words_of.ensures in
-    let size : length (words_of x.s.now x.i) ≡ 6 = rw (← words-tab x.s.now x.i) (tab-length _ 6) in
-    c.write_sums.ensures ∙ ap (resummed x.s.now) (rw six (stored x.words.now (6 * x.i) (words_of x.s.now x.i) size (omega arith)))
+    let six : c.copy_from_slice.new.self ≡ words_of x.sheet.bytes.now x.i = c.copy_from_slice.ensures.after ∙ c.words_of.ensures in
+    let size : length (words_of x.sheet.bytes.now x.i) ≡ 6 = words-length x.sheet.bytes.now x.i in
+    c.write_sums.ensures ∙ ap (resummed x.sheet.bytes.now) (rw six (stored x.words.now (6 * x.i) (words_of x.sheet.bytes.now x.i) size (omega arith)))

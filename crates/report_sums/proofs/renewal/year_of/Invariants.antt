@@ -6,4 +6,4 @@ use Rattle.report_sums.specs.RowYear.{row_year}
 use Rattle.report_sums.proofs.renewal.year_of.Given as goal
 
 abbrev pub invariant-loop-j : goal.invariant-loop-j
-invariant-loop-j l = l.year ≡ tab (row_year l.sheet.bytes.now l.i l.j) 6
+invariant-loop-j l = l.year ≡ tab (row_year l.sheet.sheet.bytes.now l.i l.j) 6

@@ -9,4 +9,4 @@ use Rattle.report_words.proofs.year.add_seasons.Given as goal
 
 abbrev pub invariant-loop-j : goal.invariant-loop-j
 invariant-loop-j l = (length l.words ≡ length l.initial.words)
-    × (l.words ≡ filled (year_word l.loaded.sheet.bytes.now l.j) (6 * rows_of l.loaded.sheet.bytes.now) l.initial.words)
+    × (l.words ≡ filled (year_word l.loaded.sheet.sheet.bytes.now l.j) (6 * rows_of l.loaded.sheet.sheet.bytes.now) l.initial.words)

@@ -9,13 +9,13 @@ use Rattle.row_factors.proofs.season.day_of.Goals as goal
 
 pub returns : goal.returns
 returns c =
-    let season = c.args.season in
-    let m = c.requires.marks-are in
+    let season = c.args.checked.season in
+    let m = c.requires in
     let warmths = c.args.values.now.warmths.by_distance in
     let warmth : (d : ℕ) → d < 25 → at warmths d ≡ mark_warmth season (ahead d)
     = (λ d h. rw m.warmths-are (get_d-tab (λ (d : ℕ). mark_warmth season (ahead d)) 25 d h)) in
     record {
-      season-in = c.requires.season-in;
+      season-in = c.args.checked.in_range;
       large_is = λ d h. c.lines.ensures d h ∙ ap (line_of_warmth season.vp 1) (warmth d h);
       medium-is = λ d h. c.lines-2.ensures d h ∙ ap (line_of_warmth season.vp 2) (warmth d h);
       small_is = λ d h. c.lines-3.ensures d h ∙ ap (line_of_warmth season.vp 4) (warmth d h);

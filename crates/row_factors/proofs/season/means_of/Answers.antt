@@ -2,16 +2,15 @@
 use mathlib.Core.Bool.{true, false}
 use Rattle.std.proofs.Common.{◌∙◌, ap, ℕ, ◌/◌, arith}
 use Rattle.parking.proofs.Weighted.{mean-tab, mean-ext, mean-marks}
-use Rattle.row_factors.proofs.Escaping.{raises-alike, rates-alike, raise-list-fits, rate-list-most, rate-list-fits, rates-in, rises-most}
+use Rattle.row_factors.proofs.Escaping.{raises-alike, rates-alike, rate-list-most, rate-list-fits, rates-in, rises-most}
 use Rattle.row_factors.proofs.season.means_of.Goals as goal
 
 pub returns : goal.returns
 returns c =
-    let p = c.requires.0 in
-    let a = p.marks-are in
+    let a = c.requires.0 in
     record {
       rise-is = c.mean_by_cell.ensures ∙ mean-tab _ _ c.args.grid.now.cells.in_range.length-is c.requires.1;
-      permeation-is = c.permeation_mean.ensures ∙ mean-ext _ (λ cell. ap (λ (x : ℕ). x / 2) (rates-in p.season-in a.rate-is cell));
+      permeation-is = c.permeation_mean.ensures ∙ mean-ext _ (λ cell. ap (λ (x : ℕ). x / 2) (rates-in c.args.checked.in_range a.rate-is cell));
       soak-is = c.mean_by_distance.ensures ∙ mean-marks _ false _ (rates-alike _ 110) a.soak-is;
       run_is = c.mean_by_distance-2.ensures ∙ mean-marks _ true _ (rates-alike _ 150) a.run_is;
       end10-is = c.mean_by_distance-3.ensures ∙ mean-marks _ true _ (raises-alike _ 10) a.raise10-is;
@@ -24,34 +23,13 @@ returns c =
     }
 
 pub mean_by_cell-requires : goal.mean_by_cell-requires
-mean_by_cell-requires c = record { at_most = λ k. omega (arith, (rises-most c.requires.0.season-in c.requires.1).at_most k) }
+mean_by_cell-requires c = record { at_most = λ k. omega (arith, (rises-most c.args.checked.in_range c.requires.1).at_most k) }
 
 pub permeation_mean-requires : goal.permeation_mean-requires
-permeation_mean-requires c = let p = c.requires.0 in rate-list-most p.season-in p.marks-are.rate-is
+permeation_mean-requires c = rate-list-most c.args.checked.in_range c.requires.0.rate-is
 
 pub mean_by_distance-requires : goal.mean_by_distance-requires
-mean_by_distance-requires c = let p = c.requires.0 in rate-list-fits p.season-in 110 (omega arith) p.marks-are.soak-is
+mean_by_distance-requires c = rate-list-fits c.args.checked.in_range 110 (omega arith) c.requires.0.soak-is
 
 pub mean_by_distance-requires-2 : goal.mean_by_distance-requires-2
-mean_by_distance-requires-2 c = let p = c.requires.0 in rate-list-fits p.season-in 150 (omega arith) p.marks-are.run_is
-
-pub mean_by_distance-requires-3 : goal.mean_by_distance-requires-3
-mean_by_distance-requires-3 c = let p = c.requires.0 in raise-list-fits p.season-in 10 (omega arith) p.marks-are.raise10-is
-
-pub mean_by_distance-requires-4 : goal.mean_by_distance-requires-4
-mean_by_distance-requires-4 c = let p = c.requires.0 in raise-list-fits p.season-in 15 (omega arith) p.marks-are.raise15-is
-
-pub mean_by_distance-requires-5 : goal.mean_by_distance-requires-5
-mean_by_distance-requires-5 c = let p = c.requires.0 in raise-list-fits p.season-in 25 (omega arith) p.marks-are.raise25-is
-
-pub mean_by_distance-requires-6 : goal.mean_by_distance-requires-6
-mean_by_distance-requires-6 c = let p = c.requires.0 in raise-list-fits p.season-in 35 (omega arith) p.marks-are.raise35-is
-
-pub mean_by_distance-requires-7 : goal.mean_by_distance-requires-7
-mean_by_distance-requires-7 c = let p = c.requires.0 in raise-list-fits p.season-in 45 (omega arith) p.marks-are.raise45-is
-
-pub mean_by_distance-requires-8 : goal.mean_by_distance-requires-8
-mean_by_distance-requires-8 c = let p = c.requires.0 in raise-list-fits p.season-in 50 (omega arith) p.marks-are.raise50-is
-
-pub mean_by_distance-requires-9 : goal.mean_by_distance-requires-9
-mean_by_distance-requires-9 c = let p = c.requires.0 in raise-list-fits p.season-in 60 (omega arith) p.marks-are.raise60-is
+mean_by_distance-requires-2 c = rate-list-fits c.args.checked.in_range 150 (omega arith) c.requires.0.run_is

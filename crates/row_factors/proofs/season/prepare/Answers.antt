@@ -1,6 +1,5 @@
 -- `row_factors::season::prepare` meets its contract: the marks, the rises, the day and the means are those of its season.
 use Rattle.std.proofs.Common.{refl}
-use Rattle.row_factors.specs.Season.{MarksReady}
 use Rattle.row_factors.proofs.Prepared.{steps-most, rises-are}
 use Rattle.row_factors.proofs.season.prepare.Goals as goal
 
@@ -13,9 +12,7 @@ returns c =
     )
 
 pub rises-rises-requires : goal.rises-rises-requires
-rises-rises-requires c = steps-most c.requires c.at_marks-values.ensures
+rises-rises-requires c = steps-most c.args.checked.in_range c.at_marks-values.ensures
 
 pub means_of-means-requires : goal.means_of-means-requires
-means_of-means-requires c =
-    let ready : MarksReady c.args.season c.at_marks-values.result = record { season-in = c.requires; marks-are = c.at_marks-values.ensures } in
-    (ready, rises-are c.at_marks-values.ensures c.rises-rises.ensures)
+means_of-means-requires c = (c.at_marks-values.ensures, rises-are c.at_marks-values.ensures c.rises-rises.ensures)

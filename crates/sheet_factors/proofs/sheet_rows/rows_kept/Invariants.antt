@@ -7,5 +7,5 @@ use Rattle.sheet_factors.proofs.sheet_rows.rows_kept.Given as goal
 abbrev pub invariant-loop-i : goal.invariant-loop-i
 invariant-loop-i l = record {
   long : length l.out ≡ 1000;
-  each : (k : ℕ) → k < l.i → KeptOf (row_at l.sheet.bytes.now k) (get_or l.out k 0);
+  each : (k : ℕ) → k < l.i → KeptOf (row_at l.sheet.sheet.bytes.now k) (get_or l.out k 0);
 }

@@ -1,16 +1,13 @@
 -- `species_report::composition::species_of` meets its contract: the refusal of the report, or its last word split.
 -- Assumes nothing.
-use mathlib.Core.Path.{◌≡◌, refl}
-use Rattle.std.proofs.Common.{Err, rules}
-use Rattle.refusals.specs.Check.{Answer}
-use Rattle.species_report.specs.declared.composition.Composition.{Composition}
+use mathlib.Core.Path.{refl}
+use Rattle.refusals.proofs.Chain.{handed}
 use Rattle.species_report.proofs.Answered.{refusal_is, head-there, last-there, species-are}
 use Rattle.species_report.proofs.composition.species_of.Goals as goal
 
 pub returns-in_err-report : goal.returns-in_err-report
 returns-in_err-report c =
-    let handed : ◌≡◌ {A = Answer Composition} c.from_residual.result (Err c.in_err-report.field-0.0) = search rules in
-    rw handed (refusal_is c.report.ensures c.in_err-report.was)
+    rw (handed c.from_residual.result _ c.from_residual.ensures) (refusal_is c.report.ensures c.in_err-report.was)
 
 pub rows_of-requires : goal.rows_of-requires
 rows_of-requires c = head-there c.report.ensures c.in_ok-report.was

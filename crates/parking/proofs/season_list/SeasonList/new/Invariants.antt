@@ -2,9 +2,7 @@
 use Rattle.std.proofs.Common.{◌≡◌, length}
 use Rattle.numbers.specs.Lists.{AllAtMost}
 use Rattle.parking.proofs.Counted.{Counted}
-use Rattle.parking.proofs.CountedRises.{counted_rises}
 use Rattle.parking.proofs.season_list.SeasonList.new.Given as goal
 
 abbrev pub invariant-loop-cell : goal.invariant-loop-cell
-invariant-loop-cell l = Counted l.grid.cells.counts (counted_rises l.grid.cells.counts l.rises) l.cell l.entries l.length
-    × AllAtMost 576 l.last × (length l.last ≡ 48)
+invariant-loop-cell l = Counted l.grid.cells.counts l.rises l.cell l.entries l.length × AllAtMost 575 l.last × (length l.last ≡ 48)

@@ -11,27 +11,21 @@ use Rattle.pooling.proofs.PoolBytes.{start, length-is}
 use Rattle.pooling.proofs.PoolAnswers.{region}
 use Rattle.pooling_calls.proofs.pair.Pair.differ.Goals as goal
 
-pub returns-then-seasons_of : goal.returns-then-seasons_of
+pub returns-then-seasons : goal.returns-then-seasons
 unfolding differ
-returns-then-seasons_of c =
+returns-then-seasons c =
     let x = c.args.self.now in
-    rw (ne_eqb (seasons_of x.first.now) (seasons_of x.second.now) (λ e. omega arith)) refl
+    rw (ne_eqb (seasons_of x.first.bytes.now) (seasons_of x.second.bytes.now) (λ e. omega arith)) refl
 
 pub returns : goal.returns
 unfolding differ
 returns c =
-    let a = c.args.self.now.first.now in
+    let a = c.args.self.now.first.bytes.now in
     let r = region _ c.args.self.now.regions.first in
-    rw (eq-eqb (seasons_of a) (seasons_of c.args.self.now.second.now) (omega arith))
+    rw (eq-eqb (seasons_of a) (seasons_of c.args.self.now.second.bytes.now) (omega arith))
     (c.bytes_differ.ensures ∙
-    ap (some_differs a c.args.self.now.second.now) {x = c.row_place.result - 8} {y = shared_bytes (seasons_of a)}
+    ap (some_differs a c.args.self.now.second.bytes.now) {x = c.row_place.result - 8} {y = shared_bytes (seasons_of a)}
     (omega (arith, start r)))
-
-pub seasons_of-requires : goal.seasons_of-requires
-seasons_of-requires c = omega (arith, length-is (region _ c.args.self.now.regions.first))
-
-pub seasons_of-requires-2 : goal.seasons_of-requires-2
-seasons_of-requires-2 c = omega (arith, length-is (region _ c.args.self.now.regions.second))
 
 pub row_place-requires : goal.row_place-requires
 row_place-requires c =

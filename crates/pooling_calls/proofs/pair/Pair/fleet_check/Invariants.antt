@@ -9,6 +9,6 @@ use Rattle.pooling.specs.Late.{fleet_check}
 use Rattle.pooling_calls.proofs.pair.Pair.fleet_check.Given as goal
 
 abbrev pub invariant-loop-i : goal.invariant-loop-i
-invariant-loop-i l = (each (fleet_check l.self.first.now l.self.second.now) l.i ≡ Pass)
-    × (l.vehicles ≡ vehicles_before l.self.first.now (rows_of l.self.first.now) + vehicles_before l.self.second.now l.i)
+invariant-loop-i l = (each (fleet_check l.self.first.bytes.now l.self.second.bytes.now) l.i ≡ Pass)
+    × (l.vehicles ≡ vehicles_before l.self.first.bytes.now (rows_of l.self.first.bytes.now) + vehicles_before l.self.second.bytes.now l.i)
     × (l.vehicles ≤ (1000 + l.i) * 2 ^ 32)

@@ -1,12 +1,9 @@
 -- `pooling_calls::pair::Pair::length` meets its contract.
 -- Assumes nothing.
 use native.Mathlib.Omega.{arith}
-use Rattle.pooling.proofs.PoolBytes.{length-is, length_most, rows-most, pool-long}
+use Rattle.pooling.proofs.PoolBytes.{length_most, rows-most, pool-long}
 use Rattle.pooling.proofs.PoolAnswers.{region}
 use Rattle.pooling_calls.proofs.pair.Pair.length.Goals as goal
-
-pub rows_of-requires : goal.rows_of-requires
-rows_of-requires c = omega (arith, length-is (region _ c.args.self.now.regions.second))
 
 pub overflow_add-result : goal.overflow_add-result
 overflow_add-result c =
@@ -15,4 +12,4 @@ overflow_add-result c =
 
 pub returns : goal.returns
 returns c =
-    omega (arith, pool-long c.args.self.now.first.now (region _ c.args.self.now.regions.second))
+    omega (arith, pool-long c.args.self.now.first.bytes.now (region _ c.args.self.now.regions.second))

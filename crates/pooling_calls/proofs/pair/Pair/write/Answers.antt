@@ -6,24 +6,17 @@ use Prim.Native.Nat.{ℕ, ◌+◌, ◌/◌, ◌%◌, ◌<◌}
 use native.Mathlib.Omega.{arith}
 use lib.ListN.{length, drop}
 use lib.Seq.{sets, length-sets}
-use Rattle.sheet.specs.Bytes.{rows_of, row_place}
+use Rattle.sheet.specs.Bytes.{row_place}
 use Rattle.sheet.proofs.Accepted.{accepted}
-use Rattle.pooling.specs.Pool.{rows_together}
 use Rattle.pooling.proofs.PoolBytes.{start, length-is, rows-most, pool-long}
 use Rattle.pooling.proofs.PoolAnswers.{region}
 use Rattle.pooling.proofs.PoolWritten.{pool-laid}
 use Rattle.pooling_calls.proofs.pair.Pair.write.Goals as goal
 
-pub rows_of-requires : goal.rows_of-requires
-rows_of-requires c = omega (arith, length-is (region _ c.args.self.now.regions.first))
-
-pub rows_of-requires-2 : goal.rows_of-requires-2
-rows_of-requires-2 c = omega (arith, length-is (region _ c.args.self.now.regions.second))
-
 pub overflow_cast-count : goal.overflow_cast-count
 overflow_cast-count c =
     let p = c.args.self.now.regions in
-    record { fits = omega (arith, rows-most (region _ p.first), rows-most (region _ p.second), c.rows_of.ensures.0, c.rows_of-2.ensures.0) }
+    record { fits = omega (arith, rows-most (region _ p.first), rows-most (region _ p.second), c.rows.ensures.0, c.rows-2.ensures.0) }
 
 pub row_place-requires : goal.row_place-requires
 row_place-requires c =
@@ -37,7 +30,7 @@ split_at-requires c =
 
 pub put-requires : goal.put-requires
 put-requires c =
-    omega (arith, pool-long c.args.self.now.first.now (region _ c.args.self.now.regions.second), c.requires)
+    omega (arith, pool-long c.args.self.now.first.bytes.now (region _ c.args.self.now.regions.second), c.requires)
 
 -- the two bytes of the row count
 count-is : {x y n m : ℕ} {bytes : List ℕ} → x ≡ n → y ≡ m → n + m < 65536
@@ -52,7 +45,7 @@ as-long out bytes place e = rw e (length-sets out place bytes)
 
 pub put-requires-2 : goal.put-requires-2
 put-requires-2 c =
-    let a = c.args.self.now.first.now in
+    let a = c.args.self.now.first.bytes.now in
     let two : length c.to_le_bytes.result ≡ 2 = rw c.to_le_bytes.ensures refl in
     let first : length c.put.new.out ≡ length c.args.out.now = as-long c.args.out.now a 0 c.put.ensures in
     omega (
@@ -67,7 +60,7 @@ put-requires-2 c =
 pub put-requires-3 : goal.put-requires-3
 put-requires-3 c =
     let r = region _ c.args.self.now.regions.second in
-    let first : length c.put.new.out ≡ length c.args.out.now = as-long c.args.out.now c.args.self.now.first.now 0 c.put.ensures in
+    let first : length c.put.new.out ≡ length c.args.out.now = as-long c.args.out.now c.args.self.now.first.bytes.now 0 c.put.ensures in
     let second : length c.put-2.new.out ≡ length c.put.new.out = as-long c.put.new.out c.to_le_bytes.result 6 c.put-2.ensures in
     omega (
       arith,
@@ -77,18 +70,18 @@ put-requires-3 c =
       start r,
       c.row_place.ensures,
       c.split_at.ensures.back_len,
-      pool-long c.args.self.now.first.now r,
+      pool-long c.args.self.now.first.bytes.now r,
       c.requires,
     )
 
 pub returns : goal.returns
 returns c =
     let x = c.args.self.now in
-    let a = x.first.now in
-    let b = x.second.now in
+    let a = x.first.bytes.now in
+    let b = x.second.bytes.now in
     let r = region _ x.regions.first in
     let t = region _ x.regions.second in
-    let count = count-is c.rows_of.ensures.0 c.rows_of-2.ensures.0 (omega (arith, rows-most r, rows-most t)) c.to_le_bytes.ensures in
+    let count = count-is c.rows.ensures.0 c.rows-2.ensures.0 (omega (arith, rows-most r, rows-most t)) c.to_le_bytes.ensures in
     let rows : c.split_at.result.1.now ≡ drop (row_place b 0) b = c.split_at.ensures.back ∙ ap (λ (n : ℕ). drop n b) c.row_place.ensures in
     pool-laid a b c.args.out.now (omega (arith, length-is r))
     (omega (arith, length-is t, start t, c.row_place.ensures, c.split_at.ensures.back_len, pool-long a t, c.requires))

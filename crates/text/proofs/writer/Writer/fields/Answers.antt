@@ -1,15 +1,9 @@
 -- `text::writer::Writer::fields` meets its contract: after k turns the fields of the first k words are put.
 -- Assumes nothing.
 use mathlib.Core.Path.{sym}
-use borrow.Author.Rules.{rules}
-use Rattle.text.specs.Lines.{fields}
 use Rattle.text.proofs.LineLaws.{fields-more}
 use Rattle.text.proofs.Putting.{◌and◌, put_same}
 use Rattle.text.proofs.writer.Writer.fields.Goals as goal
-
-pub loop-word-init : goal.loop-word-init
-unfolding fields
-loop-word-init c = search rules
 
 pub loop-word-preserved : goal.loop-word-preserved
 loop-word-preserved c =

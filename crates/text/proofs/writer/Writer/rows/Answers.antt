@@ -1,15 +1,9 @@
 -- `text::writer::Writer::rows` meets its contract: after i turns the lines of the first i rows are put.
 -- Assumes nothing.
-use borrow.Author.Rules.{rules}
 use native.Mathlib.Omega.{arith}
-use Rattle.text.specs.Lines.{row_lines}
 use Rattle.text.proofs.LineLaws.{row-behind}
 use Rattle.text.proofs.Putting.{◌and◌, put_same}
 use Rattle.text.proofs.writer.Writer.rows.Goals as goal
-
-pub loop-i-init : goal.loop-i-init
-unfolding row_lines
-loop-i-init c = search rules
 
 pub loop-i-preserved : goal.loop-i-preserved
 loop-i-preserved c =

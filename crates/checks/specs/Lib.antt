@@ -1,2 +1,0 @@
-pub mod Exponent
-pub mod Passed

@@ -1,8 +1,0 @@
--- `fields::fleet_of` meets its contract: the sum is that of the first i rows.
--- Assumes nothing.
-use mathlib.Core.Path.{◌≡◌}
-use Rattle.sheet.specs.RunningSums.{vehicles_before}
-use Rattle.fields.proofs.fleet_of.Given as goal
-
-abbrev pub invariant-loop-i : goal.invariant-loop-i
-invariant-loop-i l = l.fleet ≡ vehicles_before l.s l.i
