@@ -75,7 +75,7 @@ PROOFS_ALONE = {
 }
 
 # Files that have definitions to believe and definitions of the method.
-MIXED = {"numbers: Lists"}  # plain functions on lists, which no document speaks of
+MIXED: set[str] = set()
 
 MARK = re.compile(r"^-- .*\b(?:[Nn]eeds? not be believed|nothing here has to be believed)\b")
 NO_BELIEF = "need not be believed"  # in the heading of the part of READING on the method

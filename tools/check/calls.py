@@ -20,9 +20,11 @@ from tools.command import TOP, crate_files
 # Crates whose src/lib.rt has the public calls, in Rattle.
 CALLS = (
     "inventory", "checks", "ledger_calls", "shared_ledger_calls", "pooling_calls", "marking", "explanation",
-    "map_cells", "map_rows", "speciation", "species_report", "report_text", "evaporation",
+    "factor_table", "season_report", "map_cells", "map_rows", "speciation", "species_report", "report_text",
+    "evaporation",
 )
-BESIDE = ("map_cells/src/sums.rt",)  # public calls in another file of such a crate
+# public calls in another file of such a crate
+BESIDE = ("map_cells/src/sums.rt", "species_report/src/composition.rt", "factor_table/src/table.rt")
 EXPORTS = ("evaporation", "evaporation_c")  # the crates whose functions C calls, in any of their files
 # Those that answer a sheet, and where its bytes are from; crates/NAME_run has what each does.
 PROGRAMS = {"report": "OneSheet", "species": "OneSheet", "pool": "TwoSheets"}

@@ -53,8 +53,10 @@ NO_FACTS = {
 # what a `rw` leaves of an equation; a case of a `data` type at another value than the goal's; or a test that computes
 # to false.
 FACTS = {
-    "values at which the goal fails": r"`omega`: .* All of that holds, and the goal fails",
-    "two types that differ": r"the two types (first )?differ|expected type `(?:.*but this has type `|[^`]*$)",
+    "values at which the goal fails": r"`omega`: .* All of that holds, and the goal fails|"
+                                      r"the facts known there allow values a",
+    "two types that differ": r"the two types (first differ|differ|are `)|"
+                             r"expected type `(?:.*but this has type `|[^`]*$)",
     "an equation whose ends differ": r"must be a path whose two ends are equal, and `.*` is none",
     "two indices that differ": r"the two indices are `.*` \(the constructor's\) and `.*` \(the expected|"
                                r"lands at index `[^`]*` \(position \d+\) but the expected type",

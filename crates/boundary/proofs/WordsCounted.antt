@@ -6,13 +6,12 @@ use mathlib.Core.Path.{◌≡◌, refl}
 use Prim.Native.Nat.{ℕ, ◌+◌, ◌*◌, ◌≤◌}
 use native.Mathlib.Omega.{arith}
 use borrow.Author.Tests.{le-ltb}
-use lib.ListN.{length}
 use Rattle.refusals.specs.declared.Refusal.{Refusal}
 use Rattle.refusals.specs.Check.{Pass, refuse, ◌then◌}
 use Rattle.sheet.specs.Bytes.{rows_of}
 use Rattle.sheet.specs.Sheet.{sheet_check}
 use Rattle.sheet.proofs.Accepted.{accepted}
-use Rattle.sheet.proofs.Versions.{rows-limit, start_between}
+use Rattle.sheet.proofs.Versions.{rows-limit}
 use Rattle.report_words.specs.Categories.{report_length}
 use Rattle.report_words.proofs.ReportPlaces.{report-length}
 use Rattle.inventory.specs.ReportAnswers.{report_check}
@@ -35,9 +34,6 @@ module _ (s : List ℕ) where
       clash pass = let z : ◌≡◌ {A = ℕ} 0 1 = cc in absurd (omega arith)
 
   module _ (passed : sheet_check s ≡ Pass) where
-    pub head-there : 8 ≤ length s
-    head-there = omega (arith, (accepted s passed).length-is, start_between s)
-
     count-is : 6 * rows_of s + 26 ≡ report_words s
     unfolding report_words words_of report_length
     count-is = rw passed (omega (arith, report-length s))
@@ -51,7 +47,8 @@ module _ (s : List ℕ) where
     least room pass = (report-accepted s room pass).1
 
     -- an accepted one six for each row, and 26
-    pub all-counted : {n : ℕ} → n ≡ rows_of s → WordsCounted s (6 * n + 26)
+    pub all-counted : {n : ℕ} → n ≡ report_length s → WordsCounted s n
+    unfolding report_length
     all-counted e =
         rw e
         (record {

@@ -53,23 +53,15 @@ impl From<Result<Band, Refusal>> for EvpFactor {
     }
 }
 
-// Both cases stand here whole: the bands are turned into words, and beside a refusal there are none to turn.
 impl From<Result<[Band; 7], Refusal>> for EvpRowFactors {
     ghost from_gives = { λ a r. r ≡ row_factors_numbers a };
 
-    #[tactic(auto, unfolding(crate::specs::Bulk::row_factors_numbers))]
     fn from(a: Result<[Band; 7], Refusal>) -> EvpRowFactors {
-        match a {
-            Ok(bands) => EvpRowFactors {
-                number: 0,
-                place: 0,
-                bands: in_words(bands),
-            },
-            Err(refusal) => EvpRowFactors {
-                number: refusal.rule.number(),
-                place: refusal.place,
-                bands: [0; 14],
-            },
+        let EvpCheck { number, place } = told(&a);
+        EvpRowFactors {
+            number,
+            place,
+            bands: a.map_or([0; 14], in_words),
         }
     }
 }

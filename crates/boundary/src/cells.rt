@@ -5,7 +5,8 @@ ghost use Rattle.map_cells.specs.Taken.{Taken};
 ghost use Rattle.map_rows.specs.Rows.{travel_refusal};
 ghost use Rattle.boundary.specs.Cells.{cell_numbers, no_cell, row_numbers, sum_numbers, cell_handed, travel_handed};
 
-use crate::{EvpCell, EvpCellSum, EvpRowCells, EvpTravel};
+use crate::answers::told;
+use crate::{EvpCell, EvpCellSum, EvpCheck, EvpRowCells, EvpTravel};
 use map_cells::{Cell, cell_refusal};
 use map_rows::RowCells;
 use map_shares::Travel;
@@ -45,7 +46,7 @@ impl Default for EvpCell {
     }
 }
 
-// Here and in the sum below both cases stand whole: cells are turned into those of C, and beside a refusal there are none to turn.
+// Both cases stand whole: `map_or`, as in the sum below, would be written three times with the same default, once for each cell.
 impl From<Result<RowCells, Refusal>> for EvpRowCells {
     ghost from_gives = { λ a r. r ≡ row_numbers a };
 
@@ -73,17 +74,11 @@ impl From<Result<Cell, Refusal>> for EvpCellSum {
     ghost from_gives = { λ a r. r ≡ sum_numbers a };
 
     fn from(a: Result<Cell, Refusal>) -> EvpCellSum {
-        match a {
-            Ok(c) => EvpCellSum {
-                number: 0,
-                place: 0,
-                cell: EvpCell::from(c),
-            },
-            Err(refusal) => EvpCellSum {
-                number: refusal.rule.number(),
-                place: refusal.place,
-                cell: EvpCell::default(),
-            },
+        let EvpCheck { number, place } = told(&a);
+        EvpCellSum {
+            number,
+            place,
+            cell: a.map_or(EvpCell::default(), EvpCell::from),
         }
     }
 }
@@ -94,15 +89,13 @@ impl TryFrom<EvpCell> for Cell {
 
     ghost try_from_gives = { λ c r. Taken (λ x. x) cell_refusal (cell_handed c) r };
 
+    #[tactic(auto, unfolding(crate::specs::Cells::cell_handed))]
     fn try_from(c: EvpCell) -> Result<Cell, Refusal> {
         match c.kind {
             0 => Ok(Cell::Empty),
             1 => {
-                if c.low == c.high {
-                    Ok(Cell::Exact(c.low))
-                } else {
-                    Err(cell_refusal())
-                }
+                refuse(c.low != c.high, Rule::Cell, 0)?;
+                Ok(Cell::Exact(c.low))
             }
             2 => Ok(Cell::Band(c.low, c.high)),
             _ => Err(cell_refusal()),

@@ -15,6 +15,7 @@ impl TryFrom<EvpFiled> for Filed {
     ghost try_from_gives = { λ f r.
         MatchResult r (λ x. (unit_handed f.unit ≡ Some x.unit) × (x ≡ figure f.digits f.places x.unit)) (λ _. unit_handed f.unit ≡ None) };
 
+    #[tactic(auto, unfolding(crate::specs::MarkExport::unit_handed))]
     fn try_from(f: EvpFiled) -> Result<Filed, NoUnit> {
         let unit = match f.unit {
             0 => Unit::Milligram,

@@ -61,7 +61,8 @@ fn middle(m: usize) -> u64
     MIDDLE[m]
 }
 
-// E(m / 4096 + p), for d = (m / 4096 + p) * 10^14 below 10^14 / 16
+// E(m / 4096 + p), for d = (m / 4096 + p) * 10^14 below 10^14 / 16. Not one function with `exponential`, which goes the same way: it would
+// take the step, the table and what is made of the rest, three parameters for two lines.
 fn fine(d: u64) -> u64
     requires { d < 6250000000000 }
     ensures { (result ≡ fine d) × (2 ^ 40 ≤ result) × (result < 12 * 10 ^ 11) }

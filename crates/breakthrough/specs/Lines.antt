@@ -7,7 +7,7 @@ use Rattle.exact.specs.declared.Row.{Row}
 use Rattle.factors.specs.Escape.{base, tenth_grams}
 use Rattle.factors.specs.Units.{loss_error, base_at, growth_at, row_start, start_at, gain}
 use Rattle.breakthrough.specs.declared.curve.Curve.{Curve}
-use Rattle.breakthrough.specs.declared.loads.Line.{Line}
+use Rattle.starting_loads.specs.declared.loads.Line.{Line}
 use Rattle.breakthrough.specs.Loads.{LoadReady}
 use Rattle.breakthrough.specs.Through.{curve_at}
 

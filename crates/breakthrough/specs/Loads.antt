@@ -16,4 +16,5 @@ pub record LoadReady (row : Row) (base growth : ℕ) : Type 0 where
   pub saturation-most : row.saturation ≤ 3685
   pub load-most : row.load ≤ row.saturation
   pub canister-there : 0 < halves row.canister
-  pub balanced : first_kilometres ≤ row.mileage → BalanceReady (record { base = base; growth = growth; saturation = tenth_grams row.saturation })
+  pub balanced : first_kilometres ≤ row.mileage
+      → BalanceReady (record { line = record { base = base; growth = growth }; saturation = tenth_grams row.saturation })

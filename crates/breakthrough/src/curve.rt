@@ -6,7 +6,7 @@ use bounds::fixed::mul_shift;
 use bounds::short::{risen, short};
 
 // From units of 2^-36 g to units of 2^-40 g.
-const TWO_4: u64 = 16;
+pub const TWO_4: u64 = 16;
 
 // More than the cuts of an exponent's parts come to.
 const TWO_24: u64 = 16777216;

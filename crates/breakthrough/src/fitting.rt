@@ -7,12 +7,14 @@ ghost use Rattle.breakthrough.specs.Lines.{line_of_warmth, line_at, CurveBy, Fit
 ghost use Rattle.breakthrough.specs.Through.{curve_at};
 ghost use Rattle.numbers.specs.Lists.{at};
 
-use crate::curve::Curve;
+use crate::curve::{Curve, TWO_4};
 use crate::curves::Curves;
-use crate::loads::{Line, LoadedRow, loss_error, start_load, tenth_grams};
+use crate::loads::{LoadedRow, loss_error, start_load, tenth_grams};
 use bounds::fixed::mul_shift;
 use bounds::short::{self, binary};
 use marks::warmths::Warmths;
+use starting_loads::loads::Line;
+use std::array;
 
 // a at -30 °C and a vapour pressure of 0; what it gains with each unit of warmth; and what it loses with each tenth of a kPa.
 const BASE: u64 = 305000000000000;
@@ -26,22 +28,8 @@ const GROWTH: u64 = 11200000000000;
 
 const GROWTH_BY_PRESSURE: u64 = 1500000000;
 
-// From units of 2^-36 g to units of 2^-40 g, and from units of 2^-45 to units of 2^-36.
-const TWO_4: u64 = 16;
-
+// From units of 2^-45 to units of 2^-36.
 const TWO_9: u64 = 512;
-
-// Where an array of lines or of curves begins.
-const NO_LINE: Line = Line { base: 0, growth: 0 };
-
-const NO_CURVE: Curve = Curve {
-    exponent: 0,
-    last: 0,
-    reach: 0,
-    room: 0,
-    first: 0,
-    gain: 0,
-};
 
 // a and 2 b s at a temperature, for 2 s = times.
 #[tactic(auto, unfolding(crate::specs::Lines::line_of_warmth, factors::specs::Escape::base))]
@@ -55,16 +43,12 @@ fn line_of_warmth(warmth: u64, vp: u64, times: u64) -> Line
     }
 }
 
-// The same at each distance from 14:00.
+// The same at each distance from 14:00. The pressure is a number with its limit, and no season: a's and b's line takes nothing else of one.
 pub fn lines(warmths: &Warmths, vp: u64, times: u64) -> [Line; 25]
     requires { (vp ≤ vp_limit) × (times ≤ 4) }
     ensures { (d : ℕ) → d < 25 → line_at result d ≡ line_of_warmth vp times (at warmths.now.by_distance d) }
 {
-    let mut lines = [NO_LINE; 25];
-    for d in 0..25 {
-        lines[d] = line_of_warmth(warmths.by_distance[d], vp, times);
-    }
-    lines
+    array::from_fn(|d| line_of_warmth(warmths.by_distance[d], vp, times))
 }
 
 // A row's canister at one temperature, with so much vapour in its tank for a rise of 1.
@@ -93,9 +77,7 @@ pub fn fit(lines: &[Line; 25], row: LoadedRow, vapour: u64) -> Curves
         (row_start row.row (line_at lines.now d).base (line_at lines.now d).growth)
         (tenth_grams row.row.saturation) vapour (loss_error row.row) (curve_at result.by_distance d) }
 {
-    let mut by_distance = [NO_CURVE; 25];
-    for d in 0..25 {
-        by_distance[d] = curve_of(lines[d], row, vapour);
+    Curves {
+        by_distance: array::from_fn(|d| curve_of(lines[d], row, vapour)),
     }
-    Curves { by_distance }
 }

@@ -8,7 +8,7 @@ ghost use Rattle.breakthrough.specs.Loads.{KeptOf, LoadReady};
 use bounds::exp::ONE;
 use exact::Row;
 use fields::classes::halves;
-use starting_loads::loads::{Balance, start};
+use starting_loads::loads::{Balance, Line, start};
 use starting_loads::mileage::net;
 use thresholds::Mileage;
 
@@ -20,20 +20,14 @@ const WRITTEN_ERROR: u64 = 93010;
 
 const DRIVEN_ERROR: u64 = 192570;
 
-// A row, and what its canister keeps of its load: the mileage alone says it, no season changes it. It is a number and no Option, since a
-// `SheetRows` has it for 1,000 rows: an Option would take 16 bytes of each, 8,000 bytes more than the stack has left.
+// A row, and what its canister keeps of its load: the mileage alone says it, no season changes it. It is a number and no Option, and is 0 where
+// nothing is kept: a `SheetRows` has it for 1,000 rows, for which Options would take 8,000 bytes of stack more, and of what c/stack.c allows a
+// call fewer than 4,000 are left.
 #[derive(Clone, Copy)]
 pub struct LoadedRow {
     pub row: Row,
     pub kept: u64,
     ghost kept_of: { KeptOf row kept },
-}
-
-// a + 16 and 2 b s of a canister at one temperature, in units of 2^-44.
-#[derive(Clone, Copy)]
-pub struct Line {
-    pub base: u64,
-    pub growth: u64,
 }
 
 // Tenths of a gram in units of 2^-40 g, cut.
@@ -84,10 +78,6 @@ pub fn start_load(loaded: LoadedRow, line: Line) -> u64
     if row.mileage < FIRST_KILOMETRES {
         return tenth_grams(row.load);
     }
-    let balance = Balance {
-        base: line.base,
-        growth: line.growth,
-        saturation: tenth_grams(row.saturation),
-    };
-    start(balance, loaded.kept)
+    let saturation = tenth_grams(row.saturation);
+    start(Balance { line, saturation }, loaded.kept)
 }

@@ -8,12 +8,9 @@ use crate::curve::through;
 use crate::curves::Curves;
 use marks::warmths::Raises;
 use parking::cells::Moment;
-use parking::grid::Grid;
+use parking::grid::{CUT, Grid};
 use parking::season_list::SeasonList;
 use std::array;
-
-// From units of 2^-40 g to units of 2^-28 g.
-const CUT: u64 = 4096;
 
 // Of the rise in the parkings of the list: each entry in units of 2^-28 g, as often as it counts, summed.
 pub fn through_list(list: &SeasonList, c: &Curves) -> u64
@@ -21,8 +18,7 @@ pub fn through_list(list: &SeasonList, c: &Curves) -> u64
     ensures { result ≡ by_entry list.now (λ (start : ℕ) (rise : ℕ). through (curve_at c.now.by_distance start) rise / 2 ^ 12) }
 {
     let mut sum: u64 = 0;
-    for k in 0..list.length {
-        let entry = list.entries[k];
+    for entry in &list.entries[..list.length] {
         let curve = c.by_distance[entry.kind.start];
         sum += entry.count * (through(curve, entry.kind.rise) / CUT);
     }

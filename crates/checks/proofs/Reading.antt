@@ -2,11 +2,11 @@
 -- Assumes nothing.
 use Rattle.std.proofs.Common.{List, ◌≡◌, ℕ, ◌+◌, ◌*◌, ◌<◌, ◌≤◌, length}
 use Rattle.refusals.specs.Check.{Pass}
+use Rattle.refusals.proofs.Chain.{not_applied}
 use Rattle.sheet.specs.Versions.{seasons_start}
 use Rattle.sheet.specs.Bytes.{seasons_of, rows_of, row_at}
 use Rattle.sheet.specs.Sheet.{mark_check, head_check, length_check, sheet_check}
 use Rattle.sheet.proofs.Places.{head_there, length_is, parking-there, grid-there, rows_fit}
-use Rattle.sheet.proofs.Checks.{refuse-pass}
 use Rattle.sheet.proofs.Conditions.{mark-judged, head-judged, length-judged}
 use Rattle.sheet.proofs.Accepted.{accepted}
 
@@ -30,4 +30,4 @@ pub length_passed : (s : List ℕ) → length_check s ≡ Pass → length s ≡ 
 length_passed s h = (length-judged s).passes h
 
 -- for `using` on the checks one after another
-pub ruleset shown = (mark_passed, head_passed, length_passed, refuse-pass)
+pub ruleset shown = (mark_passed, head_passed, length_passed, not_applied)

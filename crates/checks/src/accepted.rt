@@ -10,7 +10,8 @@ use exact::Row;
 use fields::range::CheckedSeason;
 use refusals::Refusal;
 
-// The bytes of a sheet that passes every check.
+// The bytes of a sheet that passes every check. A call names a season and a row by their numbers, so the methods take numbers and require
+// that the sheet has them: j < seasons_of and i < rows_of.
 #[derive(Clone, Copy)]
 pub struct Accepted<'a> {
     pub bytes: &'a [u8],

@@ -94,15 +94,10 @@ impl Demand {
     }
 
     // In some season.
-    #[tactic(auto, unfolding(sheet::specs::Sheet::some_season))]
     pub fn is_above_in_some(self, m: u64, seasons: PassedSeasons) -> bool
         ensures { let s = seasons.entry.sheet.now in
             result ≡ some_season (saturation_above self.limit self.canister m) s (seasons_of s) }
     {
-        let mut above = false;
-        for j in 0..seasons.count() {
-            above = above | self.is_above(m, seasons.season(j));
-        }
-        above
+        (0..seasons.count()).any(|j| self.is_above(m, seasons.season(j)))
     }
 }

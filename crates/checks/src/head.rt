@@ -1,5 +1,5 @@
-// Head and length: numbers 1 to 7. What reads the head asks for the 8 bytes that number 1 shows to be there: a type for them would be no
-// plainer.
+// Head and length: numbers 1 to 7. What reads the head after number 1 requires its 8 bytes. The functions of the crate fields take the sheet
+// as a slice and require the same, so a type for a sheet with a head would be taken apart at each call of them.
 ghost use Rattle.std.specs.Prelude.{◌≡◌, ◌≤◌, length};
 ghost use Rattle.sheet.specs.Sheet.{letters_missing, mark_check, numbers_check, head_check, length_check};
 

@@ -9,7 +9,7 @@ use fields::{CELLS, COUNTS, DURATIONS_START, GRID_START, HOURS_START, counts_tot
 use refusals::{Check, Rule, refuse};
 
 // The sum of the grid is 1 to 1,000,000; in a sheet that has none that of each list is 1 to 1,000.
-// The crate explanation looks at the same sums for other words on each: one function for both would be no plainer than the two.
+// The crate explanation makes the same choice, for other words on each sum: one function for both would take each branch as a closure.
 #[tactic(auto, using(refusals::proofs::Chain::chained, crate::proofs::GridOrLists::parking))]
 pub fn parking_check(s: &[u8]) -> Check
     requires { seasons_start s.now ≤ length s.now }

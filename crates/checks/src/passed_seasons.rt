@@ -5,7 +5,8 @@ ghost use Rattle.sheet.specs.Range.{SeasonInRange};
 
 use fields::range::CheckedSeason;
 
-// The bytes of a sheet whose seasons are there, and each is in range.
+// The bytes of a sheet whose seasons are there, and each is in range. Accepted has the same two methods, proved from what it knows: a trait
+// for them would be no plainer, since every function takes one of the two types only.
 #[derive(Clone, Copy)]
 pub struct PassedSeasons<'a> {
     pub sheet: &'a [u8],

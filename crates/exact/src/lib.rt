@@ -16,7 +16,8 @@ pub struct Fitted {
     pub tank: u64,
 }
 
-// One season.
+// One season. Its numbers are u64, as the factors calculated from them are. Where a sheet is read, `season_at` of the crate fields promises
+// that the days and the temperatures have 16 bits. A u16 would be converted in each formula, and be no plainer.
 #[derive(Clone, Copy)]
 pub struct Season {
     pub days: u64,

@@ -9,11 +9,9 @@ use Rattle.numbers.specs.Lists.{at}
 use Rattle.refusals.specs.Check.{Check, Pass, number_of}
 use Rattle.sheet.specs.Bytes.{seasons_of, rows_of}
 use Rattle.sheet.specs.Sheet.{outside, sheet_check}
-use Rattle.sheet.proofs.Checks.{says}
 use Rattle.sheet.proofs.Accepted.{Bytes}
 use Rattle.inventory.specs.ReportCall.{written}
-use Rattle.refusals.proofs.Numbers.{zero-passes}
-use Rattle.inventory.proofs.CallConditions.{factor-there, room-judged, room-passed}
+use Rattle.inventory.proofs.CallConditions.{factor-there, room-says, room-accepted}
 use Rattle.inventory.proofs.Written.{written-first}
 use Rattle.factor_table.specs.RowFactors.{row_bands, band_at, band_words, low_place, high_place, row_check}
 use Rattle.factor_table.specs.Factors.{factors_length, all_factors, factors_check, row_start, FactorsCall}
@@ -42,7 +40,7 @@ unfolding factors_check
 factors-answer {s} {old} {words} {r} bytes e w = record {
   answer-is = e;
   words_are = w;
-  says = rw e (says (factors_check s (length old)) (room-judged factors_length s (length old)));
+  says = room-says factors_length s (length old) e;
   bands = λ zero season row k there here least most.
       let (low, high, passed) = pair zero season row k there here least most in
       rw (low, high) (band-holds s season row bytes k least most passed);
@@ -56,10 +54,8 @@ factors-answer {s} {old} {words} {r} bytes e w = record {
         × (at words (row_start s season row + high_place k) ≡ (band_at (row_bands s season row) k).high)
         × (row_check s season row ≡ Pass)
     pair zero season row k there here least most =
-        let passed : factors_check s (length old) ≡ Pass =
-        zero-passes (factors_check s (length old)) (rw e at zero) in
-        let all : words ≡ written Pass (all_factors s) old = rw (e ∙ passed) at w in (
+        let (passed, all) = room-accepted factors_length s (all_factors s) old e w zero in (
           word_at s old words season row (low_place k) all there here (omega arith) ∙ low-word s season row k,
           word_at s old words season row (high_place k) all there here (omega arith) ∙ high-word s season row k,
-          row-passes s season row (room-passed factors_length s (length old) passed).0 there here,
+          row-passes s season row passed there here,
         )

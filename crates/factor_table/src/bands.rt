@@ -4,7 +4,8 @@ ghost use Rattle.factor_table.specs.RowFactors.{in_words};
 
 use inventory::Band;
 
-// Each low before its high.
+// Each low before its high. All 14 are written out: `as_flattened` of seven pairs gives a slice, where C's answer holds an array, and
+// `array::from_fn` would choose low or high by the parity of the place.
 pub fn in_words(bands: [Band; 7]) -> [u64; 14]
     ensures { result ≡ in_words bands }
 {

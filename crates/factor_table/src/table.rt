@@ -33,6 +33,7 @@ fn season_factors(loaded: &SheetRows, j: usize, words: &mut [u64])
 }
 
 // All seasons of an accepted sheet, each into its part of a buffer with room for them. The grid and what the rows' canisters keep are made once.
+// season_report's `write_seasons` has the same steps: a method of `SheetRows` for both would repeat `fill_blocks`' four clauses to call it.
 fn all_factors(sheet: Accepted, words: &mut [u64])
     requires { factors_length sheet.bytes.now ≤ length words.old }
     ensures { words.new ≡ written Pass (all_factors sheet.entry.bytes.now) words.old }

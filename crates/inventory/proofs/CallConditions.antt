@@ -4,25 +4,29 @@
 use Rattle.std.proofs.Common.{Err, get_or, Fits, w8}
 use mathlib.Core.Bool.{true, false, ◌||◌}
 use mathlib.Core.List.{List}
-use mathlib.Core.Path.{◌≡◌, refl}
+use mathlib.Core.Path.{◌≡◌, refl, sym, ◌∙◌}
 use Prim.Native.Nat.{ℕ, ◌≤◌, ◌<◌}
 use native.Mathlib.Omega.{arith}
 use borrow.Author.Tests.{leb-true, leb-false, lt-leb}
 use lib.Dec.{leb}
+use lib.ListN.{length}
 use Rattle.std.proofs.Math.Bool.{or-true}
 use Rattle.refusals.specs.declared.Refusal.{Refusal}
 use Rattle.refusals.specs.declared.Rule.TheVariants as rule
-use Rattle.refusals.specs.Check.{Pass, refuse, ◌then◌, number_of, place_of}
+use Rattle.refusals.specs.Check.{Check, Pass, refuse, ◌then◌, number_of, place_of}
+use Rattle.refusals.proofs.Chain.{applied, not_applied}
+use Rattle.refusals.proofs.Numbers.{zero-passes}
 use Rattle.sheet.specs.Bytes.{seasons_of, rows_of}
 use Rattle.sheet.specs.Sheet.{outside, sheet_check}
 use Rattle.sheet.proofs.Checks.{Tests, Judges, judges-refuse, judges-then, ltb-tests, ||-tests, then-pass, says}
 use Rattle.sheet.proofs.Conditions.{sheet-judged}
 use Rattle.sheet.specs.Demands.{demand, ◌next◌, Says, demands}
 use Rattle.sheet.proofs.Accepted.{Bytes, Accepted, accepted}
+use Rattle.inventory.specs.declared.asked.AskedRow.{AskedRow}
 use Rattle.inventory.specs.FactorAnswers.{absent, factor_check}
 use Rattle.inventory.specs.FactorBand.{factor_demands}
 use Rattle.report_words.specs.Categories.{report_length}
-use Rattle.inventory.specs.ReportCall.{report_demands}
+use Rattle.inventory.specs.ReportCall.{report_demands, written}
 use Rattle.inventory.specs.ReportAnswers.{room_check, report_check}
 
 -- what a slice of bytes holds
@@ -42,6 +46,22 @@ room-judged needed s room = judges-then (sheet-judged s) (judges-refuse (ltb-tes
 pub room-passed : (needed : List ℕ → ℕ) (s : List ℕ) (room : ℕ) → room_check needed s room ≡ Pass → (sheet_check s ≡ Pass) × (needed s ≤ room)
 room-passed needed s room h = ((then-pass _ _ h).0, ((room-judged needed s room).passes h).1)
 
+-- and so many words of it fit, where `sheet_with_room` gives the sheet of these bytes
+pub has-room : (needed : List ℕ → ℕ) {s bytes : List ℕ} {room : ℕ} → (bytes ≡ s) × (room_check needed s room ≡ Pass) → needed bytes ≤ room
+has-room needed {s} {bytes} {room} (same, passed) = rw same (room-passed needed s room passed).1
+
+-- such a call says which demand is the first that is not met
+pub room-says : (needed : List ℕ → ℕ) (s : List ℕ) (room : ℕ) {r : Check} → r ≡ room_check needed s room
+    → Says (demands s next demand rule.Room 0 (needed s ≤ room)) (number_of r) (place_of r)
+room-says needed s room e = rw e (says (room_check needed s room) (room-judged needed s room))
+
+-- and where it is accepted, the sheet is, and the new words stand in the buffer
+pub room-accepted : (needed : List ℕ → ℕ) (s new old : List ℕ) {r : Check} {words : List ℕ} → r ≡ room_check needed s (length old)
+    → words ≡ written r new old → number_of r ≡ 0 → (sheet_check s ≡ Pass) × (words ≡ written Pass new old)
+room-accepted needed s new old {r} e w zero =
+    let passed = zero-passes r zero in
+    ((room-passed needed s (length old) (sym e ∙ passed)).0, rw passed at w)
+
 -- of the report call
 pub report-judged : (s : List ℕ) (room : ℕ) → Judges (report_check s room) (report_demands s room)
 unfolding report_check
@@ -53,9 +73,6 @@ unfolding factor_check outside
 factor-judged s season row k =
     judges-then (sheet-judged s)
     (judges-refuse (||-tests (||-tests (leb-tests (seasons_of s) season) (leb-tests (rows_of s) row)) (||-tests (ltb-tests k 1) (ltb-tests 7 k))))
-
-pub report-says : (s : List ℕ) (room : ℕ) → Says (report_demands s room) (number_of (report_check s room)) (place_of (report_check s room))
-report-says s room = says (report_check s room) (report-judged s room)
 
 pub factor-says : (s : List ℕ) (season row k : ℕ)
     → Says (factor_demands s season row k) (number_of (factor_check s season row k)) (place_of (factor_check s season row k))
@@ -84,21 +101,37 @@ unfolding factor_check ◌then◌
 sheet-refused s season row k r h = rw h refl
 
 -- the season or the row is not there
-pub row-absent : (s : List ℕ) (season row k : ℕ) → sheet_check s ≡ Pass → (leb (seasons_of s) season || leb (rows_of s) row) ≡ true
-    → factor_check s season row k ≡ Err absent
+pub row-absent : (s : List ℕ) (season row k : ℕ) (r : Refusal) → sheet_check s ≡ Pass
+    → refuse (leb (seasons_of s) season || leb (rows_of s) row) rule.Absent 0 ≡ Err r → factor_check s season row k ≡ Err r
 unfolding factor_check refuse ◌then◌
-row-absent s season row k h b = rw (h, b) refl
+row-absent s season row k r h e =
+    let (b, is) = applied (leb (seasons_of s) season || leb (rows_of s) row) rule.Absent 0 refl e in
+    rw (h, b, is) refl
 
--- the factor is not there
-pub factor-absent : (s : List ℕ) (season row k : ℕ) → sheet_check s ≡ Pass → outside 1 7 k ≡ true → factor_check s season row k ≡ Err absent
-unfolding factor_check refuse ◌then◌
-factor-absent s season row k h b = rw (h, b, or-true) refl
+-- or both are there
+pub row-there : (s : List ℕ) (season row : ℕ) → refuse (leb (seasons_of s) season || leb (rows_of s) row) rule.Absent 0 ≡ Pass
+    → (season < seasons_of s) × (row < rows_of s)
+row-there s season row e =
+    let b = not_applied (leb (seasons_of s) season || leb (rows_of s) row) rule.Absent 0 refl e in
+    (||-tests (leb-tests (seasons_of s) season) (leb-tests (rows_of s) row)).holds b
 
 -- and where it does not
 pub factor-there : (s : List ℕ) (season row k : ℕ) → sheet_check s ≡ Pass → season < seasons_of s → row < rows_of s → outside 1 7 k ≡ false
     → factor_check s season row k ≡ Pass
 unfolding factor_check refuse ◌then◌
 factor-there s season row k h there here b = rw (h, lt-leb (seasons_of s) season there, lt-leb (rows_of s) row here, b) refl
+
+-- Of a row that is asked for, a factor is there or not.
+module _ (asked : AskedRow) {s : List ℕ} {season row : ℕ} (same : (asked.sheet.bytes.now ≡ s) × (asked.season ≡ season) × (asked.row ≡ row))
+    (k : ℕ) where
+  pub asked-there : outside 1 7 k ≡ false → factor_check s season row k ≡ Pass
+  asked-there b =
+      factor-there s season row k (rw same.0 at asked.sheet.passed) (rw (same.0, same.1) at asked.season_there)
+      (rw (same.0, same.2) at asked.row_there) b
+
+  pub asked-absent : outside 1 7 k ≡ true → factor_check s season row k ≡ Err absent
+  unfolding factor_check refuse ◌then◌
+  asked-absent b = rw (rw same.0 at asked.sheet.passed, b, or-true) refl
 
 -- every check of the sheet comes first
 pub factor-sheet : (s : List ℕ) (season row k : ℕ) → factor_check s season row k ≡ Pass → sheet_check s ≡ Pass
@@ -110,4 +143,4 @@ unfolding report_check
 report-sheet s room h = (room-passed report_length s room h).0
 
 -- for `using` on the function that asks for a row
-pub ruleset asking = (sheet-refused, row-absent)
+pub ruleset asking = (sheet-refused, row-absent, row-there)

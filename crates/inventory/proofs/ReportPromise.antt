@@ -8,7 +8,6 @@ use lib.ListN.{length, drop}
 use Rattle.numbers.proofs.Lists.{tab-at}
 use Rattle.refusals.specs.Check.{Check, Pass}
 use Rattle.sheet.specs.Bytes.{rows_of}
-use Rattle.sheet.proofs.Checks.{then-pass}
 use Rattle.sheet.proofs.Accepted.{Bytes, accepted}
 use Rattle.report_words.specs.Report.{report}
 use Rattle.report_words.specs.Categories.{report_length}
@@ -17,24 +16,22 @@ use Rattle.report_words.proofs.ReportPlaces.{report-length}
 use Rattle.report_words.proofs.Promised.{promise}
 use Rattle.inventory.specs.ReportCall.{written, ReportCall}
 use Rattle.inventory.specs.ReportAnswers.{report_check}
-use Rattle.inventory.proofs.CallConditions.{report-says}
-use Rattle.refusals.proofs.Numbers.{zero-passes}
+use Rattle.inventory.proofs.CallConditions.{room-says, room-accepted}
 use Rattle.inventory.proofs.Written.{written-first}
 
 -- What holds after the call.
 pub report-answer : {s old words : List ℕ} {r : Check} → Bytes s → r ≡ report_check s (length old)
     → words ≡ written r (report s) old → ReportCall s old words r
 unfolding report_check report_length
-report-answer {s} {old} {words} {r} bytes e w =
+report-answer {s} {old} bytes e w =
     record {
       answer-is = e;
       words_are = w;
-      says = rw e (report-says s (length old));
+      says = room-says report_length s (length old) e;
       promise = λ zero.
-          let passed : report_check s (length old) ≡ Pass =
-          zero-passes (report_check s (length old)) (rw e at zero) in
-          promise bytes (accepted s (then-pass _ _ passed).0)
-          (record { word = λ k l. rw (w, e, passed) (written-first (report s) old k (omega (arith, report-length s))) });
+          let (passed, all) = room-accepted report_length s (report s) old e w zero in
+          promise bytes (accepted s passed)
+          (record { word = λ k l. rw all (written-first (report s) old k (omega (arith, report-length s))) });
     }
 
 -- words replaced by those of the report

@@ -8,15 +8,9 @@ ghost use Rattle.inventory.specs.FactorAnswers.{absent, band, factor_check, fact
 
 use crate::Band;
 use checks::accepted::Accepted;
-use refusals::{Refusal, Rule};
+use refusals::{Refusal, Rule, refuse};
 use row_factors::units::Units;
 use sheet_factors::factors_at::factors_at;
-
-// Why a call is refused that asks for a season, a row or a factor that is not there.
-const ABSENT: Refusal = Refusal {
-    rule: Rule::Absent,
-    place: 0,
-};
 
 // The seven factors, under the numbers by which a call asks for them.
 #[derive(Clone, Copy, Debug, PartialEq, Eq)]
@@ -59,7 +53,10 @@ impl TryFrom<u64> for Factor {
             5 => Ok(Factor::RunningInjection),
             6 => Ok(Factor::RunningWarm),
             7 => Ok(Factor::RunningHot),
-            _ => Err(ABSENT),
+            _ => Err(Refusal {
+                rule: Rule::Absent,
+                place: 0,
+            }),
         }
     }
 }
@@ -82,9 +79,8 @@ impl<'a> AskedRow<'a> {
             (λ refusal. (k : ℕ) → factor_check s.now season row k ≡ Err refusal) }
     {
         let sheet = Accepted::of(s)?;
-        if (sheet.seasons() as u64 <= season) | (sheet.rows() as u64 <= row) {
-            return Err(ABSENT);
-        }
+        let absent = (sheet.seasons() as u64 <= season) | (sheet.rows() as u64 <= row);
+        refuse(absent, Rule::Absent, 0)?;
         Ok(AskedRow {
             sheet,
             season: season as usize,

@@ -16,6 +16,8 @@ pub fn report_length(sheet: Accepted) -> usize
 }
 
 // The sheet, where every check of it passes and there is room for so many words of it; else why the call that stores them is refused.
+// `report`, `factors` of factor_table and `report_seasons` of season_report share this. Each counts its words and writes them by functions of
+// its own, and takes sheet and words as two arguments, as C's calls do.
 #[tactic(auto, using(refusals::proofs::Chain::chained))]
 pub fn sheet_with_room<'a, F: FnOnce(Accepted<'a>) -> usize>(
     s: &'a [u8],

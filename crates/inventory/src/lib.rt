@@ -18,7 +18,7 @@ pub mod asked;
 pub mod check;
 pub mod writing;
 
-// A factor's low and high, in micrograms.
+// A factor's low and high, in micrograms. The `Band` of the crate marking is in milligrams, and neither may stand for the other.
 #[derive(Clone, Copy, Debug, PartialEq, Eq)]
 pub struct Band {
     pub low: u64,

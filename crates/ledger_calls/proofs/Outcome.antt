@@ -14,13 +14,14 @@ use Rattle.exact.specs.Factors.{total}
 use Rattle.refusals.specs.declared.Rule.TheVariants as rule
 use Rattle.refusals.specs.declared.Refusal.{Refusal}
 use Rattle.refusals.specs.Check.{Check, Pass, refuse}
+use Rattle.refusals.proofs.Chain.{not_applied}
 use Rattle.sheet.specs.Limits.{vehicles_limit}
 use Rattle.sheet.specs.Versions.{has_many_rows}
 use Rattle.sheet.specs.Bytes.{rows_of, row_at}
 use Rattle.sheet.specs.Counts.{counts_of, with_count}
 use Rattle.sheet.specs.Sheet.{sheet_check}
 use Rattle.sheet.proofs.Accepted.{accepted}
-use Rattle.sheet.proofs.Checks.{then-pass, refuse-pass}
+use Rattle.sheet.proofs.Checks.{then-pass}
 use Rattle.report_words.specs.Categories.{report_length}
 use Rattle.inventory.specs.ReportAnswers.{report_check}
 use Rattle.inventory.proofs.CallConditions.{report-sheet, report-accepted}
@@ -94,7 +95,7 @@ module _ (s w : List ℕ) (call : Call) where
   unfolding change_check
   call-passes h =
       let (opens, right) = then-pass _ _ h in
-      (opens, refuse-pass _ rule.Count 0 right)
+      (opens, not_applied _ rule.Count 0 refl right)
 
   -- and done
   pub right-call : {after words : List ℕ} → report_check s (length w) ≡ Pass → wrong (has_many_rows s) (counts_of s) call ≡ false

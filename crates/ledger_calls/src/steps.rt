@@ -54,8 +54,8 @@ fn count_after(sheet: Accepted, call: Call) -> u64
     }
 }
 
-// Row i gets v vehicles: the four bytes of its count, the lowest first. The row's bytes are asked for, since an accepted sheet lends its bytes
-// to be read alone.
+// Row i gets v vehicles: the four bytes of its count, the lowest first. That the row is there is required of plain bytes, since those of an
+// `Accepted` are behind a shared reference, through which nothing is written.
 fn set_vehicles(s: &mut [u8], i: usize, v: u32)
     requires { row_place s.old i + 24 ≤ length s.old }
     ensures { s.new ≡ with_count s.old i v }

@@ -6,9 +6,9 @@ ghost use Rattle.map_cells.specs.Doubles.{mass_limit, whole_of};
 ghost use Rattle.map_cells.specs.Sums.{cell_refusal};
 ghost use Rattle.map_cells.specs.Taken.{Taken};
 
+use crate::Cell;
 use crate::doubles::WholeMass;
-use crate::{Cell, cell_refusal};
-use refusals::Refusal;
+use refusals::{Refusal, Rule, refuse};
 
 // Two doubles that are a low and a high mass, in this order.
 #[derive(Clone, Copy)]
@@ -50,11 +50,8 @@ fn exact_masses(m: f64) -> Result<Masses, Refusal>
     ensures { Taken (λ v. (v.low, v.high)) cell_refusal (exact_masses (whole_of m)) result }
 {
     let n = WholeMass::try_from(m)?.milligrams;
-    if 0 < n {
-        Ok(Masses { low: n, high: n })
-    } else {
-        Err(cell_refusal())
-    }
+    refuse(n == 0, Rule::Cell, 0)?;
+    Ok(Masses { low: n, high: n })
 }
 
 // A low and a high: the low is below the high.
@@ -63,11 +60,8 @@ fn band_masses(l: f64, h: f64) -> Result<Masses, Refusal>
 {
     let low = WholeMass::try_from(l)?.milligrams;
     let high = WholeMass::try_from(h)?.milligrams;
-    if low < high {
-        Ok(Masses { low, high })
-    } else {
-        Err(cell_refusal())
-    }
+    refuse(high <= low, Rule::Cell, 0)?;
+    Ok(Masses { low, high })
 }
 
 // A cell handed in, taken apart: its low and high, where it is one of the three kinds.

@@ -14,7 +14,8 @@ fn crossed(mileage: u64, speed: u64) -> u64
     mileage * speed
 }
 
-// The time on rural roads, times both speeds. This and the next are two functions, since the definition names both times.
+// The time on rural roads, times both speeds. This and the next are two functions: one with the road as a
+// parameter would choose both factors by it, and be no plainer.
 fn rural_time(t: CheckedTravel) -> u64
     ensures { (result ≡ rural_time t.travel) × (result ≤ 10 ^ 12) }
 {

@@ -2,7 +2,8 @@
 #![tactic(auto)]
 
 ghost use Rattle.std.specs.Prelude.{◌≡◌, ℕ, ◌+◌, ◌*◌, ◌-◌, ◌%◌, ◌^◌, ◌<◌, ◌≤◌};
-ghost use Rattle.numbers.specs.Lists.{tab, at, AllAtMost};
+ghost use Rattle.numbers.specs.Lists.{tab, at};
+ghost use Rattle.numbers.specs.Bounded.{AllAtMost};
 ghost use Rattle.bounds.specs.Weights.{apart};
 ghost use Rattle.sheet.specs.Limits.{vp_limit};
 ghost use Rattle.sheet.specs.Range.{warmth_limit, mark_warmth};
@@ -27,8 +28,19 @@ pub struct Marks {
     pub exponential: [u64; 48],
 }
 
-// What is computed from the temperatures of a season. Each raise keeps a name of its own: cars and two-wheelers read different ones, and
-// an array by an enum would name them no better.
+// The rises of E(0.0716 T) that a canister meets, when T is raised by so many tenths of a degree, by distance from 14:00, in units of 2^-40.
+// Each keeps a name of its own: cars and two-wheelers read different ones, and an array by an enum would name them no better.
+#[derive(Clone, Copy)]
+pub struct CanisterRaises {
+    pub raise10: Raises,
+    pub raise15: Raises,
+    pub raise25: Raises,
+    pub raise35: Raises,
+    pub raise45: Raises,
+    pub raise60: Raises,
+}
+
+// What is computed from the temperatures of a season.
 #[derive(Clone, Copy)]
 pub struct MarkValues {
     pub marks: Marks,
@@ -41,14 +53,10 @@ pub struct MarkValues {
     // The same by distance from 14:00, at T + 11 for the hot soak, and at T + 15 for running.
     pub soak: [u64; 25],
     pub run: [u64; 25],
-    // The rise of E(0.0716 T) when T is raised by so many tenths of a degree, by distance from 14:00, in units of 2^-40.
-    pub raise10: Raises,
-    pub raise15: Raises,
-    pub raise25: Raises,
-    pub raise35: Raises,
-    pub raise45: Raises,
+    // The rises of E(0.0716 T) that a canister meets.
+    pub raises: CanisterRaises,
+    // The rise by 5 °C, of a car's hot trip. No canister meets it: a car with one loses no vapour on a trip.
     pub raise50: Raises,
-    pub raise60: Raises,
 }
 
 // A tenth of a degree, in units of 10^-10 °C.
@@ -127,12 +135,14 @@ pub fn at_marks(checked: CheckedSeason) -> MarkValues
         rate: by_mark(&hourly),
         soak: warmths.rates(pressure, 110 * TENTH),
         run: warmths.rates(pressure, 150 * TENTH),
-        raise10: warmths.raises(&heats, 10 * TENTH),
-        raise15: warmths.raises(&heats, 15 * TENTH),
-        raise25: warmths.raises(&heats, 25 * TENTH),
-        raise35: warmths.raises(&heats, 35 * TENTH),
-        raise45: warmths.raises(&heats, 45 * TENTH),
+        raises: CanisterRaises {
+            raise10: warmths.raises(&heats, 10 * TENTH),
+            raise15: warmths.raises(&heats, 15 * TENTH),
+            raise25: warmths.raises(&heats, 25 * TENTH),
+            raise35: warmths.raises(&heats, 35 * TENTH),
+            raise45: warmths.raises(&heats, 45 * TENTH),
+            raise60: warmths.raises(&heats, 60 * TENTH),
+        },
         raise50: warmths.raises(&heats, 50 * TENTH),
-        raise60: warmths.raises(&heats, 60 * TENTH),
     }
 }

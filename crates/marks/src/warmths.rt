@@ -1,6 +1,7 @@
 // The temperatures of a day by distance from 14:00: marks as far from it have one temperature, so that a day has 25.
 ghost use Rattle.std.specs.Prelude.{◌≡◌, ℕ, ◌+◌, ◌*◌, ◌-◌, ◌/◌, ◌^◌, ◌<◌, ◌≤◌};
-ghost use Rattle.numbers.specs.Lists.{tab, at, AllAtMost};
+ghost use Rattle.numbers.specs.Lists.{tab, at};
+ghost use Rattle.numbers.specs.Bounded.{AllAtMost};
 ghost use Rattle.bounds.specs.Ahead.{ahead};
 ghost use Rattle.marks.specs.Marks.{heat, raised_error, bracket_units};
 
@@ -24,7 +25,8 @@ pub struct Heats {
     ghost moderate: { AllAtMost (56 * 2 ^ 40) by_distance },
 }
 
-// The rise of E(0.0716 T) at each of them when T is raised, in units of 2^-40.
+// The rise of E(0.0716 T) at each of them when T is raised, in units of 2^-40. A type of its own, though it has the shape of
+// `Heats`: where a rise is asked for, an exponential is refused.
 #[derive(Clone, Copy)]
 pub struct Raises {
     pub by_distance: [u64; 25],

@@ -1,13 +1,11 @@
 // One vehicle's loss on one day, in units of 10^-12 g: shares in percent, trips in hundredths, factors in micrograms.
 ghost use Rattle.std.specs.Prelude.{◌≡◌, ◌*◌, ◌^◌, ◌<◌, ◌≤◌};
-ghost use Rattle.row_factors.specs.Season.{RowReady};
 ghost use Rattle.row_factors.specs.Units.{trip_limit};
 ghost use Rattle.masses.specs.Figures.{blended};
 ghost use Rattle.masses.specs.Use.{UseInRange};
-ghost use Rattle.masses.specs.Day.{MicrogramsInRange, three_figures, six_figures, day_figures};
+ghost use Rattle.masses.specs.Day.{MicrogramsInRange, three_figures, six_figures};
 
 use breakthrough::loads::LoadedRow;
-use row_factors::rows::SeasonRows;
 use row_factors::units::Units;
 use std::array;
 
@@ -18,7 +16,8 @@ pub struct UsedRow {
     pub ghost in_range: { UseInRange loaded.row },
 }
 
-// A figure of each mechanism.
+// A figure of each mechanism, for one vehicle on one day. The crate map_shares has a generic type of these names: one type for both would stand
+// in a crate below both, and the only one, `numbers`, has no code.
 #[derive(Clone, Copy)]
 pub struct Mechanisms {
     pub diurnal: u64,
@@ -77,13 +76,5 @@ impl UsedRow {
             low.running,
             high.running,
         ]
-    }
-
-    // In a season: what one of its vehicles loses on one day.
-    pub fn day_figures(&self, season: &SeasonRows) -> [u64; 6]
-        requires { RowReady season.now.grid.now.cells.counts season.now.list.now season.now.at.season self.now.loaded.row }
-        ensures { result ≡ day_figures season.now.grid.now.cells.counts season.now.at.season self.now.loaded.row }
-    {
-        self.six_figures(&season.units(self.loaded))
     }
 }

@@ -13,7 +13,8 @@ use Rattle.std.specs.List.{range_with_len, sum_by}
 use Rattle.std.proofs.lemmas.List.{get_or-append-add, get_or_default, get_or_past, get_or-take, length-take-le}
 use Rattle.std.proofs.lemmas.List.FromFn.{length-map-range_with_len, get_or-map-range_with_len, map-range_with_len_more, fill_by_all}
 use Rattle.std.proofs.lemmas.List.Sums.{sum_by_push, sum_by-le}
-use Rattle.numbers.specs.Lists.{tab, sum, at, AllAtMost}
+use Rattle.numbers.specs.Lists.{tab, sum, at}
+use Rattle.numbers.specs.Bounded.{AllAtMost}
 
 -- f 0, f 1, .. f (n − 1) is std's list of f over a range
 tab-is : (f : ℕ → ℕ) (n : ℕ) → tab f n ≡ map f (range_with_len 0 n)

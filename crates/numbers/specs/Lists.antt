@@ -1,5 +1,5 @@
 -- Lists that a loop fills and sums that it adds up. Definitions only.
-use Rattle.std.specs.Prelude.{List, [], ◌∷◌, ◌++◌, ℕ, suc, zero, ◌+◌, ◌≤◌, get_or}
+use Rattle.std.specs.Prelude.{List, [], ◌∷◌, ◌++◌, ℕ, suc, zero, ◌+◌, get_or}
 
 -- f 0, f 1, .. f (n − 1)
 unfoldable pub tab : (ℕ → ℕ) → ℕ → List ℕ
@@ -14,7 +14,3 @@ sum f (suc n) = sum f n + f n
 -- what stands at a place of a list, and 0 past its end
 abbrev pub at : List ℕ → ℕ → ℕ
 at xs k = get_or xs k 0
-
--- every entry is at most a bound
-pub record AllAtMost (bound : ℕ) (xs : List ℕ) : Type 0 where
-  pub at_most : (k : ℕ) → at xs k ≤ bound

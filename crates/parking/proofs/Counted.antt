@@ -10,7 +10,8 @@ use native.Mathlib.Nat.{add-mul}
 use native.Mathlib.Omega.{arith}
 use lib.ListN.{length, set, replicate, length-set, length-replicate}
 use lib.Seq.{get_or-set_same, get_or-set_other}
-use Rattle.numbers.specs.Lists.{at, sum, AllAtMost}
+use Rattle.numbers.specs.Lists.{at, sum}
+use Rattle.numbers.specs.Bounded.{AllAtMost}
 use Rattle.numbers.proofs.Lists.{sum-none, sum_more, sum-ext}
 use Rattle.exact.specs.Factors.{total}
 use Rattle.parking.specs.Grid.{CellsInRange, apart_of}

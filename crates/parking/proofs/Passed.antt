@@ -5,7 +5,8 @@ use Prim.Native.Nat.{ℕ, zero, suc, ◌+◌, ◌*◌, ◌≤◌}
 use native.Mathlib.Numerals.{add-one}
 use native.Mathlib.Nat.{mul-le-mul_right}
 use native.Mathlib.Omega.{arith}
-use Rattle.numbers.specs.Lists.{tab, at, AllAtMost}
+use Rattle.numbers.specs.Lists.{tab, at}
+use Rattle.numbers.specs.Bounded.{AllAtMost}
 use Rattle.numbers.proofs.Lists.{get_d-tab}
 use Rattle.exact.specs.Day.{start_mark}
 use Rattle.exact.specs.Factors.{end_hour, duration}

@@ -1,6 +1,7 @@
 -- Need not be believed: the list of a season's parkings that the program adds up for a row with a canister.
 use Rattle.std.specs.Prelude.{false, List, ◌≡◌, ◌⊎◌, ℕ, ◌*◌, ◌^◌, ◌≤◌, ◌<◌, get_or}
-use Rattle.numbers.specs.Lists.{at, sum, AllAtMost}
+use Rattle.numbers.specs.Lists.{at, sum}
+use Rattle.numbers.specs.Bounded.{AllAtMost}
 use Rattle.parking.specs.Grid.{apart_of}
 use Rattle.parking.specs.declared.season_list.Entry.{Entry}
 use Rattle.parking.specs.declared.season_list.Kind.{Kind}

@@ -1,6 +1,6 @@
 // The cells of the grid, end hour 1 first, its 24 durations in a row: what they hold, and at which marks their parkings start and end.
 // They are one flat array since a sheet has them in this order.
-ghost use Rattle.std.specs.Prelude.{◌≡◌, ◌^◌, ◌<◌, ◌≤◌, length};
+ghost use Rattle.std.specs.Prelude.{◌≡◌, ◌^◌, ◌<◌, ◌≤◌};
 ghost use Rattle.exact.specs.Day.{start_mark};
 ghost use Rattle.exact.specs.Factors.{total, products};
 ghost use Rattle.parking.specs.Grid.{CellsInRange, mark_of, is_end, apart_of, tally};
@@ -16,7 +16,7 @@ pub enum Moment {
 
 // The products of two lists of counts.
 pub fn products(durations: [u64; 24], hours: [u64; 24]) -> [u64; 576]
-    requires { (length durations ≡ 24) × (length hours ≡ 24) × (total durations ≤ 1000) × (total hours ≤ 1000) }
+    requires { (total durations ≤ 1000) × (total hours ≤ 1000) }
     ensures { result ≡ products durations hours }
 {
     let mut out = [0u64; 576];

@@ -2,7 +2,8 @@
 // of the counts. Weighted means over it are in units of 2^-28 g: of values by cell, and of values that depend on the temperature of one
 // moment, which stand by that moment's distance from 14:00.
 ghost use Rattle.std.specs.Prelude.{false, true, ◌≡◌, ℕ, ◌*◌, ◌/◌, ◌^◌, ◌<◌};
-ghost use Rattle.numbers.specs.Lists.{at, sum, AllAtMost};
+ghost use Rattle.numbers.specs.Lists.{at, sum};
+ghost use Rattle.numbers.specs.Bounded.{AllAtMost};
 ghost use Rattle.exact.specs.Factors.{total};
 ghost use Rattle.factors.specs.Means.{mean_units};
 ghost use Rattle.parking.specs.Grid.{is_end, apart_of, tally};
@@ -10,7 +11,7 @@ ghost use Rattle.parking.specs.Grid.{is_end, apart_of, tally};
 use crate::cells::{Cells, Moment};
 
 // From units of 2^-40 g, the values', to units of 2^-28 g.
-const CUT: u64 = 4096;
+pub const CUT: u64 = 4096;
 
 #[derive(Clone, Copy)]
 pub struct Grid {
@@ -29,8 +30,8 @@ fn weighted<const N: usize>(counts: &[u64; N], values: &[u64; N]) -> u64
     ensures { result ≡ sum (λ (k : ℕ). at counts.now k * (at values.now k / 2 ^ 12)) N }
 {
     let mut sum: u64 = 0;
-    for k in 0..N {
-        sum += counts[k] * (values[k] / CUT);
+    for (&count, &value) in counts.iter().zip(values) {
+        sum += count * (value / CUT);
     }
     sum
 }

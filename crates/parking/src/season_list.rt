@@ -21,7 +21,8 @@ pub struct Entry {
     pub count: u64,
 }
 
-// The entries of a season, of which the first `length` count.
+// The entries of a season, of which the first `length` count. An array with room for every cell: nothing here takes from the heap, and std, the
+// one library that the crates use, has no vector of fixed room.
 #[derive(Clone, Copy)]
 pub struct SeasonList {
     pub entries: [Entry; 576],

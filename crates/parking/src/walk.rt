@@ -1,7 +1,8 @@
 // What passes in each parking, end hour by end hour: a half-hour further back adds its mark's value to what is carried along, so that
 // an end hour takes 24 steps for its 24 parkings.
 ghost use Rattle.std.specs.Prelude.{◌≡◌, ℕ, ◌+◌, ◌*◌, ◌-◌, ◌^◌, ◌<◌, ◌≤◌, length};
-ghost use Rattle.numbers.specs.Lists.{tab, AllAtMost};
+ghost use Rattle.numbers.specs.Lists.{tab};
+ghost use Rattle.numbers.specs.Bounded.{AllAtMost};
 ghost use Rattle.marks.specs.Marks.{rise_error};
 ghost use Rattle.parking.specs.Grid.{passed_in};
 ghost use Rattle.parking.specs.Walk.{steps_most, steps_back, walked};
@@ -35,7 +36,8 @@ fn step_back(before: Carried, value: u64) -> Carried
     }
 }
 
-// What passed in each of the 24 parkings that end at an hour, the shortest first; and how many steps that took.
+// What passed in each of the 24 parkings that end at an hour, the shortest first; and how many steps that took. The bound on the values is
+// asked for here and twice below: they are rises once and rates once, so that no one type has it.
 fn column(values: &[u64; 48], hour: usize, out: &mut [u64]) -> u64
     requires { AllAtMost (2 ^ 50) values.now × (hour ≤ 24) × (length out.old ≡ 24) }
     ensures { (out.new ≡ steps_back values.now hour 0 0 24) × (result ≡ steps_most) }
@@ -59,7 +61,8 @@ pub struct Walked {
     pub steps: u64,
 }
 
-// The end hours in turn, each from nothing.
+// The end hours in turn, each from nothing. The columns are slices cut by hand: std doesn't say what a slice holds after `chunks_exact_mut` or
+// `as_chunks_mut`, and the closure of `fill_blocks` returns nothing, so that the steps could not be summed.
 pub fn walk(values: &[u64; 48]) -> Walked
     requires { AllAtMost (2 ^ 50) values.now }
     ensures { (result.passed ≡ walked values.now 24) × (result.steps ≡ 24 * steps_most) }

@@ -23,7 +23,7 @@ fn region_check(s: &[u8]) -> Check
     check_sheet(s)
 }
 
-// The first of the three that refuses.
+// The first of the three that refuses. Both sheets are slices here, as C hands them in, and a `Pair` where each has passed.
 pub fn pool_answer(a: &[u8], b: &[u8], room: usize) -> Result<(), PoolRefusal>
     ensures { result ≡ pool_answer a.now b.now room }
 {

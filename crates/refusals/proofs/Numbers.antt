@@ -1,11 +1,10 @@
 -- The numbers of the conditions are their places in the declaration, from 1 on, and none is 0.
 -- Assumes nothing.
-use Rattle.std.proofs.Common.{◌≡◌, ℕ, ◌+◌, ◌<◌, refl, ap, arith, Ok, Err}
+use Rattle.std.proofs.Common.{◌≡◌, ◌+◌, ◌<◌, refl, arith, Ok, Err}
 use Rattle.refusals.specs.declared.Rule.{Rule}
 use Rattle.refusals.specs.declared.Rule.TheVariants as rule
-use Rattle.refusals.specs.declared.Refusal.{Refusal}
 use Rattle.refusals.specs.Rule.{number}
-use Rattle.refusals.specs.Check.{Check, Pass, Refused, number_of}
+use Rattle.refusals.specs.Check.{Check, Pass, number_of}
 use Rattle.refusals.specs.contracts.Rule.{the_type}
 use denote.Enum.Declared.{tag_of}
 
@@ -47,12 +46,6 @@ number-is rule.Differ = refl
 -- no rule has the number 0, which stands for an accepted sheet
 pub number-above : (r : Rule) → 0 < number r
 number-above r = let e = number-is r in omega (arith, e)
-
--- two refusals that are one have one rule and one place
-pub refused-same : (r r' : Rule) (p p' : ℕ) → Refused r p ≡ Refused r' p' → (r ≡ r') × (p ≡ p')
-refused-same r r' p p' h =
-    let e : ◌≡◌ {A = Refusal} (record { rule = r; place = p }) (record { rule = r'; place = p' }) = cc in
-    (ap (λ (x : Refusal). x.rule) e, ap (λ (x : Refusal). x.place) e)
 
 -- an answer with the number 0 has passed
 pub zero-passes : (c : Check) → number_of c ≡ 0 → c ≡ Pass

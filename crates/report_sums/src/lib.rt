@@ -1,7 +1,7 @@
 // The words of a report after those of the rows: sums by category, and the grand total.
 #![tactic(auto)]
 
-ghost use Rattle.std.specs.Prelude.{◌≡◌, ◌+◌, ◌*◌, ◌/◌, ◌%◌, ◌^◌, ◌<◌, ◌≤◌, length};
+ghost use Rattle.std.specs.Prelude.{◌≡◌, ◌+◌, ◌*◌, ◌/◌, ◌%◌, ◌^◌, ◌<◌, ◌≤◌, [], ◌∷◌, length};
 ghost use Rattle.numbers.specs.Lists.{tab};
 ghost use Rattle.sheet.specs.Bytes.{rows_of};
 ghost use Rattle.report_words.specs.Categories.{category};
@@ -42,9 +42,9 @@ fn belongs(c: Category, class: u64) -> bool
     ensures { result ≡ category (number c) class }
 {
     match c {
-        Category::Cars => (1 <= class) & (class <= 3),
+        Category::Cars => (1..=3).contains(&class),
         Category::LightDuty => class == 4,
-        Category::TwoWheelers => (5 <= class) & (class <= 9),
+        Category::TwoWheelers => (5..=9).contains(&class),
         Category::AllRows => true,
     }
 }
@@ -74,17 +74,21 @@ fn subtotals(sheet: Accepted, rows: &[u64], sums: &mut [u64])
     }
 }
 
-// The sum of three of the six words for all rows, which stand two apart: of their lows from 0 on, of their highs from 1 on.
+// The grand total of the six words for all rows: the sum of their three lows, and that of their three highs.
 #[tactic(auto, unfolding(crate::specs::Sums::three_word))]
-fn sum_of_three(all: &[u64], j: usize) -> u64
-    requires { (length all.now ≡ 6) × (j < 2) }
-    ensures { result ≡ three_word all.now j }
+fn grand_total(all: &[u64]) -> [u64; 2]
+    requires { length all.now ≡ 6 }
+    ensures { result ≡ three_word all.now 0 ∷ three_word all.now 1 ∷ [] }
 {
-    all[j].wrapping_add(all[j + 2]).wrapping_add(all[j + 4])
+    [
+        all[0].wrapping_add(all[2]).wrapping_add(all[4]),
+        all[1].wrapping_add(all[3]).wrapping_add(all[5]),
+    ]
 }
 
 // All 26 words after the rows, of the words that the rows have in the buffer: those of the categories, of which the last six are for all
 // rows, and the low and the high of the grand total, each the sum of three of these.
+// Four contracts relate a sheet to its words: one struct of both would be no plainer, as the line at `write_rows` of report_words shows.
 pub fn write_sums(sheet: Accepted, words: &mut [u64])
     requires { 6 * rows_of sheet.bytes.now + 26 ≤ length words.old }
     ensures { words.new ≡ resummed sheet.entry.bytes.now words.old }
@@ -92,7 +96,7 @@ pub fn write_sums(sheet: Accepted, words: &mut [u64])
     let (rows, sums) = words.split_at_mut(ROW_WORDS * sheet.rows());
     let (categories, totals) = sums.split_at_mut(24);
     subtotals(sheet, rows, categories);
-    let all = &categories[18..];
-    totals[0] = sum_of_three(all, 0);
-    totals[1] = sum_of_three(all, 1);
+    let [low, high] = grand_total(&categories[18..]);
+    totals[0] = low;
+    totals[1] = high;
 }

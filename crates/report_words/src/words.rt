@@ -16,9 +16,10 @@ const MILLIGRAM: u64 = 1000000000;
 // How many words a row has, and a category.
 pub const ROW_WORDS: usize = 6;
 
-// A year's figure of one vehicle, for all vehicles, in milligrams, with what is to be added before it is cut.
+// A year's figure of one vehicle, for all vehicles, in milligrams, with what is to be added before it is cut. The limit of the vehicles stands
+// in three contracts: a type of a count would be made of it for each row, and opened here.
 pub fn milligrams(year: u64, vehicles: u64, added: u64) -> u64
-    requires { (year < 2 ^ 64) × (vehicles ≤ vehicles_limit) × (added < 10 ^ 9) }
+    requires { (vehicles ≤ vehicles_limit) × (added < 10 ^ 9) }
     ensures { result ≡ (year * vehicles + added) / 10 ^ 9 }
 {
     mul_add_div(year, vehicles, added, MILLIGRAM)
@@ -34,6 +35,8 @@ pub fn row_word(figure: u64, vehicles: u64, k: usize) -> u64
 }
 
 // A row's six figures of one vehicle become those of its vehicles in milligrams, whatever figures they are: a low is cut down, a high up.
+// Six words are a slice and no array, since `fill_blocks` and `each_row` hand out parts of a size that is known only when they run. So each
+// contract on such a part says that it has six words.
 pub fn six_words(six: &mut [u64], vehicles: u64)
     requires { (length six.old ≡ 6) × (vehicles ≤ vehicles_limit) }
     ensures { six.new ≡ tab (for_vehicles six.old vehicles) 6 }
@@ -55,8 +58,8 @@ pub fn row_words(sheet: Accepted, words: &mut [u64])
     fill_blocks(words, ROW_WORDS, sheet.rows(), of_row);
 }
 
-// The words of the rows of an accepted sheet, in a buffer with room for them. Sheet and words aren't one struct: the room is all that is
-// known of the two, the words are lent anew at each step, and three contracts each say the room in one clause.
+// The words of the rows of an accepted sheet, in a buffer with room for them. One struct of sheet and words, with the room as its fact, would
+// be no plainer: each step that changes its words would have to promise that its sheet stays, in place of asking for the room.
 pub fn write_rows(sheet: Accepted, words: &mut [u64])
     requires { 6 * rows_of sheet.bytes.now ≤ length words.old }
     ensures { words.new ≡ filled (report_word sheet.entry.bytes.now) (6 * rows_of sheet.entry.bytes.now) words.old }

@@ -20,6 +20,7 @@ pub fn clear(words: &mut [u64], n: usize)
 }
 
 // Six figures of a day, for so many days, are added to six words.
+// By the place and not by `zip`: once a loop over `iter_mut().zip(figures)` has ended, a proof knows the length of the slice and not its words.
 pub fn add_days(six: &mut [u64], days: u64, figures: [u64; 6])
     requires { (length six.old ≡ 6) × SumsFit six.old days figures }
     ensures { six.new ≡ tab (days_added six.old days figures) 6 }

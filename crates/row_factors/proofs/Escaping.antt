@@ -8,7 +8,8 @@ use Prim.Native.Nat.{ℕ, ◌+◌, ◌*◌, ◌/◌, ◌^◌, ◌≤◌, ◌<◌
 use native.Mathlib.Omega.{arith}
 use native.Mathlib.Nat.{le_of_lt}
 use lib.ListN.{length}
-use Rattle.numbers.specs.Lists.{tab, at, AllAtMost}
+use Rattle.numbers.specs.Lists.{tab, at}
+use Rattle.numbers.specs.Bounded.{AllAtMost}
 use Rattle.numbers.proofs.Lists.{get_d-tab, tab-at-most, tab-ext}
 use Rattle.exact.specs.declared.Canister.{Canister}
 use Rattle.exact.specs.declared.Canister.TheVariants.{Small, Medium, Large}
@@ -16,7 +17,7 @@ use Rattle.exact.specs.declared.Season.{Season}
 use Rattle.exact.specs.declared.Row.{Row}
 use Rattle.exact.specs.Factors.{total, end_hour, duration}
 use Rattle.marks.specs.Marks.{raise, rate, tenths}
-use Rattle.marks.specs.AtMarks.{raises_by, rates_at}
+use Rattle.marks.specs.AtMarks.{raises_by, day_raises, rates_at}
 use Rattle.marks.proofs.Permeation.{rate-most}
 use Rattle.marks.proofs.Curve.{season-rise-most}
 use Rattle.sheet.proofs.Temperature.{warmth-most, warmth-alike}
@@ -38,7 +39,7 @@ use Rattle.parking.proofs.Passed.{passed_in-tab}
 use Rattle.parking.proofs.Tally.{mark_of-below, apart_of-below}
 use Rattle.parking.proofs.Weighted.{mean-ext, mean-below, cell-mean}
 use Rattle.breakthrough.specs.declared.curve.Curve.{Curve}
-use Rattle.breakthrough.specs.declared.loads.Line.{Line}
+use Rattle.starting_loads.specs.declared.loads.Line.{Line}
 use Rattle.breakthrough.specs.Lines.{line_of_warmth, line_at, FitReady, bases_of, growths_of, CurveBy, CurvesOf}
 use Rattle.breakthrough.specs.Through.{curve_at, through, raise_through}
 use Rattle.breakthrough.proofs.Fitted.{fit-ready, curve-of, through-is, through-none, through-alike}
@@ -47,7 +48,7 @@ use Rattle.row_factors.specs.declared.season.Day.{Day}
 use Rattle.row_factors.specs.declared.escapes.Kind.{Kind}
 use Rattle.row_factors.specs.declared.escapes.Kind.TheVariants.{Car, TwoWheeler}
 use Rattle.row_factors.specs.declared.escapes.Escapes.{Escapes}
-use Rattle.row_factors.specs.Season.{mean_at, rises_of, lines_in, day_raises, LinesOf, DayReady, SeasonReady, RowReady}
+use Rattle.row_factors.specs.Season.{mean_at, rises_of, lines_in, LinesOf, DayReady, SeasonReady, RowReady}
 use Rattle.row_factors.specs.Seven.{soak_raise, hotsoak_raise, trip_raise, hottrip_raise, RisesOf, VapourOf, RisesInRange}
 use Rattle.row_factors.specs.Seven.{parking_through, parking_escape, trip_escape, EscapesOf}
 

@@ -4,7 +4,8 @@ use mathlib.Core.List.{List}
 use mathlib.Core.Path.{◌≡◌, ◌∙◌, ap}
 use Prim.Native.Nat.{ℕ, ◌-◌, ◌^◌}
 use native.Mathlib.Omega.{arith}
-use Rattle.numbers.specs.Lists.{tab, AllAtMost}
+use Rattle.numbers.specs.Lists.{tab}
+use Rattle.numbers.specs.Bounded.{AllAtMost}
 use Rattle.numbers.proofs.Lists.{tab-ext, tab-at-most}
 use Rattle.exact.specs.declared.Season.{Season}
 use Rattle.marks.specs.declared.MarkValues.{MarkValues}

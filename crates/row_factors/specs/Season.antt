@@ -7,12 +7,12 @@ use Rattle.exact.specs.declared.Canister.TheVariants.{Small, Medium, Large}
 use Rattle.exact.specs.declared.Season.{Season}
 use Rattle.exact.specs.declared.Row.{Row}
 use Rattle.sheet.specs.Range.{SeasonInRange, RowInRange, mark_warmth, halves}
-use Rattle.marks.specs.AtMarks.{MarksOf, raises_by, rates_at}
+use Rattle.marks.specs.AtMarks.{MarksOf, CanisterRaisesOf, raises_by, rates_at}
 use Rattle.factors.specs.Means.{mean_units}
 use Rattle.factors.specs.Units.{start_of, end_of, parking_rise, parking_rates}
 use Rattle.parking.specs.declared.season_list.SeasonList.{SeasonList}
 use Rattle.parking.specs.SeasonList.{ListReady}
-use Rattle.breakthrough.specs.declared.loads.Line.{Line}
+use Rattle.starting_loads.specs.declared.loads.Line.{Line}
 use Rattle.breakthrough.specs.Lines.{line_of_warmth, line_at}
 use Rattle.row_factors.specs.declared.season.Means.{Means}
 use Rattle.row_factors.specs.declared.season.AtSeason.{AtSeason}
@@ -40,9 +40,6 @@ abbrev pub rises_of : Season → List ℕ
 rises_of season = tab (parking_rise season) 576
 
 -- Its day: what its rows read at its 25 temperatures, by distance from 14:00.
--- the rises of E under a raise
-abbrev pub day_raises : Season → ℕ → List ℕ
-day_raises season k = tab (λ (d : ℕ). raises_by season k (ahead d)) 25
 
 -- a and 2·b·s of a canister with 2·s = times
 abbrev pub LinesOf : Season → ℕ → List Line → Type 0
@@ -53,12 +50,7 @@ pub record DayReady (season : Season) (day : Day) : Type 0 where
   pub large_is : LinesOf season 1 day.large
   pub medium-is : LinesOf season 2 day.medium
   pub small_is : LinesOf season 4 day.small
-  pub raise10-is : day.raise10.by_distance ≡ day_raises season 10
-  pub raise15-is : day.raise15.by_distance ≡ day_raises season 15
-  pub raise25-is : day.raise25.by_distance ≡ day_raises season 25
-  pub raise35-is : day.raise35.by_distance ≡ day_raises season 35
-  pub raise45-is : day.raise45.by_distance ≡ day_raises season 45
-  pub raise60-is : day.raise60.by_distance ≡ day_raises season 60
+  pub raises-are : CanisterRaisesOf season day.raises
 
 -- those of a canister; without one there are none, and nothing asks for them
 unfoldable pub lines_in : Day → Option Canister → List Line

@@ -13,10 +13,11 @@ use bounds::exp::{ZERO, exponential};
 use bounds::fixed::mul_shift;
 use breakthrough::curves::Curves;
 use breakthrough::fitting::fit;
-use breakthrough::loads::{Line, LoadedRow};
+use breakthrough::loads::LoadedRow;
 use breakthrough::losses::{through_list, through_raises};
 use exact::{Canister, Row};
 use parking::cells::Moment;
+use starting_loads::loads::Line;
 
 // The guidebook gives cars and two-wheelers different raises, and a car with canister loses no vapour on a trip.
 #[derive(Clone, Copy)]
@@ -135,22 +136,22 @@ impl SeasonRows<'_> {
         ensures { EscapesOf self.now.at.season row.row self.now.grid.now.cells.counts kind result }
     {
         let c = self.fitted(row);
-        let day = &self.at.day;
+        let raises = &self.at.day.raises;
         let parking = self.parking_through(&c);
         match kind {
             Kind::Car => Escapes {
                 parking,
-                soak: through_raises(self.grid, Moment::Start, &day.raise45, &c),
-                hotsoak: through_raises(self.grid, Moment::Start, &day.raise60, &c),
+                soak: through_raises(self.grid, Moment::Start, &raises.raise45, &c),
+                hotsoak: through_raises(self.grid, Moment::Start, &raises.raise60, &c),
                 trip: 0,
                 hottrip: 0,
             },
             Kind::TwoWheeler => Escapes {
                 parking,
-                soak: through_raises(self.grid, Moment::Start, &day.raise15, &c),
-                hotsoak: through_raises(self.grid, Moment::Start, &day.raise35, &c),
-                trip: through_raises(self.grid, Moment::End, &day.raise10, &c),
-                hottrip: through_raises(self.grid, Moment::End, &day.raise25, &c),
+                soak: through_raises(self.grid, Moment::Start, &raises.raise15, &c),
+                hotsoak: through_raises(self.grid, Moment::Start, &raises.raise35, &c),
+                trip: through_raises(self.grid, Moment::End, &raises.raise10, &c),
+                hottrip: through_raises(self.grid, Moment::End, &raises.raise25, &c),
             },
         }
     }

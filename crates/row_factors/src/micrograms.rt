@@ -17,7 +17,7 @@ fn micrograms(units: u64) -> u64
 }
 
 impl Units {
-    // The factor at a place, cut down.
+    // The factor at a place, cut down. A place and no enum, since what asks for them goes through all seven by it.
     #[tactic(auto, using(crate::proofs::Range::units_fit), unfolding(factors::specs::Units::low_micrograms))]
     pub fn low(&self, place: usize) -> u64
         requires { place < 7 }

@@ -1,20 +1,19 @@
 // What a season gives to every row: its day, the rises of its parkings, and the means that no row changes.
 ghost use Rattle.std.specs.Prelude.{◌≡◌, ℕ, ◌/◌, ◌^◌};
-ghost use Rattle.numbers.specs.Lists.{AllAtMost};
+ghost use Rattle.numbers.specs.Bounded.{AllAtMost};
 ghost use Rattle.marks.specs.AtMarks.{AtMarks};
 ghost use Rattle.factors.specs.Means.{mean_units};
 ghost use Rattle.parking.specs.Grid.{passed_in};
 ghost use Rattle.row_factors.specs.Season.{MeansOf, rises_of, DayReady, SeasonReady};
 
 use breakthrough::fitting::lines;
-use breakthrough::loads::Line;
 use exact::Season;
 use fields::range::CheckedSeason;
-use marks::warmths::Raises;
-use marks::{MarkValues, Marks, at_marks};
+use marks::{CanisterRaises, MarkValues, Marks, at_marks};
 use parking::cells::Moment;
 use parking::grid::Grid;
 use parking::walk::{rises, walk};
+use starting_loads::loads::Line;
 use std::array;
 
 // Means over the cells, in units of 2^-28. Each has a name of its own, since a car and a two-wheeler read different ones.
@@ -36,26 +35,21 @@ pub struct Means {
     pub start60: u64,
 }
 
-// What the rows of a season read at its 25 temperatures, by distance from 14:00. The raises have names, as the means have.
+// What the rows of a season read at its 25 temperatures, by distance from 14:00.
 #[derive(Clone, Copy)]
 pub struct Day {
     // a and 2 b s of a large, a medium and a small canister.
     pub large: [Line; 25],
     pub medium: [Line; 25],
     pub small: [Line; 25],
-    // The rise of E(0.0716 T) when T is raised by so many tenths of a degree.
-    pub raise10: Raises,
-    pub raise15: Raises,
-    pub raise25: Raises,
-    pub raise35: Raises,
-    pub raise45: Raises,
-    pub raise60: Raises,
+    pub raises: CanisterRaises,
 }
 
 // A season as the functions of its rows have it: its 48 temperatures with their exponential bounds, and what is derived from them.
 #[derive(Clone, Copy)]
 pub struct AtSeason {
     pub season: Season,
+    // No row reads them. Document 01 names this form: two arrays by value, made once a season and passed to the functions of a factor.
     pub marks: Marks,
     pub day: Day,
     pub means: Means,
@@ -79,12 +73,7 @@ fn day_of(checked: CheckedSeason, values: &MarkValues) -> Day
         large: lines(&values.warmths, vp, 1),
         medium: lines(&values.warmths, vp, 2),
         small: lines(&values.warmths, vp, 4),
-        raise10: values.raise10,
-        raise15: values.raise15,
-        raise25: values.raise25,
-        raise35: values.raise35,
-        raise45: values.raise45,
-        raise60: values.raise60,
+        raises: values.raises,
     }
 }
 
@@ -109,13 +98,13 @@ fn means_of(grid: &Grid, rises: &[u64; 576], checked: CheckedSeason, values: &Ma
         permeation: permeation_mean(grid, &values.rate),
         soak: grid.mean_by_distance(Moment::Start, &values.soak),
         run: grid.mean_by_distance(Moment::End, &values.run),
-        end10: grid.mean_by_distance(Moment::End, &values.raise10.by_distance),
-        start15: grid.mean_by_distance(Moment::Start, &values.raise15.by_distance),
-        end25: grid.mean_by_distance(Moment::End, &values.raise25.by_distance),
-        start35: grid.mean_by_distance(Moment::Start, &values.raise35.by_distance),
-        start45: grid.mean_by_distance(Moment::Start, &values.raise45.by_distance),
+        end10: grid.mean_by_distance(Moment::End, &values.raises.raise10.by_distance),
+        start15: grid.mean_by_distance(Moment::Start, &values.raises.raise15.by_distance),
+        end25: grid.mean_by_distance(Moment::End, &values.raises.raise25.by_distance),
+        start35: grid.mean_by_distance(Moment::Start, &values.raises.raise35.by_distance),
+        start45: grid.mean_by_distance(Moment::Start, &values.raises.raise45.by_distance),
         end50: grid.mean_by_distance(Moment::End, &values.raise50.by_distance),
-        start60: grid.mean_by_distance(Moment::Start, &values.raise60.by_distance),
+        start60: grid.mean_by_distance(Moment::Start, &values.raises.raise60.by_distance),
     }
 }
 

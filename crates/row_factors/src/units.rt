@@ -9,7 +9,8 @@ use crate::rows::SeasonRows;
 use crate::season::Means;
 use breakthrough::loads::LoadedRow;
 
-// An array, since the guidebook numbers the factors 1 to 7 and a caller asks for one by its number: factor k stands at place k - 1.
+// An array, since document 01 numbers the factors 1 to 7: factor k stands at place k - 1. The call for one factor is given its number, and the
+// others go through all seven.
 #[derive(Clone, Copy)]
 pub struct Units {
     pub factors: [u64; 7],
@@ -44,10 +45,10 @@ impl Kind {
 }
 
 impl SeasonRows<'_> {
-    // The seven factors of a row.
-    pub fn units(&self, row: LoadedRow) -> Units
-        requires { RowReady self.now.grid.now.cells.counts self.now.list.now self.now.at.season row.row }
-        ensures { result.factors ≡ seven_units self.now.at.season row.row self.now.grid.now.cells.counts }
+    // The seven factors of a row. It takes the season by value, with the two arrays of its marks, as document 01 has it.
+    pub fn units(self, row: LoadedRow) -> Units
+        requires { RowReady self.grid.now.cells.counts self.list.now self.at.season row.row }
+        ensures { result.factors ≡ seven_units self.entry.at.season row.row self.entry.grid.now.cells.counts }
     {
         let kind = Kind::of(row.row.class);
         let escapes = self.escapes(kind, row);

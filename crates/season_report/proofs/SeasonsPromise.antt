@@ -1,7 +1,7 @@
 -- The call for the report of each season: where each block stands, and what is promised of the buffer.
 use mathlib.Core.List.{List, [], ◌∷◌, ◌++◌}
 use mathlib.Core.Path.{◌≡◌, refl, sym, ◌∙◌, ap}
-use Prim.Native.Nat.{ℕ, suc, zero, ◌+◌, ◌*◌, ◌/◌, ◌%◌, ◌≤◌, ◌<◌}
+use Prim.Native.Nat.{ℕ, suc, zero, ◌+◌, ◌*◌, ◌/◌, ◌%◌, ◌<◌}
 use native.Mathlib.Nat.{mul-le-mul_left}
 use native.Mathlib.Omega.{arith}
 use lib.ListN.{length, get_or, drop, length-append, get_or-append}
@@ -15,7 +15,6 @@ use Rattle.blocks.proofs.Parts.{blocks-made}
 use Rattle.exact.specs.Masses.{diurnal, soak, running}
 use Rattle.refusals.specs.Check.{Check, Pass}
 use Rattle.sheet.specs.Bytes.{seasons_of, rows_of, cells_of, row_at}
-use Rattle.sheet.proofs.Checks.{says}
 use Rattle.sheet.proofs.Accepted.{Bytes, Accepted, accepted}
 use Rattle.masses.specs.Figures.{row_figures}
 use Rattle.masses.proofs.MassWidth.{mass-band, no-vehicles}
@@ -25,8 +24,7 @@ use Rattle.report_words.specs.Promise.{rows_sum, category_word}
 use Rattle.report_words.proofs.Promised.{zeros, summed, grand, sums-hold}
 use Rattle.report_sums.specs.Sums.{buffer_sum}
 use Rattle.inventory.specs.ReportCall.{written}
-use Rattle.refusals.proofs.Numbers.{zero-passes}
-use Rattle.inventory.proofs.CallConditions.{room-judged, room-passed}
+use Rattle.inventory.proofs.CallConditions.{room-says, room-accepted}
 use Rattle.inventory.proofs.Written.{written-first}
 use Rattle.season_report.specs.Seasons.{alone, season_word, sums_of, total_of, with_sums, season_report, report_seasons}
 use Rattle.season_report.specs.Seasons.{seasons_length, seasons_check, SeasonRowPromise, SeasonPromise, SeasonsCall}
@@ -157,13 +155,11 @@ unfolding report_length report_seasons seasons_check
 seasons-answer {s} {old} {words} {r} bytes e w = record {
   answer-is = e;
   words_are = w;
-  says = rw e (says (seasons_check s (length old)) (room-judged seasons_length s (length old)));
+  says = room-says seasons_length s (length old) e;
   promise = λ zero j there.
-      let passed : seasons_check s (length old) ≡ Pass =
-      zero-passes (seasons_check s (length old)) (rw e at zero) in
-      let all : words ≡ written Pass (report_seasons s) old = rw (e ∙ passed) at w in
+      let (passed, all) = room-accepted seasons_length s (report_seasons s) old e w zero in
       let long = blocks-length (season_report s) (6 * rows_of s + 26) (block-length s) (seasons_of s) in
-      season-promise bytes (accepted s (room-passed seasons_length s (length old) passed).0) j there (drop ((6 * rows_of s + 26) * j) words)
+      season-promise bytes (accepted s passed) j there (drop ((6 * rows_of s + 26) * j) words)
       (λ k l.
       get_or-drop ((6 * rows_of s + 26) * j) words k 0 ∙
       rw all (written-first (report_seasons s) old ((6 * rows_of s + 26) * j + k) (omega (arith, mul-le-mul_left (6 * rows_of s + 26) there))) ∙

@@ -29,6 +29,7 @@ fn write_season(loaded: &SheetRows, j: usize, words: &mut [u64])
 }
 
 // All seasons of an accepted sheet, each into its part of a buffer with room for them. The grid and what the rows' canisters keep are made once.
+// factor_table's `all_factors` has the same steps: a method of `SheetRows` for both would repeat `fill_blocks`' four clauses to call it.
 fn write_seasons(sheet: Accepted, words: &mut [u64])
     requires { seasons_length sheet.bytes.now ≤ length words.old }
     ensures { words.new ≡ written Pass (report_seasons sheet.entry.bytes.now) words.old }

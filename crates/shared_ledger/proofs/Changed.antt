@@ -12,12 +12,12 @@ use lib.ListN.{length}
 use Rattle.numbers.specs.Lists.{at, sum}
 use Rattle.numbers.proofs.Lists.{sum-ext}
 use Rattle.refusals.specs.declared.Rule.TheVariants as rule
-use Rattle.refusals.proofs.Chain.{allowed}
+use Rattle.refusals.proofs.Chain.{allowed, not_applied}
 use Rattle.refusals.specs.Check.{Pass}
 use Rattle.sheet.specs.Versions.{has_many_rows}
 use Rattle.sheet.specs.Bytes.{rows_of, cells_of, season_list, row_at}
 use Rattle.sheet.specs.Counts.{counts_of, with_count}
-use Rattle.sheet.proofs.Checks.{then-pass, refuse-pass, met-passes}
+use Rattle.sheet.proofs.Checks.{then-pass, met-passes}
 use Rattle.sheet.proofs.BeforeRows.{rows, season-list, cells}
 use Rattle.sheet.proofs.Count.{before-rows, row-changed, row_kept}
 use Rattle.sheet.proofs.RowDemands.{with_vehicles}
@@ -54,7 +54,7 @@ change-passed s owners room who call h =
       shared = shared;
       some = met.1.0.0;
       owner = met.1.0.1;
-      right = refuse-pass (wrong (has_many_rows s) (counts_of s) call) rule.Count 0 (then-pass _ _ later).0;
+      right = not_applied (wrong (has_many_rows s) (counts_of s) call) rule.Count 0 refl (then-pass _ _ later).0;
       within = met.1.1.1;
     }
 

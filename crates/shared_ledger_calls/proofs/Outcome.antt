@@ -12,9 +12,10 @@ use lib.ListN.{length}
 use Rattle.refusals.specs.declared.Refusal.{Refusal}
 use Rattle.refusals.specs.declared.Rule.TheVariants as rule
 use Rattle.refusals.specs.Check.{Check, Pass, Refused, refuse, ◌then◌, number_of, place_of}
+use Rattle.refusals.proofs.Chain.{not_applied}
 use Rattle.sheet.specs.Bytes.{rows_of, row_at}
 use Rattle.sheet.specs.Sheet.{sheet_check}
-use Rattle.sheet.proofs.Checks.{then-pass, refuse-pass}
+use Rattle.sheet.proofs.Checks.{then-pass}
 use Rattle.sheet.specs.Demands.{Says}
 use Rattle.sheet.specs.Versions.{has_many_rows}
 use Rattle.sheet.specs.Counts.{counts_of}
@@ -138,7 +139,7 @@ module _ (s owners w : List ℕ) (who i : ℕ) where
       let (shared, rest) = then-pass _ _ c in
       let (right, last) = then-pass _ _ rest in (
         shared-sheet s owners (length w) shared,
-        leb-false (rows_of s) i (refuse-pass (leb (rows_of s) i) rule.Count 0 last),
+        leb-false (rows_of s) i (not_applied (leb (rows_of s) i) rule.Count 0 refl last),
         shared-room s owners (length w) shared,
       )
 

@@ -1,6 +1,7 @@
 -- What each of nine has of the first n rows, as a list of holdings, and the tests of a row's share from it.
 -- Assumes nothing.
-use Rattle.std.proofs.Common.{Option, None, Some, MatchOption, replicate}
+use Rattle.std.proofs.Common.{Option, None, Some, MatchOption, Err, replicate}
+use Rattle.std.specs.Option.{ok_or}
 use Rattle.std.proofs.lemmas.Bool.{or_parts}
 use mathlib.Core.Bool.{Bool, true, false, ◌||◌}
 use mathlib.Core.List.{List}
@@ -14,6 +15,7 @@ use lib.ListN.{length, get_or, set, length-set}
 use lib.Seq.{get_or-set_same, get_or-set_other}
 use Rattle.numbers.specs.Lists.{at, sum}
 use Rattle.numbers.proofs.Lists.{sum-le, sum_more}
+use Rattle.refusals.specs.declared.Refusal.{Refusal}
 use Rattle.refusals.specs.declared.Rule.TheVariants as rule
 use Rattle.refusals.specs.Check.{Pass, Refused, refuse}
 use Rattle.sheet.specs.Bytes.{row_place, row_at}
@@ -47,6 +49,11 @@ share-owned s owners i e h f g = let q : outside 1 participants (at owners i) �
 pub owned-range : (who : ℕ) → outside 1 participants who ≡ false → who < 9
 unfolding outside
 owned-range who h = omega (arith, ltb-false participants who (or_parts (ltb who 1) (ltb participants who) h).1)
+
+-- the refusal that is given for a row of no owner
+pub owner-none : (o : Option ℕ) (refusal : Refusal) {e : Refusal} → ok_or o refusal ≡ Err e → (o ≡ None) × (e ≡ refusal)
+owner-none None refusal h = (refl, cc)
+owner-none (Some who) refusal h = let z : ◌≡◌ {A = ℕ} 0 1 = cc in absurd (omega arith)
 
 -- where no one is named, no participant is
 pub no-owner : (who : ℕ) → who ≡ 0 → outside 1 participants who ≡ true
@@ -100,17 +107,18 @@ pub record Holdings (s owners : List ℕ) (n : ℕ) (holdings : List Holding) : 
   pub vehicles : (who : ℕ) → who < 9 → (holding_at holdings who).vehicles ≡ vehicles_held s owners who n
 
 -- of no row
-nothing-at : (n k : ℕ) → holding_at (replicate n nothing) k ≡ nothing
-nothing-at zero k = refl
-nothing-at (suc n) zero = refl
-nothing-at (suc n) (suc k) = nothing-at n k
+nothing-at : (n k : ℕ) {h : Holding} → (h.rows ≡ 0) × (h.vehicles ≡ 0)
+    → ((holding_at (replicate n h) k).rows ≡ 0) × ((holding_at (replicate n h) k).vehicles ≡ 0)
+nothing-at zero k e = (refl, refl)
+nothing-at (suc n) zero e = e
+nothing-at (suc n) (suc k) e = nothing-at n k e
 
-pub holdings_none : (s owners : List ℕ) → Holdings s owners 0 (replicate 9 nothing)
+pub holdings_none : (s owners : List ℕ) {h : Holding} → (h.rows ≡ 0) × (h.vehicles ≡ 0) → Holdings s owners 0 (replicate 9 h)
 unfolding rows_held vehicles_held sum
-holdings_none s owners = record {
+holdings_none s owners e = record {
   nine = refl;
-  rows = λ who l. ap (λ (h : Holding). h.rows) (nothing-at 9 who);
-  vehicles = λ who l. ap (λ (h : Holding). h.vehicles) (nothing-at 9 who);
+  rows = λ who l. (nothing-at 9 who e).0;
+  vehicles = λ who l. (nothing-at 9 who e).1;
 }
 
 -- Row n is its owner's, who then has one row more.

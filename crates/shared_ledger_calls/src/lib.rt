@@ -32,7 +32,7 @@ pub struct SharedLedger<'a> {
     pub words: &'a [u64],
 }
 
-// The ledger is opened: the report is written, or all words stay.
+// The ledger is opened: the report is written, or all words stay. Here and in `change` the three are arguments: a `SharedLedger` only reads.
 pub fn open(sheet: &[u8], owners: &[u8], words: &mut [u64]) -> Check
     ensures { OpenCall sheet.now owners.now words.old words.new result }
 {

@@ -13,7 +13,7 @@ use checks::accepted::Accepted;
 use fields::range::outside;
 use fields::row_place;
 use inventory::check::{report_length, sheet_with_room};
-use refusals::{Check, Refusal, Rule};
+use refusals::{Check, Refusal, Rule, refuse};
 use shared_ledger::Caller;
 use std::num::NonZeroU64;
 
@@ -52,7 +52,7 @@ fn participant_at(owners: &[u8], i: usize) -> Option<usize>
 }
 
 // What an owner has: so many rows, and the vehicles of these.
-#[derive(Clone, Copy)]
+#[derive(Clone, Copy, Default)]
 struct Holding {
     rows: u64,
     vehicles: u64,
@@ -144,23 +144,16 @@ impl<'a> OwnedSheet<'a> {
     fn shares_check(&self) -> Check
         ensures { let s = self.now.sheet.bytes.now in result ≡ each (share_check s self.now.owners.now) (rows_of s) }
     {
-        // Entry 0 is no one's. The zeros are written out: a derived `Default` has no contract that says what it makes.
-        let mut holdings = [Holding {
-            rows: 0,
-            vehicles: 0,
-        }; 9];
+        // Entry 0 is no one's.
+        let mut holdings = [Holding::default(); 9];
         for i in 0..self.sheet.rows() {
-            let refusal = Refusal {
+            let place = row_place(self.sheet.bytes, i) as u64;
+            let who = participant_at(self.owners, i).ok_or(Refusal {
                 rule: Rule::Share,
-                place: row_place(self.sheet.bytes, i) as u64,
-            };
-            let Some(who) = participant_at(self.owners, i) else {
-                return Err(refusal);
-            };
+                place,
+            })?;
             let holding = holdings[who].with_row(self.sheet.vehicles(i));
-            if holding.is_past() {
-                return Err(refusal);
-            }
+            refuse(holding.is_past(), Rule::Share, place)?;
             holdings[who] = holding;
         }
         Ok(())

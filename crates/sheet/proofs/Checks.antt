@@ -15,13 +15,15 @@ use Rattle.numbers.proofs.Order.{test-cases}
 use Rattle.std.proofs.Common.{Ok, Err}
 use Rattle.std.proofs.Math.Bool.{or-true}
 use Rattle.std.proofs.lemmas.Bool.{true≢false, or_cases, and_parts}
+use Rattle.refusals.specs.declared.Refusal.{Refusal}
 use Rattle.refusals.specs.declared.Rule.{Rule}
 use Rattle.refusals.specs.Rule.{number}
 use Rattle.refusals.specs.Check.{Check, Pass, Refused, refuse, ◌then◌, each, number_of, place_of}
-use Rattle.refusals.proofs.Numbers.{number-above, refused-same}
+use Rattle.refusals.proofs.Chain.{not_applied, applied}
+use Rattle.refusals.proofs.Numbers.{number-above}
 use Rattle.sheet.specs.Demands.{Demands, demand, ◌next◌, every, Met, FirstUnmet, Says}
 
--- Passing and refusing, for the three ways to put checks together.
+-- Passing and refusing, for the two ways to put checks together. Of one rule alone Chain of the crate refusals has it.
 
 -- what holds below n, and at n, holds below n + 1
 pub below_suc : {P : ℕ → Type 0} {n : ℕ} → ((i : ℕ) → i < n → P i) → P n → (i : ℕ) → i < suc n → P i
@@ -30,18 +32,6 @@ below_suc {P} {n} before last i l =
       | yes k ↦ let e : i ≡ n = omega arith in rw e last
       | no k ↦ before i (omega arith)
     ]
-
--- a rule that does not apply: its condition is false
-pub refuse-pass : (b : Bool) (r : Rule) (place : ℕ) → refuse b r place ≡ Pass → b ≡ false
-unfolding refuse
-refuse-pass true r place h = cc
-refuse-pass false r place h = refl
-
--- a rule that applies is returned with its place, and its condition is true
-refuse-refused : (b : Bool) (rule : Rule) (place : ℕ) {r : Rule} {p : ℕ} → refuse b rule place ≡ Refused r p → (r ≡ rule) × (p ≡ place) × (b ≡ true)
-unfolding refuse
-refuse-refused true rule place {r} {p} h = let (m, q) = refused-same rule r place p h in (sym m, sym q, refl)
-refuse-refused false rule place h = (cc, cc, cc)
 
 -- both of two checks pass
 pub then-pass : (c d : Check) → c then d ≡ Pass → (c ≡ Pass) × (d ≡ Pass)
@@ -99,8 +89,10 @@ says (Err r) {D} j = says_above (number r.rule) r.place D (number-above r.rule) 
 -- one test judges one demand
 pub judges-refuse : {wrong : Bool} {r : Rule} {place : ℕ} {A : Type 0} → Tests wrong A → Judges (refuse wrong r place) (demand r place A)
 judges-refuse {wrong} {r} {place} t = record {
-  passes = λ h. t.holds (refuse-pass wrong r place h);
-  refuses = λ n p h. let (m, q, b) = refuse-refused wrong r place h in (ap number m, q, t.fails b);
+  passes = λ h. t.holds (not_applied wrong r place refl h);
+  refuses = λ n p h.
+      let (b, e) = applied wrong r place refl h in
+      (ap (λ (x : Refusal). number x.rule) e, ap (λ (x : Refusal). x.place) e, t.fails b);
 }
 
 -- two checks judge two demands, in this order

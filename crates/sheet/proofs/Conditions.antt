@@ -118,7 +118,7 @@ saturation-tests limit None saturation season = record { holds = λ _ n. absurd 
 saturation-tests limit (Some c) saturation season = tests-as (λ h _. h) (λ f. f (fitted refl)) (not-tests (≤-shows _ _))
 
 -- a test at some season demands the same of every season
-some_tests : {P : Season → Type 0} (wrong : Season → Bool) → ((season : Season) → Tests (wrong season) (P season))
+pub some_tests : {P : Season → Type 0} (wrong : Season → Bool) → ((season : Season) → Tests (wrong season) (P season))
     → (s : List ℕ) (n : ℕ) → Tests (some_season wrong s n) ((j : ℕ) → j < n → P (season_at s j))
 unfolding some_season
 some_tests wrong t s zero =

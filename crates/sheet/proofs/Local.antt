@@ -5,7 +5,8 @@ use mathlib.Core.Path.{◌≡◌, refl}
 use Prim.Native.Nat.{ℕ, suc, zero, ◌+◌, ◌*◌, ◌≤◌, ◌<◌}
 use native.Mathlib.Omega.{arith}
 use Rattle.sheet.specs.Integers.{u8_at, u16_at, u32_at}
-use Rattle.sheet.specs.Bytes.{counts_at, season_from, equipment_at, canister_of, tank_of, row_from}
+use Rattle.sheet.specs.Versions.{seasons_start}
+use Rattle.sheet.specs.Bytes.{seasons_of, counts_at, row_place, season_from, equipment_at, canister_of, tank_of, row_from}
 
 -- n bytes from p on in s are those from q on in t
 pub record Same (s t : List ℕ) (p q n : ℕ) : Type 0 where
@@ -74,6 +75,13 @@ row_same {p} {q} h =
     (part h 8 16 (p + 8) (q + 8) refl refl (omega arith))
     (cc (byte_at h 2 (p + 2) (q + 2) refl refl (omega arith)))
     (cc (word_at h 6 (p + 6) (q + 6) refl refl (omega arith)))
+
+-- the rows of two sheets that are the same from a and from b on, where their seasons start d places behind
+pub row-bytes : {s t : List ℕ} (a b d : ℕ) → ((k : ℕ) → u8_at t (a + k) ≡ u8_at s (b + k)) → seasons_of t ≡ seasons_of s
+    → seasons_start t ≡ a + d → seasons_start s ≡ b + d → (i : ℕ) → Same t s (row_place t i) (row_place s i) 24
+row-bytes {s} a b d after seasons t-starts s-starts i =
+    let k = d + 8 * seasons_of s + 24 * i in
+    part {n = k + 24} (record { byte = λ j _. after j }) k 24 _ _ (omega (arith, seasons, t-starts)) (omega (arith, s-starts)) (omega arith)
 
 -- n counts
 pub counts_same : {s t : List ℕ} (p q n : ℕ) → Same s t p q (2 * n) → counts_at s p n ≡ counts_at t q n

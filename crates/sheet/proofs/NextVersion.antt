@@ -20,7 +20,7 @@ use Rattle.sheet.specs.NextVersion.{NextVersion, SameRow, FourthVersion}
 use Rattle.sheet.proofs.Versions.{grid-version, rows-many, rows_few, most-many, most-few, start-grid, cells-grid}
 use Rattle.sheet.proofs.Conditions.{sheet-judged, met-accepted}
 use Rattle.sheet.proofs.Accepted.{accepted}
-use Rattle.sheet.proofs.Local.{Same, part, season-same, row_same, counts_same}
+use Rattle.sheet.proofs.Local.{Same, part, season-same, row_same, row-bytes, counts_same}
 use Rattle.sheet.proofs.RowDemands.{VersionMet, row-met}
 use Rattle.sheet.proofs.Fleet.{vehicles-more, vehicles-rise}
 use Rattle.sheet.proofs.Alike.{Alike}
@@ -115,15 +115,12 @@ module _ {s t : List ℕ} (next : Renumbered s t) where
   start-t : seasons_start t ≡ 1160
   start-t = start-grid t next.grid-of-t
 
-  row-bytes : (i : ℕ) → Same t s (row_place t i) (row_place s i) 24
-  row-bytes i =
-      let k = 1155 + 8 * seasons_of s + 24 * i in
-      part {n = k + 24} (record { byte = λ j _. next.after j }) k 24 _ _ (omega (arith, seasons, start-t)) (omega (arith, start-s))
-      (omega arith)
+  same-rows : (i : ℕ) → Same t s (row_place t i) (row_place s i) 24
+  same-rows = row-bytes 5 5 1155 next.after seasons start-t start-s
 
   row : (i : ℕ) → row_at t i ≡ row_at s i
   unfolding row_at
-  row i = row_same (row-bytes i)
+  row i = row_same (same-rows i)
 
   season : (j : ℕ) → j < seasons_of s → season_at t j ≡ season_at s j
   season = season-kept same-before-rows
@@ -176,7 +173,7 @@ module _ {s t : List ℕ} (next : Renumbered s t) where
                   rw (days-kept same-before-rows j (omega arith), season j in-s) (season-demands j in-s)),
               (λ i l.
                   let in-s : i < rows_of s = omega (arith, next.rows) in
-                  row-met (record { bytes = row-bytes i; seasons = seasons; season = season }) (version i in-s) (row-demands i in-s)),
+                  row-met (record { bytes = same-rows i; seasons = seasons; season = season }) (version i in-s) (row-demands i in-s)),
             ),
           ),
         ),

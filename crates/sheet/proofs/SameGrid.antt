@@ -21,7 +21,7 @@ use Rattle.sheet.specs.SameGrid.{GridOf}
 use Rattle.sheet.proofs.Versions.{most-few, start-grid, start-lists, cells-grid, cells-lists}
 use Rattle.sheet.proofs.Conditions.{sheet-judged, met-accepted}
 use Rattle.sheet.proofs.Accepted.{row-accepted}
-use Rattle.sheet.proofs.Local.{Same, part, season-same, row_same}
+use Rattle.sheet.proofs.Local.{Same, part, season-same, row_same, row-bytes}
 use Rattle.sheet.proofs.RowDemands.{RowKept, row-met}
 use Rattle.sheet.proofs.Alike.{Alike}
 
@@ -40,14 +40,13 @@ module _ {s t : List ℕ} (g : GridOf s t) where
   start-t : seasons_start t ≡ 1160
   start-t = start-grid t with-grid
 
-  -- and n bytes that stand k places after the parking are the same:
-  from : (n k : ℕ) {p q : ℕ} → p ≡ 1160 + k → q ≡ 104 + k → Same t s p q n
-  from n k {p} {q} e f = part {n = k + n} (record { byte = λ j _. g.after j }) k n p q e f (omega arith)
-
-  -- each season,
+  -- and what stands behind the parking is the same: each season,
   season : (j : ℕ) → season_at t j ≡ season_at s j
   unfolding season_at
-  season j = season-same (from 8 (8 * j) (omega (arith, start-t)) (omega (arith, start-s))) (omega arith)
+  season j =
+      season-same
+      (part {n = 8 * j + 8} (record { byte = λ k _. g.after k }) (8 * j) 8 _ _ (omega (arith, start-t)) (omega (arith, start-s)) (omega arith))
+      (omega arith)
 
   -- all of them,
   season-list : (j n : ℕ) → seasons_from t j n ≡ seasons_from s j n
@@ -62,12 +61,12 @@ module _ {s t : List ℕ} (g : GridOf s t) where
   days (suc n) = cc (days n, season n)
 
   -- and each row.
-  row-bytes : (i : ℕ) → Same t s (row_place t i) (row_place s i) 24
-  row-bytes i = from 24 (8 * seasons_of s + 24 * i) (omega (arith, start-t, g.seasons)) (omega (arith, start-s))
+  same-rows : (i : ℕ) → Same t s (row_place t i) (row_place s i) 24
+  same-rows = row-bytes 1160 104 0 g.after g.seasons start-t start-s
 
   row : (i : ℕ) → row_at t i ≡ row_at s i
   unfolding row_at
-  row i = row_same (row-bytes i)
+  row i = row_same (same-rows i)
 
   -- The cells are the products,
   cells : cells_of t ≡ cells_of s
@@ -105,7 +104,7 @@ module _ {s t : List ℕ} (g : GridOf s t) where
 
   -- and on each row.
   kept : (i : ℕ) → RowKept s t i
-  kept i = record { bytes = row-bytes i; seasons = g.seasons; season = λ j _. season j }
+  kept i = record { bytes = same-rows i; seasons = g.seasons; season = λ j _. season j }
 
   rows-met : (i : ℕ) → Met (row_demands s i) → Met (row_demands t i)
   rows-met i met =

@@ -69,10 +69,8 @@ module _ (s : List ℕ) {grid : Bool} (passed : sheet_check s ≡ Pass) (tested 
 
   module _ (h : grid ≡ false) {durations hours : List ℕ} (d : durations ≡ duration_counts s) (e : hours ≡ hour_counts s) where
     -- or two lists,
-    pub lists-in-range : (length durations ≡ 24) × (length hours ≡ 24) × (total durations ≤ 1000) × (total hours ≤ 1000)
-    lists-in-range =
-        let (p, q) = lists-most (accepted s passed) (sym tested ∙ h) in
-        rw (d, e) (durations-length s, hours-length s, p, q)
+    pub lists-in-range : (total durations ≤ 1000) × (total hours ≤ 1000)
+    lists-in-range = rw (d, e) (lists-most (accepted s passed) (sym tested ∙ h))
 
     -- with their products
     pub products-read : {cells : List ℕ} → cells ≡ products durations hours → (cells ≡ cells_of s) × CellsInRange cells

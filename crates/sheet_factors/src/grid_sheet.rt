@@ -41,7 +41,7 @@ impl<'a> GridSheet<'a> {
         GridSheet { sheet, grid }
     }
 
-    // Season j, made ready for its rows. By its number, not by an iterator over the seasons: the factor calls name one season.
+    // Season j, made ready for its rows. By its number, not by an iterator over the seasons: `units_with` and `each_row` are each asked for one.
     pub fn season(&self, j: usize) -> Prepared
         requires { j < seasons_of self.now.sheet.bytes.now }
         ensures { SeasonOf self.now.sheet.bytes.now self.now.grid.cells.counts j result }

@@ -2,9 +2,12 @@
 ghost use Rattle.std.specs.Prelude.{◌≡◌, ℕ, ◌*◌, ◌<◌, ◌≤◌, length, drop};
 ghost use Rattle.std.specs.Fork.{slice_chunk};
 ghost use Rattle.sheet.specs.Bytes.{seasons_of, rows_of, row_at};
+ghost use Rattle.row_factors.specs.Season.{RowReady};
+ghost use Rattle.row_factors.specs.Seven.{seven_units};
 ghost use Rattle.sheet_factors.specs.Ready.{RowsKept, AcceptsRow, ChangesRow, units_at};
 
 use crate::grid_sheet::GridSheet;
+use blocks::fill_blocks;
 use breakthrough::loads::LoadedRow;
 use checks::accepted::Accepted;
 use masses::figures::UsedRow;
@@ -56,7 +59,7 @@ impl<'a> SheetRows<'a> {
     }
 
     // Season j, made ready once for all rows: `fill` gets each row, its seven factors in units of 2^-28 g, and its part of a buffer, which
-    // has `size` words for each row. Not by `chunks_exact_mut`: its contract in std doesn't say what the slice holds in the end.
+    // has `size` words for each row.
     pub fn each_row<F: Fn(UsedRow, Units, &mut [u64])>(
         &self,
         j: usize,
@@ -83,12 +86,17 @@ impl<'a> SheetRows<'a> {
             list: &list,
             at: season.at,
         };
-        let count = sheet.sheet.rows();
-        for i in 0..count {
+        let fill_row = |i: usize, part: &mut [u64]|
+            requires { let row = row_at self.now.sheet.sheet.bytes.now i in let counts = in_season.grid.now.cells.counts in
+                (i < rows_of self.now.sheet.sheet.bytes.now) × RowReady counts in_season.list.now in_season.at.season row
+                × AcceptsRow F.Fn fill row (seven_units in_season.at.season row counts) part.now }
+            ensures { let row = row_at self.entry.now.sheet.sheet.bytes.now i in ChangesRow F.Fn fill row
+                (seven_units in_season.entry.at.season row in_season.entry.grid.now.cells.counts) part.entry.now part.exit.now }
+        {
             let loaded = self.row(i);
             let units = in_season.units(loaded);
-            let start = i * size;
-            fill(UsedRow { loaded }, units, &mut words[start..start + size]);
-        }
+            fill(UsedRow { loaded }, units, part);
+        };
+        fill_blocks(words, size, sheet.sheet.rows(), fill_row);
     }
 }

@@ -44,7 +44,7 @@ pub fn split(total: u64) -> [u64; 29]
 {
     let mut masses = [0u64; 29];
     let mut before: u64 = 0;
-    // By the place and not by `zip`, since the definition of a mass takes the place of its share.
+    // By the place and not by `zip`: once a loop over `iter_mut().zip(..)` has ended, a proof knows the length of the array and not its masses.
     for (i, &share) in SHARES.iter().enumerate() {
         masses[i] = mass_of(total, before, share);
         before += share;

@@ -71,7 +71,7 @@ impl Lines for SpeciesLines {
     fn write(&self, writer: &mut Writer<'_>) {
         let composition = &self.composition;
         writer.pair(b"EVP ", self.version, b" total ", composition.total);
-        // By the place and not by `zip`, since the definition of a line takes the name and the mass at a place.
+        // By the place and not by `zip`, of which a proof must show first that name and mass are those of one place: it would be no plainer.
         for (i, &mass) in composition.milligrams.iter().enumerate() {
             write_species(writer, NAMES[i].as_bytes(), mass);
         }

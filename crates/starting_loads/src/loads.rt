@@ -4,15 +4,20 @@ ghost use Rattle.std.specs.Prelude.{◌≡◌, ◌*◌, ◌^◌, ◌≤◌};
 ghost use Rattle.starting_loads.specs.Loss.{feedback, loss, loaded, start};
 ghost use Rattle.starting_loads.specs.Balance.{BalanceReady};
 
-use bounds::short::{line, short};
+use bounds::short;
 use bounds::theta::theta;
+
+// a + 16 and 2 b s of a canister at one temperature, in units of 2^-44.
+#[derive(Clone, Copy)]
+pub struct Line {
+    pub base: u64,
+    pub growth: u64,
+}
 
 // A row's canister at one temperature.
 #[derive(Clone, Copy)]
 pub struct Balance {
-    // a + 16 and 2 b s, in units of 2^-44.
-    pub base: u64,
-    pub growth: u64,
+    pub line: Line,
     // The saturating load in units of 2^-40 g.
     pub saturation: u64,
 }
@@ -45,17 +50,17 @@ fn loss(growth: u64, y: u64) -> u64
 // The starting load for this net load, which is at most the saturating load.
 fn loaded(c: Balance, net: u64) -> u64
     requires { BalanceReady c × (net ≤ c.saturation) }
-    ensures { result ≡ loaded c.base c.growth c.saturation net }
+    ensures { result ≡ loaded c.line.base c.line.growth c.saturation net }
 {
-    let x = line(c.base, c.growth, net);
-    let y = short(x) / FROM_Q36_TO_Q32;
-    c.saturation.min(net + loss(c.growth, y))
+    let x = short::line(c.line.base, c.line.growth, net);
+    let y = short::short(x) / FROM_Q36_TO_Q32;
+    c.saturation.min(net + loss(c.line.growth, y))
 }
 
 // The starting load for any net load.
 pub fn start(c: Balance, net: u64) -> u64
     requires { BalanceReady c }
-    ensures { result ≡ start c.base c.growth c.saturation net }
+    ensures { result ≡ start c.line.base c.line.growth c.saturation net }
 {
     loaded(c, c.saturation.min(net))
 }

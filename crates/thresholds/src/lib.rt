@@ -26,9 +26,8 @@ pub struct Mileage {
 // A mileage M and a whole exponent c, for the exponents c - d below it.
 #[derive(Clone, Copy)]
 struct Below {
-    kilometres: u64,
+    mileage: Mileage,
     whole: usize,
-    ghost in_limit: { kilometres ≤ 10 ^ 6 },
     ghost in_table: { whole < 15 },
 }
 
@@ -36,23 +35,23 @@ impl Below {
     // M is at most E(c - d).
     fn within(self, d: u64) -> bool
         requires { d ≤ 2 ^ 47 }
-        ensures { result ≡ within self.kilometres self.whole d }
+        ensures { result ≡ within self.mileage.kilometres self.whole d }
     {
         let above = exponential(ZERO + d) + NEAR_ERROR;
-        self.kilometres * above <= far(self.whole) * 1024
+        self.mileage.kilometres * above <= far(self.whole) * 1024
     }
 
     // d with one more binary digit, where M is still at most E(c - d).
     fn digit(self, d: u64, bit: u64) -> u64
         requires { d + bit ≤ 2 ^ 47 }
-        ensures { (result ≡ digit self.kilometres self.whole d bit) × (result ≤ d + bit) }
+        ensures { (result ≡ digit self.mileage.kilometres self.whole d bit) × (result ≤ d + bit) }
     {
         if self.within(d + bit) { d + bit } else { d }
     }
 
     // The largest d with M at most E(c - d), digit by digit from 2^46 down.
     fn digits(self) -> u64
-        ensures { (result ≡ digits self.kilometres self.whole 47 0) × (result ≤ 2 ^ 47) }
+        ensures { (result ≡ digits self.mileage.kilometres self.whole 47 0) × (result ≤ 2 ^ 47) }
     {
         let mut d: u64 = 0;
         for found in 0..47u32 {
@@ -66,10 +65,10 @@ impl Mileage {
     // M with a whole exponent.
     fn below(self, whole: usize) -> Below
         requires { whole < 15 }
-        ensures { (result.kilometres ≡ self.kilometres) × (result.whole ≡ whole) }
+        ensures { (result.mileage.kilometres ≡ self.kilometres) × (result.whole ≡ whole) }
     {
         Below {
-            kilometres: self.kilometres,
+            mileage: self,
             whole,
         }
     }

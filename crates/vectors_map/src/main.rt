@@ -209,6 +209,7 @@ impl<'a> Item<'a> for Sum {
 }
 
 // An answer, and a line where it is another than the one expected; rows and sums are counted from 1, as tools/vectors/cells.py lists them.
+// Not `compare` of vectors, which prints both answers: this prints the number alone.
 fn with_answer<A: Copy + PartialEq>(
     rt: &impl Print,
     what: &str,

@@ -18,7 +18,8 @@ enum Kind {
     Unreadable,
 }
 
-// A verdict, and how many milligrams the figure is off, 0 where it has no such distance
+// A verdict, and how many milligrams the figure is off, 0 where it has no such distance. No `marking::Verdict`: an input has both as numbers,
+// and a verdict with a distance that it cannot have must differ from the one found.
 #[derive(Clone, Copy, Debug, PartialEq, Eq)]
 struct Mark {
     kind: Kind,

@@ -27,7 +27,7 @@ enum Pass {
     Words,
 }
 
-// Which of three sheets is refused, 1 to 3, and where
+// Which of three sheets is refused, 1 to 3, and where. A number and no enum, since an input may name none of the three.
 #[derive(Clone, Copy, Debug, PartialEq, Eq)]
 struct Refused {
     sheet: u64,

@@ -4,7 +4,7 @@ use mathlib.Core.List.{List, map}
 use Rattle.std.proofs.lemmas.Result.{err_from_is_err_and}
 use Rattle.sheet.specs.Sheet.{outside}
 use Rattle.inventory.specs.FactorAnswers.{band}
-use Rattle.inventory.proofs.CallConditions.{bytes-of, factor-there}
+use Rattle.inventory.proofs.CallConditions.{bytes-of, asked-there}
 use Rattle.factor_table.proofs.SevenBands.{bands-are}
 use Rattle.factor_table.proofs.RowPromise.{row-promised, refused-is, passed_is}
 use Rattle.factor_table.proofs.row_factors.Goals as goal
@@ -17,9 +17,7 @@ returns-in_err-asked c =
 pub returns : goal.returns
 unfolding outside
 returns c =
-    let asked = c.in_ok-asked.asked in
     let (same, season, row) = c.in_ok-asked.ensures in
-    let there = factor-there _ _ _ 1 (rw same at asked.sheet.passed) (rw (same, season) at asked.season_there)
-    (rw (same, row) at asked.row_there) refl in
+    let there = asked-there c.in_ok-asked.asked (same, season, row) 1 refl in
     let made = c.of_each.ensures ∙ ap (λ (units : List _). map band units) (rw (same, season, row) at c.units.ensures) ∙ bands-are _ _ _ in
     row-promised _ _ _ (bytes-of c.type_inv.s) (passed_is _ _ _ (bytes-of c.type_inv.s) there made refl)

@@ -2,7 +2,7 @@
 -- Assumes nothing.
 use mathlib.Core.Path.{◌∙◌}
 use Rattle.refusals.proofs.Chain.{handed}
-use Rattle.inventory.proofs.CallConditions.{bytes-of, factor-absent, factor-there}
+use Rattle.inventory.proofs.CallConditions.{bytes-of, asked-absent, asked-there}
 use Rattle.inventory.proofs.FactorPromise.{refusal_is, band-is, promised}
 use Rattle.inventory.proofs.factor.Goals as goal
 
@@ -13,18 +13,14 @@ returns-in_err-asked c =
 
 pub returns-in_err-factor : goal.returns-in_err-factor
 returns-in_err-factor c =
-    let asked = c.in_ok-asked.asked in
-    let (same, season, row) = c.in_ok-asked.ensures in
     let (refusal, outside) = c.in_err-factor.ensures in
     let refused = handed c.from_residual-in_err-factor.result _ c.from_residual-in_err-factor.ensures in
     promised _ _ _ _ (bytes-of c.type_inv.s) (refused ∙ rw refusal (refusal_is _ _ _ _ (bytes-of c.type_inv.s)
-    (factor-absent _ _ _ c.args.k (rw same at asked.sheet.passed) outside)))
+    (asked-absent c.in_ok-asked.asked c.in_ok-asked.ensures c.args.k outside)))
 
 pub returns : goal.returns
 returns c =
-    let asked = c.in_ok-asked.asked in
     let (same, season, row) = c.in_ok-asked.ensures in
     let (number, inside) = c.in_ok-factor.ensures in
-    let there = factor-there _ _ _ _ (rw same at asked.sheet.passed) (rw (same, season) at asked.season_there)
-    (rw (same, row) at asked.row_there) inside in
+    let there = asked-there c.in_ok-asked.asked (same, season, row) c.args.k inside in
     promised _ _ _ _ (bytes-of c.type_inv.s) (band-is _ _ _ _ (bytes-of c.type_inv.s) there (rw (same, season, row, number) at c.band_of.ensures))

@@ -1,12 +1,11 @@
 -- `inventory::report` meets its contract: a refusal leaves the buffer, and an accepted report is what document 01 promises.
 -- Assumes nothing.
 use mathlib.Core.Path.{refl, sym, ◌∙◌}
-use lib.ListN.{length}
 use Rattle.refusals.proofs.Chain.{handed}
 use Rattle.report_words.specs.Categories.{report_length}
 use Rattle.inventory.specs.ReportAnswers.{report_check}
 use Rattle.inventory.specs.ReportCall.{written}
-use Rattle.inventory.proofs.CallConditions.{bytes-of, room-passed}
+use Rattle.inventory.proofs.CallConditions.{bytes-of, has-room}
 use Rattle.inventory.proofs.ReportPromise.{report-answer}
 use Rattle.inventory.proofs.report.Goals as goal
 
@@ -17,9 +16,7 @@ returns-in_err-sheet c =
     report-answer (bytes-of c.type_inv.s) (refused ∙ sym (c.in_err-sheet.ensures report_length (λ sheet n p. p.1.0))) (rw refused refl)
 
 pub write_report-requires : goal.write_report-requires
-write_report-requires c =
-    let (same, passed) = c.in_ok-sheet.ensures report_length (λ sheet n p. p.1.0) in
-    rw same (room-passed report_length _ (length c.args.words.now) passed).1
+write_report-requires c = has-room report_length (c.in_ok-sheet.ensures report_length (λ sheet n p. p.1.0))
 
 pub returns : goal.returns
 unfolding report_check

@@ -24,11 +24,13 @@ returns c =
       rate-is = simp add-zero at (at-marks-by _ c.rates-hourly.ensures c.by_mark.ensures ∙ rates-are θ few there _ _ 0 f);
       soak-is = c.rates.ensures ∙ rates-by-distance θ are _ _ (tenths 110) f;
       run_is = c.rates-2.ensures ∙ rates-by-distance θ are _ _ (tenths 150) f;
-      raise10-is = c.raises.ensures ∙ raises-by-distance θ are g (tenths 10);
-      raise15-is = c.raises-2.ensures ∙ raises-by-distance θ are g (tenths 15);
-      raise25-is = c.raises-3.ensures ∙ raises-by-distance θ are g (tenths 25);
-      raise35-is = c.raises-4.ensures ∙ raises-by-distance θ are g (tenths 35);
-      raise45-is = c.raises-5.ensures ∙ raises-by-distance θ are g (tenths 45);
-      raise50-is = c.raises-6.ensures ∙ raises-by-distance θ are g (tenths 50);
-      raise60-is = c.raises-7.ensures ∙ raises-by-distance θ are g (tenths 60);
+      raises-are = record {
+        raise10-is = c.raises.ensures ∙ raises-by-distance θ are g (tenths 10);
+        raise15-is = c.raises-2.ensures ∙ raises-by-distance θ are g (tenths 15);
+        raise25-is = c.raises-3.ensures ∙ raises-by-distance θ are g (tenths 25);
+        raise35-is = c.raises-4.ensures ∙ raises-by-distance θ are g (tenths 35);
+        raise45-is = c.raises-5.ensures ∙ raises-by-distance θ are g (tenths 45);
+        raise60-is = c.raises-6.ensures ∙ raises-by-distance θ are g (tenths 60);
+      };
+      raise50-is = c.raises-7.ensures ∙ raises-by-distance θ are g (tenths 50);
     }

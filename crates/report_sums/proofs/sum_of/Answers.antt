@@ -1,10 +1,8 @@
 -- `report_sums::sum_of` meets its contract: the sum is that of the rows passed, in 64 bits.
 -- Assumes nothing.
-use Rattle.std.proofs.Common.{◌≡◌, arith}
-use Rattle.sheet.specs.Bytes.{rows_of}
 use Rattle.report_words.specs.Categories.{category}
 use Rattle.report_sums.specs.Numbers.{number}
-use Rattle.report_sums.proofs.BufferSums.{sum-none, sum_more, sum_same}
+use Rattle.report_sums.proofs.BufferSums.{sum_more, sum_same}
 use Rattle.report_sums.proofs.sum_of.Goals as goal
 use Rattle.report_sums.proofs.sum_of.Goals.{then-belongs, else-belongs}
 

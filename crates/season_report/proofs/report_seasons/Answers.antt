@@ -1,9 +1,8 @@
 -- `season_report::report_seasons` meets its contract: a refusal leaves the buffer, and an accepted call stores what is promised.
 use mathlib.Core.Path.{refl, sym, ◌∙◌}
-use lib.ListN.{length}
 use Rattle.refusals.proofs.Chain.{handed}
 use Rattle.inventory.specs.ReportCall.{written}
-use Rattle.inventory.proofs.CallConditions.{bytes-of, room-passed}
+use Rattle.inventory.proofs.CallConditions.{bytes-of, has-room}
 use Rattle.season_report.specs.Seasons.{seasons_length, seasons_check}
 use Rattle.season_report.proofs.SeasonsPromise.{seasons-answer}
 use Rattle.season_report.proofs.report_seasons.Goals as goal
@@ -15,9 +14,7 @@ returns-in_err-sheet c =
     seasons-answer (bytes-of c.type_inv.s) (refused ∙ sym (c.in_err-sheet.ensures seasons_length (λ sheet n p. p.1))) (rw refused refl)
 
 pub write_seasons-requires : goal.write_seasons-requires
-write_seasons-requires c =
-    let (same, passed) = c.in_ok-sheet.ensures seasons_length (λ sheet n p. p.1) in
-    rw same (room-passed seasons_length _ (length c.args.words.now) passed).1
+write_seasons-requires c = has-room seasons_length (c.in_ok-sheet.ensures seasons_length (λ sheet n p. p.1))
 
 pub returns : goal.returns
 unfolding seasons_check

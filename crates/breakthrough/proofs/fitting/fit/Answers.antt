@@ -1,19 +1,26 @@
--- `breakthrough::fitting::fit` meets its contract: the first distances hold their canisters.
-use Rattle.std.proofs.Common.{◌≢◌, ◌∙◌, ◌<◌, length, length-set, get_or-set_other, get_or-set_same, below_more, arith}
+-- `breakthrough::fitting::fit` meets its contract: at each distance stands its canister.
+use Rattle.std.proofs.Common.{ℕ, ◌<◌, rules}
+use Rattle.numbers.proofs.Made.{made_each}
+use Rattle.factors.specs.Escape.{tenth_grams}
+use Rattle.factors.specs.Units.{row_start, loss_error}
+use Rattle.breakthrough.specs.declared.curve.Curve.{Curve}
+use Rattle.breakthrough.specs.Lines.{line_at, CurveBy}
+use Rattle.breakthrough.specs.Through.{curve_at, no_curve}
 use Rattle.breakthrough.proofs.Fitted.{curve-ready}
 use Rattle.breakthrough.proofs.fitting.fit.Goals as goal
 
-pub loop-d-preserved : goal.loop-d-preserved
-loop-d-preserved c =
-    let l = c.loop-d in
-    let inside : l.d < length l.by_distance = omega (arith, l.invariant.long) in
-    record {
-      long = length-set l.by_distance l.d _ ∙ l.invariant.long;
-      each = below_more _ _ (λ k h. let other : k ≢ l.d = omega arith in rw get_or-set_other (l.invariant.each k h))
-          (rw get_or-set_same c.curve_of.ensures);
-    }
+-- the canister at a distance
+abbrev Fitted : goal.After-from_fn → ℕ → Curve → Type 0
+Fitted c d curve =
+    let row = c.args.row.row in
+    let line = line_at c.args.lines.now d in
+    CurveBy line.base line.growth (row_start row line.base line.growth) (tenth_grams row.saturation) c.args.vapour (loss_error row) curve
+
+made : (c : goal.After-from_fn) → (d : ℕ) → d < 25 → Fitted c d (curve_at c.from_fn.result d)
+made c = made_each _ _ (Fitted c) (λ i y q w. search rules) c.from_fn.ensures.items no_curve
 
 pub invariant_of-result : goal.invariant_of-result
-invariant_of-result c = record {
-  ready = λ d h. curve-ready (c.requires d h).curve-fits (c.loop-d.invariant.each d (omega arith));
-}
+invariant_of-result c = record { ready = λ d h. curve-ready (c.requires d h).curve-fits (made c d h) }
+
+pub returns : goal.returns
+returns c = made c.before

@@ -1,13 +1,12 @@
--- `breakthrough::fitting::lines` meets its contract: the first distances hold their lines.
-use Rattle.std.proofs.Common.{◌≢◌, ◌∙◌, ◌<◌, length, length-set, get_or-set_other, get_or-set_same, below_more, arith}
+-- `breakthrough::fitting::lines` meets its contract: at each distance stands its line.
+use Rattle.std.proofs.Common.{◌≡◌, ℕ, rules}
+use Rattle.numbers.specs.Lists.{at}
+use Rattle.numbers.proofs.Made.{made_each}
+use Rattle.starting_loads.specs.declared.loads.Line.{Line}
+use Rattle.breakthrough.specs.Lines.{line_of_warmth, no_line}
 use Rattle.breakthrough.proofs.fitting.lines.Goals as goal
 
-pub loop-d-preserved : goal.loop-d-preserved
-loop-d-preserved c =
-    let l = c.loop-d in
-    let inside : l.d < length l.lines = omega (arith, l.invariant.long) in
-    record {
-      long = length-set l.lines l.d _ ∙ l.invariant.long;
-      each = below_more _ _ (λ k h. let other : k ≢ l.d = omega arith in rw get_or-set_other (l.invariant.each k h))
-          (rw get_or-set_same c.line_of_warmth.ensures);
-    }
+pub returns : goal.returns
+returns c =
+    made_each _ _ (λ (d : ℕ) (line : Line). line ≡ line_of_warmth c.args.vp c.args.times (at c.args.warmths.now.by_distance d))
+    (λ i y q w. search rules) c.from_fn.ensures.items no_line

@@ -9,4 +9,4 @@ returns-then-row-lt-FIRST_KILOMETRES c = c.tenth_grams.ensures ∙ sym (start-wr
 pub returns : goal.returns
 returns c =
     let km = c.if-row-lt-FIRST_KILOMETRES.false in
-    rw (c.tenth_grams-2.ensures, c.args.loaded.kept_of.kept-is km c.requires.canister-there) at c.start.ensures ∙ sym (start-driven _ _ _ km)
+    rw (c.tenth_grams-saturation.ensures, c.args.loaded.kept_of.kept-is km c.requires.canister-there) at c.start.ensures ∙ sym (start-driven _ _ _ km)

@@ -5,5 +5,5 @@ use Rattle.parking.specs.SeasonList.{part}
 use Rattle.breakthrough.proofs.Listed.{each}
 use Rattle.breakthrough.proofs.losses.through_list.Given as goal
 
-abbrev pub invariant-loop-k : goal.invariant-loop-k
-invariant-loop-k l = l.sum ≡ lists.sum (part (each l.c.by_distance) l.list.entries) l.k
+abbrev pub invariant-loop-entry : goal.invariant-loop-entry
+invariant-loop-entry l = l.sum ≡ lists.sum (part (each l.c.by_distance) l.list.entries) l.entry-index

@@ -1,9 +1,8 @@
 -- `factor_table::table::factors` meets its contract: a refusal leaves the buffer, and an accepted call stores what is promised.
 use mathlib.Core.Path.{refl, sym, ◌∙◌}
-use lib.ListN.{length}
 use Rattle.refusals.proofs.Chain.{handed}
 use Rattle.inventory.specs.ReportCall.{written}
-use Rattle.inventory.proofs.CallConditions.{bytes-of, room-passed}
+use Rattle.inventory.proofs.CallConditions.{bytes-of, has-room}
 use Rattle.factor_table.specs.Factors.{factors_length, factors_check}
 use Rattle.factor_table.proofs.TablePromise.{factors-answer}
 use Rattle.factor_table.proofs.table.factors.Goals as goal
@@ -15,9 +14,7 @@ returns-in_err-sheet c =
     factors-answer (bytes-of c.type_inv.s) (refused ∙ sym (c.in_err-sheet.ensures factors_length (λ sheet n p. p.1))) (rw refused refl)
 
 pub all_factors-requires : goal.all_factors-requires
-all_factors-requires c =
-    let (same, passed) = c.in_ok-sheet.ensures factors_length (λ sheet n p. p.1) in
-    rw same (room-passed factors_length _ (length c.args.words.now) passed).1
+all_factors-requires c = has-room factors_length (c.in_ok-sheet.ensures factors_length (λ sheet n p. p.1))
 
 pub returns : goal.returns
 unfolding factors_check

@@ -1,7 +1,8 @@
 -- `map_cells::kinds::band_masses` meets its contract.
-use Rattle.std.proofs.Common.{lt-ltb}
-use Rattle.std.proofs.Common.{le-ltb}
+use Rattle.std.proofs.Common.{le-ltb, lt-ltb, arith}
+use borrow.Author.Tests.{leb-true, leb-false}
 use Rattle.std.proofs.lemmas.Result.{err_from_is_err_and}
+use Rattle.refusals.proofs.Chain.{applied, not_applied}
 use Rattle.map_cells.specs.Cells.{band_masses}
 use Rattle.map_cells.proofs.kinds.band_masses.Goals as goal
 
@@ -17,10 +18,20 @@ returns-in_err-high c =
     let p = err_from_is_err_and c.from_residual-in_err-high.result c.from_residual-in_err-high.ensures.1 in
     rw (p.1, p.2) (rw (c.in_ok-low.ensures, c.in_err-high.ensures.0), c.in_err-high.ensures.1)
 
-pub returns-then-low-high : goal.returns-then-low-high
+pub returns-in_err-refuse : goal.returns-in_err-refuse
 unfolding band_masses
-returns-then-low-high c = rw (c.in_ok-low.ensures, c.in_ok-high.ensures, lt-ltb _ _ c.if-low-high.true)
+returns-in_err-refuse c =
+    let p = err_from_is_err_and c.from_residual-in_err-refuse.result c.from_residual-in_err-refuse.ensures.1 in
+    let (wrong, why) = applied _ _ _ c.refuse.ensures c.in_err-refuse.was in
+    rw (p.1, p.2) (rw (c.in_ok-low.ensures, c.in_ok-high.ensures, le-ltb _ _ (leb-true _ _ wrong)), why)
 
-pub returns-else-low-high : goal.returns-else-low-high
+pub invariant_of-result : goal.invariant_of-result
+invariant_of-result c =
+    let right = leb-false _ _ (not_applied _ _ _ c.refuse.ensures c.in_ok-refuse.was) in
+    record { order = omega arith; limit = c.in_ok-high.field-0.limit }
+
+pub returns : goal.returns
 unfolding band_masses
-returns-else-low-high c = (rw (c.in_ok-low.ensures, c.in_ok-high.ensures, le-ltb _ _ c.if-low-high.false), c.cell_refusal.ensures)
+returns c =
+    let right = leb-false _ _ (not_applied _ _ _ c.refuse.ensures c.in_ok-refuse.was) in
+    rw (c.in_ok-low.ensures, c.in_ok-high.ensures, lt-ltb _ _ right)

@@ -25,4 +25,4 @@ loop-cell-preserved c = filled_more c.loop-cell.invariant (omega arith) refl
 
 pub returns : goal.returns
 returns c =
-    filled-all c.loop-cell.invariant (omega arith) ∙ products-tab _ _ c.requires.0 c.requires.1
+    filled-all c.loop-cell.invariant (omega arith) ∙ products-tab _ _ (omega arith) (omega arith)

@@ -1,8 +1,7 @@
 -- `report_sums::renewal::year_of` meets its contract: the figures are those of the first j seasons.
 -- Assumes nothing.
-use Rattle.std.proofs.Common.{◌≡◌, ◌∙◌, arith}
+use Rattle.std.proofs.Common.{◌∙◌, arith}
 use Rattle.numbers.proofs.Lists.{tab-length}
-use Rattle.sheet.specs.Bytes.{seasons_of}
 use Rattle.sheet.proofs.Accepted.{Bytes, accepted}
 use Rattle.report_sums.proofs.OneRow.{year-none, season-fits, season-more}
 use Rattle.report_sums.proofs.renewal.year_of.Goals as goal

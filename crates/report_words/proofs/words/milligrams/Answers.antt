@@ -1,6 +1,6 @@
 -- `report_words::words::milligrams` meets its contract: the product over 10⁹ fits.
 -- Assumes nothing.
-use Prim.Native.Nat.{◌*◌, ◌^◌, ◌≤◌}
+use Prim.Native.Nat.{◌^◌, ◌≤◌}
 use native.Mathlib.Nat.{mul-le-mul}
 use native.Mathlib.Omega.{arith}
 use Rattle.report_words.proofs.words.milligrams.Goals as goal

@@ -1,10 +1,7 @@
 -- `report_words::year::add_seasons` meets its contract: the words hold the first j seasons.
 -- Assumes nothing.
-use mathlib.Core.Path.{◌≡◌, refl}
 use native.Mathlib.Omega.{arith}
-use Rattle.sheet.specs.Bytes.{seasons_of}
 use Rattle.sheet.proofs.Accepted.{accepted}
-use Rattle.report_words.proofs.Filled.{filled-same}
 use Rattle.report_words.proofs.SeasonWords.{season-fits, season-stored}
 use Rattle.report_words.proofs.year.add_seasons.Goals as goal
 

@@ -19,10 +19,5 @@ returns c =
       large_is = λ d h. c.lines.ensures d h ∙ ap (line_of_warmth season.vp 1) (warmth d h);
       medium-is = λ d h. c.lines-2.ensures d h ∙ ap (line_of_warmth season.vp 2) (warmth d h);
       small_is = λ d h. c.lines-3.ensures d h ∙ ap (line_of_warmth season.vp 4) (warmth d h);
-      raise10-is = m.raise10-is;
-      raise15-is = m.raise15-is;
-      raise25-is = m.raise25-is;
-      raise35-is = m.raise35-is;
-      raise45-is = m.raise45-is;
-      raise60-is = m.raise60-is;
+      raises-are = m.raises-are;
     }

@@ -13,13 +13,13 @@ returns c =
       permeation-is = c.permeation_mean.ensures ∙ mean-ext _ (λ cell. ap (λ (x : ℕ). x / 2) (rates-in c.args.checked.in_range a.rate-is cell));
       soak-is = c.mean_by_distance.ensures ∙ mean-marks _ false _ (rates-alike _ 110) a.soak-is;
       run_is = c.mean_by_distance-2.ensures ∙ mean-marks _ true _ (rates-alike _ 150) a.run_is;
-      end10-is = c.mean_by_distance-3.ensures ∙ mean-marks _ true _ (raises-alike _ 10) a.raise10-is;
-      start15-is = c.mean_by_distance-4.ensures ∙ mean-marks _ false _ (raises-alike _ 15) a.raise15-is;
-      end25-is = c.mean_by_distance-5.ensures ∙ mean-marks _ true _ (raises-alike _ 25) a.raise25-is;
-      start35-is = c.mean_by_distance-6.ensures ∙ mean-marks _ false _ (raises-alike _ 35) a.raise35-is;
-      start45-is = c.mean_by_distance-7.ensures ∙ mean-marks _ false _ (raises-alike _ 45) a.raise45-is;
+      end10-is = c.mean_by_distance-3.ensures ∙ mean-marks _ true _ (raises-alike _ 10) a.raises-are.raise10-is;
+      start15-is = c.mean_by_distance-4.ensures ∙ mean-marks _ false _ (raises-alike _ 15) a.raises-are.raise15-is;
+      end25-is = c.mean_by_distance-5.ensures ∙ mean-marks _ true _ (raises-alike _ 25) a.raises-are.raise25-is;
+      start35-is = c.mean_by_distance-6.ensures ∙ mean-marks _ false _ (raises-alike _ 35) a.raises-are.raise35-is;
+      start45-is = c.mean_by_distance-7.ensures ∙ mean-marks _ false _ (raises-alike _ 45) a.raises-are.raise45-is;
       end50-is = c.mean_by_distance-8.ensures ∙ mean-marks _ true _ (raises-alike _ 50) a.raise50-is;
-      start60-is = c.mean_by_distance-9.ensures ∙ mean-marks _ false _ (raises-alike _ 60) a.raise60-is;
+      start60-is = c.mean_by_distance-9.ensures ∙ mean-marks _ false _ (raises-alike _ 60) a.raises-are.raise60-is;
     }
 
 pub mean_by_cell-requires : goal.mean_by_cell-requires

@@ -1,6 +1,5 @@
 -- `sheet_factors::sheet_rows::rows_kept` meets its contract: the first i rows have theirs.
-use Rattle.std.proofs.Common.{◌≢◌, ◌∙◌, ℕ, ◌<◌, length, length-set, get_or-set_other, get_or-set_same, below_more, arith}
-use Rattle.std.proofs.lemmas.List.{length-replicate}
+use Rattle.std.proofs.Common.{◌≢◌, ◌∙◌, ◌<◌, length, length-set, get_or-set_other, get_or-set_same, below_more, arith}
 use Rattle.sheet_factors.proofs.sheet_rows.rows_kept.Goals as goal
 
 pub loop-i-preserved : goal.loop-i-preserved

@@ -17,7 +17,7 @@ line-x-requires c =
 held : (c : goal.After-line-x) → c.line-x.result ≤ 16 * 2 ^ 53
 held c =
     let s = c.before in
-    omega (arith, c.line-x.ensures.0, s.requires.0.exponent-most, line-mono s.args.c.base s.args.c.growth s.requires.1)
+    omega (arith, c.line-x.ensures.0, s.requires.0.exponent-most, line-mono s.args.c.line.base s.args.c.line.growth s.requires.1)
 
 pub short-y-requires : goal.short-y-requires
 short-y-requires c = omega (arith, held c)
@@ -35,4 +35,4 @@ returns c =
     let a = m.args in
     let lost = o.short-y.ensures.0 ∙ ap short m.line-x.ensures.0 in
     c.min.ensures ∙
-    ap (λ (x : ℕ). min a.c.saturation (a.net + x)) (o.loss.ensures.0 ∙ ap (λ (y : ℕ). loss a.c.growth (y / 2 ^ 4)) lost)
+    ap (λ (x : ℕ). min a.c.saturation (a.net + x)) (o.loss.ensures.0 ∙ ap (λ (y : ℕ). loss a.c.line.growth (y / 2 ^ 4)) lost)

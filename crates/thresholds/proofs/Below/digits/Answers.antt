@@ -39,7 +39,7 @@ pub loop-found-preserved : goal.loop-found-preserved
 loop-found-preserved c =
     let l = c.loop-found in
     let n = next l.found (omega arith) in (
-      step c.args.self.kilometres c.args.self.whole l.found l.d n c.digit-d.ensures.0 ∙ l.invariant.0,
+      step c.args.self.mileage.kilometres c.args.self.whole l.found l.d n c.digit-d.ensures.0 ∙ l.invariant.0,
       rw n.after (omega (arith, l.invariant.1, n.bit-is, n.halves, c.digit-d.ensures.1)),
     )
 

@@ -12,10 +12,10 @@ left-fits M x m h = let l : x + near_error ≤ 2 ^ 44 = omega arith in omega (ar
 
 pub overflow_mul-result : goal.overflow_mul-result
 overflow_mul-result c =
-    let s = c.args.self in
+    let m = c.args.self.mileage in
     record {
       fits =
-          left-fits s.kilometres c.exponential-above.result s.in_limit
+          left-fits m.kilometres c.exponential-above.result m.in_limit
           (rw c.exponential-above.ensures.0 (exponential-size-1_41 (16 * 10 ^ 14 + c.args.d) (omega (arith, c.requires))));
     }
 

