@@ -11,13 +11,14 @@ import sys
 import threading
 import time
 import unittest
+from pathlib import Path
 from unittest import mock
 
 from desk_support import COMMAND, HAS_MODULES, HOST, NO_MODULES, Desk, ReservedPort
 from service_support import CHANGED, ServiceTestCase, Worker, asked, connected, head_of, is_closed, leave, status_of
 from support import DEFAULT_SIGNALS, LIBRARY, SAMPLES, TOP, DeskTestCase, least
 
-from evp.desk import command, ledger, store
+from evp.desk import command, ledger, memory, store
 from evp.desk.ending import Ending
 
 BREAKS = """
@@ -88,6 +89,21 @@ class EndingTest(ServiceTestCase):
         self.assertEqual(desk.process.wait(20), 2)
         self.assertIn("evp: stopped by a fault of the server, RuntimeError: the loop broke" + KEPT, desk.said)
         self.assertNotIn("Traceback", desk.said)
+
+    @unittest.skipUnless(sys.platform == "linux", "the map of a process is looked at")
+    def test_threads_share_memory(self):
+        """Eight participants at once: glibc keeps memory in two arenas, and not in one for each thread."""
+        desk = self.serve()
+        workers = [Worker(desk, who, 0.001) for who in range(1, 9)]
+        for worker in workers:
+            worker.start()
+        self.wait_for(lambda: all(len(worker.times) > 5 for worker in workers), 20, "no calls")
+        for worker in workers:
+            worker.stop()
+        maps = Path("/proc/%d/maps" % desk.process.pid).read_text().splitlines()
+        private = [int(line.partition("-")[0], 16) for line in maps if " rw-p 00000000 00:00 0" in line]
+        arenas = 1 + sum(not start % (64 * 2 ** 20) for start in private)  # the first is the heap of the process
+        self.assertLessEqual(arenas, memory.ARENAS)
 
     def test_log_that_nobody_reads(self):
         """Standard output and error may be closed while it serves."""

@@ -10,6 +10,7 @@ from evp import layout
 from evp.commands import SheetRefused, get_library
 from evp.desk.ending import Ending, Stopped, ignore_broken_pipes, log
 from evp.desk.ledger import MARKER, MOST_DIGITS, PARTICIPANTS, CourseLedger, new_person, open_first
+from evp.desk.memory import share_arenas
 from evp.desk.store import Opening, Store, create, files_of
 from evp.desk.supervisor import READY, STOPPING, notify
 from evp.desk.versions import difference, found_versions
@@ -282,6 +283,7 @@ def _serve(library: Library, given: Namespace, ending: Ending):
     from evp.desk.server import listening, server_of
     if given.ledger is None and not has_pages():
         raise InputError("there is nothing to serve: --ledger FILE names a ledger, --new SHEET makes one")
+    share_arenas()
     address = address_of(given)
     listener = listening(address, given.port)
     port, ledger = listener.getsockname()[1], None
