@@ -55,8 +55,8 @@ extern "C" {
 
 uint64_t evp_library_version(void);
 
-/* A thread whose whole stack has so many bytes can make every call: measured are at most 119,128, the thread's own
- * among them, for the calls that make a report or a factor, and at most 7,848 for all others. */
+/* A thread whose whole stack has so many bytes can make every call: measured are at most 117,448, the thread's own
+ * among them, for the calls that make a report or a factor, and at most 6,120 for all others. */
 #define EVP_STACK_BYTES 163840
 
 /* The longest sheet, of version 4 with 12 seasons and 1,000 rows, in bytes; and its report, in words. */

@@ -128,7 +128,7 @@ def bodies(code: str) -> dict[str, str]:
 
 def calls_of(function: str, code: str) -> int:
     """How often a function of the same file is called in a text."""
-    return len(re.findall(r"(?<![:\w])(?<!fn )%s\(" % function, code))
+    return len(re.findall(r"(?<![:\w])(?<!fn )%s(?:::<[^>]*>)?\(" % function, code))
 
 
 def writing(found: dict[str, str]) -> set[str]:
@@ -179,7 +179,8 @@ def shared_faults(text: str) -> Iterator[str]:
     output = "write_text::<STANDARD_OUTPUT, W>(&mut streams.out, text)"
     if len(re.findall(r"\bwrite_text\b", code)) != 2 or found["write_answer"].count(output) != 1:
         yield "program: `write_text` is called elsewhere than once in `write_answer`, for standard output"
-    for function, caller in (("write_answer", "answer"), ("answer", "print_sheet")):
+    for function, caller in (("write_answer", "write_sheet_text"), ("write_sheet_text", "answer"),
+                             ("answer", "print_sheet")):
         if calls_of(function, code) != 1 or calls_of(function, found[caller]) != 1 or LOOP.search(found[caller]):
             yield "program: `%s` is called elsewhere than once in `%s`, which has no loop" % (function, caller)
 

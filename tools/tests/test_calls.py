@@ -155,9 +155,14 @@ class Programs(unittest.TestCase):
                            ("        Ok(input) => answer(made, &input, text, streams),\n",
                             "        Ok(input) => {\n            answer(made, &input, text, streams);\n"
                             "            answer(made, &input, text, streams)\n        }\n"),
-                           ("    write_answer(T::NAME, status_of(sheet), &text[..end], streams)\n",
+                           ("    write_sheet_text::<T, W, E>(input, &text[..end], streams)\n",
+                            "    for _ in 0..2 {}\n    write_sheet_text::<T, W, E>(input, &text[..end], streams)\n"),
+                           ("    write_sheet_text::<T, W, E>(input, &text[..end], streams)\n",
+                            "    write_sheet_text::<T, W, E>(input, &text[..end], streams);\n"
+                            "    write_sheet_text::<T, W, E>(input, &text[..end], streams)\n"),
+                           ("    write_answer(T::NAME, status_of(input.bytes), text, streams)\n",
                             "    for _ in 0..2 {}\n"
-                            "    write_answer(T::NAME, status_of(sheet), &text[..end], streams)\n")):
+                            "    write_answer(T::NAME, status_of(input.bytes), text, streams)\n")):
             self.assertEqual(text.count(old), 1, old)
             self.assertNotEqual(list(calls.shared_faults(text.replace(old, wrong))), [], wrong)
 

@@ -19,12 +19,15 @@ struct Allowance {
     ghost room_fits: { room ≤ 352000000 },
 }
 
+// More than any room, so that every growth but 0 makes too much of it, as it does of all that is more.
+const BEYOND: u64 = 352000001;
+
 impl Allowance {
-    // m is too much. A product that saturates is above every room.
+    // m is too much.
     fn is_exceeded(self, m: u64) -> bool
         ensures { result ≡ ltb self.room (self.growth * m) }
     {
-        self.room < self.growth.saturating_mul(m)
+        self.room < self.growth * m.min(BEYOND)
     }
 
     // The largest m that is not; none where each is allowed.

@@ -20,7 +20,8 @@ use sheet_factors::sheet_rows::SheetRows;
 // Words for each row: the low and the high of seven factors.
 const BAND_WORDS: usize = 14;
 
-// One season, prepared once for all rows, into a buffer of its size.
+// One season, prepared once for all rows, into a buffer of its size. Not inlined, so that its arrays take stack only while it runs.
+#[inline(never)]
 fn season_factors(loaded: &SheetRows, j: usize, words: &mut [u64])
     requires { (j < seasons_of loaded.now.sheet.sheet.bytes.now) × (length words.old ≡ 14 * rows_of loaded.now.sheet.sheet.bytes.now) }
     ensures { words.new ≡ season_factors loaded.now.sheet.sheet.bytes.now j }

@@ -45,9 +45,12 @@ impl Band {
     }
 }
 
+// What the call for a factor answers: its band, or why it is refused.
+pub type FactorAnswer = Result<Band, Refusal>;
+
 // One factor, 1 to 7, of a season and a row, counted from 0, in micrograms. Document 01 leaves low and high open within
 // the bounds that are promised here; the answer is also a function of the bytes and the three numbers.
-pub fn factor(s: &[u8], season: u64, row: u64, k: u64) -> Result<Band, Refusal>
+pub fn factor(s: &[u8], season: u64, row: u64, k: u64) -> FactorAnswer
     ensures { FactorCall s.now season row k result }
 {
     let asked = AskedRow::of(s, season, row)?;

@@ -18,6 +18,9 @@ pub enum Cell {
     Band(f64, f64),
 }
 
+// What the sum of two cells answers: a cell, or why it is refused.
+pub type CellAnswer = Result<Cell, Refusal>;
+
 // Why a cell, a mass of it or a sum is refused.
 pub fn cell_refusal() -> Refusal
     ensures { result ≡ cell_refusal }

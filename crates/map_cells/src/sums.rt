@@ -3,13 +3,13 @@ ghost use Rattle.std.specs.Prelude.{◌≡◌, Some};
 ghost use Rattle.map_cells.specs.Sums.{masses_sum, cell_sum};
 ghost use Rattle.map_cells.specs.Promise.{SumPromise};
 
-use crate::Cell;
 use crate::doubles::{MASS_LIMIT, WholeMass, add_whole};
 use crate::kinds::{Limits, Masses};
+use crate::{Cell, CellAnswer};
 use refusals::{Refusal, Rule, refuse};
 
 // Lows and highs, added as doubles.
-fn add_masses(a: Masses, b: Masses) -> Result<Cell, Refusal>
+fn add_masses(a: Masses, b: Masses) -> CellAnswer
     ensures { result ≡ masses_sum (Some (a.low, a.high)) (Some (b.low, b.high)) }
 {
     refuse(MASS_LIMIT < a.high + b.high, Rule::Cell, 0)?;
@@ -25,7 +25,7 @@ fn add_masses(a: Masses, b: Masses) -> Result<Cell, Refusal>
 }
 
 // The sum of two cells handed in, or a refusal.
-pub fn add_cells(a: Cell, b: Cell) -> Result<Cell, Refusal>
+pub fn add_cells(a: Cell, b: Cell) -> CellAnswer
     ensures { (result ≡ cell_sum a b) × SumPromise a b result }
 {
     let first = Masses::try_from(a)?;

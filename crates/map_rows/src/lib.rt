@@ -25,8 +25,11 @@ pub type RoadLimits = Roads<Limits>;
 // The three cells of one row.
 pub type RowCells = Roads<Cell>;
 
+// What the call for the cells of a row answers: the three, or why they are refused.
+pub type RowCellsAnswer = Result<RowCells, Refusal>;
+
 // The cells of a row, or a refusal: 28 before 27.
-pub fn cells_of_row(w: Words, t: Travel) -> Result<RowCells, Refusal>
+pub fn cells_of_row(w: Words, t: Travel) -> RowCellsAnswer
     ensures { (result ≡ row_cells_answer w t) × RowCellsPromise w t result }
 {
     let travel = CheckedTravel::try_from(t)?;

@@ -4,6 +4,7 @@
 ghost use Rattle.std.specs.Prelude.{◌≡◌, ℕ, ◌+◌, ◌*◌, ◌-◌, ◌%◌, ◌^◌, ◌<◌, ◌≤◌};
 ghost use Rattle.numbers.specs.Lists.{tab, at};
 ghost use Rattle.numbers.specs.Bounded.{AllAtMost};
+ghost use Rattle.bounds.specs.Ahead.{ahead};
 ghost use Rattle.bounds.specs.Weights.{apart};
 ghost use Rattle.sheet.specs.Limits.{vp_limit};
 ghost use Rattle.sheet.specs.Range.{warmth_limit, mark_warmth};
@@ -12,7 +13,7 @@ ghost use Rattle.marks.specs.Marks.{pressure_factor};
 
 use crate::warmths::{Raises, Warmths};
 use bounds::exp::{ZERO, exponential};
-use bounds::hours::{apart, weights_table};
+use bounds::hours::{WARMEST, apart, weights_table};
 use fields::range::CheckedSeason;
 use fields::warmth;
 use std::array;
@@ -88,6 +89,13 @@ fn season_temperatures(checked: CheckedSeason) -> [u64; 48]
     let lowest = warmth(checked.season.lowest);
     let span = warmth(checked.season.highest) - lowest;
     temperatures(lowest, span, weights_table())
+}
+
+// Of values by mark those of the marks before 14:00, by distance from it.
+pub fn by_distance(values: &[u64; 48]) -> [u64; 25]
+    ensures { result ≡ tab (λ (d : ℕ). at values.now (ahead d)) 25 }
+{
+    array::from_fn(|d| values[WARMEST - d])
 }
 
 // At each mark the value of its distance from 14:00.

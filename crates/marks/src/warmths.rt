@@ -5,9 +5,9 @@ ghost use Rattle.numbers.specs.Bounded.{AllAtMost};
 ghost use Rattle.bounds.specs.Ahead.{ahead};
 ghost use Rattle.marks.specs.Marks.{heat, raised_error, bracket_units};
 
+use crate::by_distance;
 use bounds::exp::exponential;
 use bounds::fixed::mul_shift;
-use bounds::hours::WARMEST;
 use bounds::power::power;
 use std::array;
 
@@ -71,7 +71,7 @@ impl Warmths {
         ensures { result.by_distance ≡ tab (λ (d : ℕ). at temperatures.now (ahead d)) 25 }
     {
         Warmths {
-            by_distance: array::from_fn(|d| temperatures[WARMEST - d]),
+            by_distance: by_distance(temperatures),
         }
     }
 

@@ -14,3 +14,6 @@ pub enum PoolRefusal {
     // Both pass, and the two together are refused: a check of the pooled sheet has its place there.
     Pooled(Refusal),
 }
+
+// What pooling answers: the pooled sheet is written, or why it is not.
+pub type PoolAnswer = Result<(), PoolRefusal>;

@@ -33,12 +33,15 @@ fn bytes_differ(a: &[u8], b: &[u8], n: usize) -> bool
     a[GRID_START..end] != b[GRID_START..end]
 }
 
-// Bytes in place of those from a place on.
+// Bytes in place of those from a place on. One after another and not by `copy_from_slice`, which would be the one thing for which the archive for
+// C needs `memmove` of its host.
 fn put(out: &mut [u8], place: usize, bytes: &[u8])
     requires { place + length bytes.now ≤ length out.old }
     ensures { out.new ≡ sets out.old place bytes.now }
 {
-    out[place..place + bytes.len()].copy_from_slice(bytes);
+    for (i, &byte) in bytes.iter().enumerate() {
+        out[place + i] = byte;
+    }
 }
 
 impl<'a> Pair<'a> {

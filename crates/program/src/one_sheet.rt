@@ -36,6 +36,21 @@ fn status_of(s: &[u8]) -> Status
     Status::from(report_check(s, WORDS))
 }
 
+// Writes what `requires` says and nothing else: the text of the sheet that was read.
+fn write_sheet_text<T: SheetText, W: Write, E: Write>(
+    input: &Input,
+    text: &[u8],
+    streams: &mut Streams<W, E>,
+) -> Status
+    requires { (input.now.source ≡ 1) × (text.now ≡ T.text_of input.now.bytes.now) }
+    ensures ran { Ends T.text_of (status_number result) }
+    ensures printed { SheetPrinted input.now.bytes.now (T.text_of input.now.bytes.now)
+        (W.contents streams.old.out) (W.contents streams.new.out) (status_number result) }
+    ensures silent { status_number result ≢ 2 → Keeps (E.contents streams.old.err) (E.contents streams.new.err) }
+{
+    write_answer(T::NAME, status_of(input.bytes), text, streams)
+}
+
 // Makes the text of the sheet that was read into a buffer and writes it, in one piece.
 fn answer<T: SheetText, W: Write, E: Write>(
     made: &T,
@@ -50,9 +65,8 @@ fn answer<T: SheetText, W: Write, E: Write>(
     ensures silent { status_number result ≢ 2 → Keeps (E.contents streams.old.err) (E.contents streams.new.err) }
 {
     let mut words = [0u64; WORDS];
-    let sheet = input.bytes;
-    let end = made.put(sheet, &mut words, text);
-    write_answer(T::NAME, status_of(sheet), &text[..end], streams)
+    let end = made.put(input.bytes, &mut words, text);
+    write_sheet_text::<T, W, E>(input, &text[..end], streams)
 }
 
 // The whole program, with a buffer for its text; what it returns is the exit status.

@@ -34,6 +34,7 @@ pub trait Sources {
 // Reads source i until the buffer is full or the input ends.
 fn read<'b, R: Read>(from: &mut R, i: usize, buffer: &'b mut [u8]) -> io::Result<Input<'b>>
     ensures source { IfOk result (λ input. input.source ≡ i) }
+    ensures unread { OnErr result (Unread i) }
     ensures known { IfOk result (λ input. IfSome (R.remaining from.old) (λ xs. Takes xs (length buffer.old) input.bytes.now)) }
 {
     let mut done: usize = 0;
@@ -60,8 +61,9 @@ fn reason<A: Allocator>(alloc: A, error: &io::Error) -> Result<String<A>, AllocE
     Ok(text)
 }
 
-// Says on standard error why source i is not read.
+// Says on standard error why source i is not read. That it is not, its callers know, each of its own place.
 fn fail<D: Display + Drop, E: Write>(i: usize, why: D, err: &mut E) -> NotRead
+    requires { Unread i }
     ensures { Unread i }
 {
     let _ = write!(err, "{why}");
@@ -119,6 +121,7 @@ impl<R: Alloc> Program<'_, R> {
         error: &io::Error,
         err: &mut E,
     ) -> NotRead
+        requires { Unread i }
         ensures { Unread i }
     {
         let name = self.name;

@@ -82,8 +82,8 @@ fn lines_of(day: &Day, canister: Option<Canister>) -> [Line; 25]
 impl SeasonRows<'_> {
     // Grams of vapour for a rise of 1 in E(0.0716 T).
     fn gain(&self, row: Row) -> u64
-        requires { RowInRange self.now.at.season row }
-        ensures { (result ≡ gain self.now.at.season row) × (result ≤ 36 * 2 ^ 40) }
+        requires { RowInRange self.now.at.now.season row }
+        ensures { (result ≡ gain self.now.at.now.season row) × (result ≤ 36 * 2 ^ 40) }
     {
         let vapour = exponential(VAPOUR_EXPONENT * self.at.season.vp + ZERO);
         (100 - row.fill) * row.tank * vapour / 40000
@@ -91,7 +91,7 @@ impl SeasonRows<'_> {
 
     // The mean rise in a parking, and those of its raises.
     fn rises(&self, kind: Kind) -> Escapes
-        ensures { RisesOf self.now.at.season self.now.grid.now.cells.counts kind result }
+        ensures { RisesOf self.now.at.now.season self.now.grid.now.cells.counts kind result }
     {
         let m = &self.at.means;
         match kind {
@@ -114,8 +114,8 @@ impl SeasonRows<'_> {
 
     // The row's canister.
     fn fitted(&self, row: LoadedRow) -> Curves
-        requires { RowReady self.now.grid.now.cells.counts self.now.list.now self.now.at.season row.row × (0 < halves row.row.canister) }
-        ensures { CurvesOf self.now.at.season row.row result.by_distance }
+        requires { RowReady self.now.grid.now.cells.counts self.now.list.now self.now.at.now.season row.row × (0 < halves row.row.canister) }
+        ensures { CurvesOf self.now.at.now.season row.row result.by_distance }
     {
         let lines = lines_of(&self.at.day, row.row.canister);
         let vapour = self.gain(row.row);
@@ -132,8 +132,8 @@ impl SeasonRows<'_> {
 
     // With canister. From a car with one nothing escapes on a trip.
     fn canister_escapes(&self, kind: Kind, row: LoadedRow) -> Escapes
-        requires { RowReady self.now.grid.now.cells.counts self.now.list.now self.now.at.season row.row × (0 < halves row.row.canister) }
-        ensures { EscapesOf self.now.at.season row.row self.now.grid.now.cells.counts kind result }
+        requires { RowReady self.now.grid.now.cells.counts self.now.list.now self.now.at.now.season row.row × (0 < halves row.row.canister) }
+        ensures { EscapesOf self.now.at.now.season row.row self.now.grid.now.cells.counts kind result }
     {
         let c = self.fitted(row);
         let raises = &self.at.day.raises;
@@ -158,8 +158,8 @@ impl SeasonRows<'_> {
 
     // With or without canister.
     pub(crate) fn escapes(&self, kind: Kind, row: LoadedRow) -> Escapes
-        requires { RowReady self.now.grid.now.cells.counts self.now.list.now self.now.at.season row.row }
-        ensures { EscapesOf self.now.at.season row.row self.now.grid.now.cells.counts kind result }
+        requires { RowReady self.now.grid.now.cells.counts self.now.list.now self.now.at.now.season row.row }
+        ensures { EscapesOf self.now.at.now.season row.row self.now.grid.now.cells.counts kind result }
     {
         match row.row.canister {
             None => {

@@ -49,7 +49,8 @@ pub struct Day {
 #[derive(Clone, Copy)]
 pub struct AtSeason {
     pub season: Season,
-    // No row reads them. Document 01 names this form: two arrays by value, made once a season and passed to the functions of a factor.
+    // No row reads them here: `SeasonRows` has them by value, as document 01 names the form, two arrays made once a season and passed to the
+    // functions of a factor.
     pub marks: Marks,
     pub day: Day,
     pub means: Means,

@@ -45,10 +45,12 @@ impl Kind {
 }
 
 impl SeasonRows<'_> {
-    // The seven factors of a row. It takes the season by value, with the two arrays of its marks, as document 01 has it.
+    // The seven factors of a row. It takes the season by value, with the two arrays of its marks, as document 01 has it. Inlined, so that what no
+    // row reads of them is not copied for each.
+    #[inline(always)]
     pub fn units(self, row: LoadedRow) -> Units
-        requires { RowReady self.grid.now.cells.counts self.list.now self.at.season row.row }
-        ensures { result.factors ≡ seven_units self.entry.at.season row.row self.entry.grid.now.cells.counts }
+        requires { RowReady self.grid.now.cells.counts self.list.now self.at.now.season row.row }
+        ensures { result.factors ≡ seven_units self.entry.at.now.season row.row self.entry.grid.now.cells.counts }
     {
         let kind = Kind::of(row.row.class);
         let escapes = self.escapes(kind, row);

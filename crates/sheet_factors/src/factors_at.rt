@@ -36,7 +36,8 @@ pub fn units_with(sheet: &GridSheet, season: usize, i: usize, row: LoadedRow) ->
     let rows = SeasonRows {
         grid: &sheet.grid,
         list: &list,
-        at: prepared.at,
+        marks: prepared.at.marks,
+        at: &prepared.at,
     };
     rows.units(row)
 }

@@ -84,14 +84,15 @@ impl<'a> SheetRows<'a> {
         let in_season = SeasonRows {
             grid: &sheet.grid,
             list: &list,
-            at: season.at,
+            marks: season.at.marks,
+            at: &season.at,
         };
         let fill_row = |i: usize, part: &mut [u64]|
             requires { let row = row_at self.now.sheet.sheet.bytes.now i in let counts = in_season.grid.now.cells.counts in
-                (i < rows_of self.now.sheet.sheet.bytes.now) × RowReady counts in_season.list.now in_season.at.season row
-                × AcceptsRow F.Fn fill row (seven_units in_season.at.season row counts) part.now }
+                (i < rows_of self.now.sheet.sheet.bytes.now) × RowReady counts in_season.list.now in_season.at.now.season row
+                × AcceptsRow F.Fn fill row (seven_units in_season.at.now.season row counts) part.now }
             ensures { let row = row_at self.entry.now.sheet.sheet.bytes.now i in ChangesRow F.Fn fill row
-                (seven_units in_season.entry.at.season row in_season.entry.grid.now.cells.counts) part.entry.now part.exit.now }
+                (seven_units in_season.entry.at.now.season row in_season.entry.grid.now.cells.counts) part.entry.now part.exit.now }
         {
             let loaded = self.row(i);
             let units = in_season.units(loaded);

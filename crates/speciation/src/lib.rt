@@ -5,8 +5,6 @@ ghost use Rattle.std.specs.Prelude.{◌≡◌, ◌+◌, ◌-◌, ◌≤◌};
 ghost use Rattle.speciation.specs.Table.{shares};
 ghost use Rattle.speciation.specs.Split.{all_shares, part_of, species_masses, SpeciesPromise};
 
-use bounds::fixed::mul_add_div;
-
 // Table 3-14 in printed order, in hundredths of a percent.
 static SHARES: [u64; 29] = [
     // alkanes
@@ -22,12 +20,13 @@ static SHARES: [u64; 29] = [
 // What they sum to, and so what a share is out of.
 const ALL_SHARES: u64 = 10001;
 
-// The whole part of total · c / 10,001.
+// The whole part of total · c / 10,001. Since c is at most 10,001, each product fits. Not by `mul_add_div` of bounds, which cuts so too: this
+// crate stands on `numbers` alone.
 fn part_of(total: u64, c: u64) -> u64
     requires { c ≤ all_shares }
     ensures { result ≡ part_of total c }
 {
-    mul_add_div(total, c, 0, ALL_SHARES)
+    total / ALL_SHARES * c + total % ALL_SHARES * c / ALL_SHARES
 }
 
 // What a species gets, from the sum of the shares before it and its own.

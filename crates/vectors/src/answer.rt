@@ -27,10 +27,11 @@ impl From<Check> for Answer {
     }
 }
 
-// The answer that a number and a place of an input stand for: both are 0 where the sheet is accepted.
+// The answer that a number and a place of an input stand for: both are 0 where the sheet is accepted. A place beside number 0 is of no answer
+// that a call gives, and is kept as that of a refusal with number 0.
 impl From<(u64, u64)> for Answer {
     fn from((number, place): (u64, u64)) -> Answer {
-        if number == 0 {
+        if (number == 0) & (place == 0) {
             return Answer(Ok(()));
         }
         Answer(Err(Refusal { number, place }))
@@ -38,6 +39,14 @@ impl From<(u64, u64)> for Answer {
 }
 
 impl Answer {
+    // The same, where number 0 stands for an accepted sheet whatever the place is
+    pub fn by_number(number: u64, place: u64) -> Answer {
+        if number == 0 {
+            return Answer(Ok(()));
+        }
+        Answer(Err(Refusal { number, place }))
+    }
+
     // The number of a refusal, 0 where the sheet is accepted
     pub fn number(self) -> u64 {
         self.0.err().map_or(0, |refusal| refusal.number)
@@ -46,6 +55,9 @@ impl Answer {
 
 impl fmt::Display for Refusal {
     fn fmt<W: fmt::Write>(&self, f: &mut fmt::Formatter<W>) -> fmt::Result {
+        if self.number == 0 {
+            return f.write_str("accepted");
+        }
         write!(f, "refused {} at {}", self.number, self.place)
     }
 }

@@ -3,7 +3,10 @@ use crate::items::item_at;
 use std::io;
 use std::io::Read;
 
-// Hands on the bytes of standard input.
+// The most bytes that are read of an input, which may be longer or have no end
+const MOST: u64 = 524288;
+
+// Hands on the bytes of standard input, as far as they are read.
 pub fn with_bytes<R: Input + Alloc, F: FnOnce(&[u8]) -> io::Result<()>>(
     rt: &R,
     hold: F,
@@ -11,8 +14,13 @@ pub fn with_bytes<R: Input + Alloc, F: FnOnce(&[u8]) -> io::Result<()>>(
     requires { F.IsAlwaysCallable hold }
 {
     let mut bytes = Vec::new(rt.alloc());
-    rt.reader().read_to_end(&mut bytes)?;
+    rt.reader().take(MOST).read_to_end(&mut bytes)?;
     hold(&bytes)
+}
+
+// The line of an input that is cut before its first vector
+pub fn print_no_count(rt: &impl Print) -> io::Result<()> {
+    println!(rt; "the input has no count")
 }
 
 // A line where the input says that it has another number of vectors than were tried; `what` says of which kind they are.
@@ -33,7 +41,7 @@ fn hold_counted<R: Print, F: FnOnce(&[u8]) -> io::Result<u64>>(
     requires { F.IsAlwaysCallable tried }
 {
     let Some((count, vectors)) = input.split_first_chunk() else {
-        return println!(rt; "the input has no count");
+        return print_no_count(rt);
     };
     print_count(rt, tried(vectors)?, u32::from_le_bytes(*count).into(), what)
 }
@@ -58,8 +66,14 @@ const ROW: usize = 24;
 
 const MILEAGE: usize = 20;
 
+// The most rows that a sheet can have; bytes behind them are none of a row.
+const ROWS: usize = 1000;
+
 // The mileage of a row of a sheet, counted from 0, where the sheet has that row
 fn mileage(sheet: &[u8], row: usize) -> Option<u32> {
+    if ROWS <= row {
+        return None;
+    }
     let seasons: u8 = item_at(sheet, 5)?;
     let (rows, _) = sheet
         .get(SEASONS + SEASON * usize::from(seasons)..)?

@@ -54,6 +54,11 @@ impl<'a> Rest<'a> {
         self.bytes.is_empty().then_some(vectors)
     }
 
+    // All bytes that are left
+    pub fn left(self) -> &'a [u8] {
+        self.bytes
+    }
+
     // As many bytes as an array has
     fn chunk<const N: usize>(&mut self) -> Option<[u8; N]>
         ensures { IsSome result → length self.new.bytes.now + N ≡ length self.old.bytes.now }

@@ -2,6 +2,7 @@
 use crate::band::Band;
 use crate::items::{Item, Rest};
 use crate::tally::Verdict;
+use std::fmt;
 
 // The widths allowed: 2 mg, and a hundredth of a milligram for each time that a factor counts
 const ENDS: u64 = 2;
@@ -53,6 +54,18 @@ impl<'a> Item<'a> for Row {
             soak: input.item()?,
             running: input.item()?,
         })
+    }
+}
+
+// A mass is printed as its number among those of a row.
+impl fmt::Display for Kind {
+    fn fmt<W: fmt::Write>(&self, f: &mut fmt::Formatter<W>) -> fmt::Result {
+        let number = match self {
+            Kind::Diurnal => "0",
+            Kind::Soak => "1",
+            Kind::Running => "2",
+        };
+        write!(f, "mass {number}")
     }
 }
 

@@ -16,6 +16,9 @@ use vectors::tally::{Tally, Verdict};
 // vector for each exponent, and one for each temperature.
 const VECTOR: usize = 24;
 
+// The most exponents, or temperatures, in an input
+const MOST: u64 = 1000;
+
 // z = 1 / 4096 and 1 / 16, as an exponent is held
 const FINE_STEP: u64 = 1600024414062500;
 
@@ -153,11 +156,14 @@ fn print_ranges(rt: &impl Print, s: &[u8]) -> io::Result<()> {
     Ok(())
 }
 
-// The exponents and the temperatures, where the input is of the length that it says
+// The exponents and the temperatures, where they are not too many and the input is of the length that it says
 fn parts_of(input: &[u8]) -> Option<(&[u8], &[u8])> {
     let mut rest = Rest::of(input);
     let exponents = rest.item()?;
     let temperatures = rest.item()?;
+    if (MOST < exponents) || (MOST < temperatures) {
+        return None;
+    }
     Some((
         rest.vectors(exponents, VECTOR)?,
         rest.last(temperatures, VECTOR)?,

@@ -16,6 +16,12 @@ const CALL: usize = 56;
 
 const LAST_FACTOR: u64 = 7;
 
+// The numbers before and behind those of the factors. Of the calls that are to be accepted, those for them count with the calls to be refused, and
+// with those of rows with a mileage.
+const BEFORE_FACTORS: u64 = 0;
+
+const BEHIND_FACTORS: u64 = LAST_FACTOR + 1;
+
 // The calls that are counted together: those to be refused, those for a factor, or those for any factor of a row with a mileage
 #[derive(Clone, Copy, Debug, PartialEq, Eq)]
 enum Kind {
@@ -65,10 +71,15 @@ impl<'a> Item<'a> for Vector<'a> {
 impl Kind {
     // Whether a call on a sheet is of this kind
     fn has(self, sheet: &[u8], call: Call) -> bool {
+        if call.expected.0.is_err() {
+            return self == Kind::Refused;
+        }
         match self {
-            Kind::Refused => call.expected.0.is_err(),
-            Kind::Factor(factor) => call.expected.0.is_ok() & (call.factor == factor),
-            Kind::Driven => call.expected.0.is_ok() && has_mileage(sheet, call.row as usize),
+            Kind::Refused => call.factor == BEFORE_FACTORS,
+            Kind::Factor(factor) => call.factor == factor,
+            Kind::Driven => {
+                (call.factor == BEHIND_FACTORS) || has_mileage(sheet, call.row as usize)
+            }
         }
     }
 }
@@ -156,13 +167,14 @@ fn report_factors(rt: &impl Print, vectors: &[u8]) -> io::Result<Tally> {
     })
 }
 
-// The lines of the factors, and that of the refusals; how many calls they count. A call that is cut off, or of an accepted factor that is none of
-// the seven, is missing; the count that the input gives shows it.
+// The lines of the factors, and that of the refusals; how many calls they count. A call that is cut off, or is to be accepted for a factor that is
+// none of the seven, and not 0, is missing; the count that the input gives shows it. The line of the rows with a mileage ends after their pass.
 fn print_all(rt: &impl Print, vectors: &[u8]) -> io::Result<u64> {
     let factors = report_factors(rt, vectors)?;
     println!(rt; "factors: {}", Factors(factors))?;
+    print!(rt; "rows with a mileage")?;
     let driven = tally_kind(rt, vectors, Kind::Driven)?;
-    println!(rt; "rows with a mileage: {}", Factors(driven))?;
+    println!(rt; ": {}", Factors(driven))?;
     let refused = tally_kind(rt, vectors, Kind::Refused)?;
     println!(rt; "refused calls {}", refused.counts("alike"))?;
     Ok((factors + refused).tried)

@@ -11,26 +11,39 @@ const WIDTH: u64 = 10;
 // More micrograms than any factor has
 const MOST: u64 = 4503599627370496;
 
-// The factor's band, or where the call is refused
+// The factor's band where the call is accepted, and the place beside it, which is 0 in each reply that the call gives
 #[derive(Clone, Copy, Debug, PartialEq, Eq)]
-pub struct Reply(pub Result<Band, Refusal>);
+pub struct Factor {
+    band: Band,
+    place: u64,
+}
+
+// The factor, or where the call is refused
+#[derive(Clone, Copy, Debug, PartialEq, Eq)]
+pub struct Reply(pub Result<Factor, Refusal>);
 
 // The reply that is expected; its band is that of the exact factor in nanograms.
 impl<'a> Item<'a> for Reply {
     fn read(input: &mut Rest<'a>) -> Option<Reply> {
         let (number, place): (u64, u64) = (input.item()?, input.item()?);
-        let band: Band = input.item()?;
-        Some(Reply(Answer::from((number, place)).0.and(Ok(band))))
+        let factor = Factor {
+            band: input.item()?,
+            place,
+        };
+        Some(Reply(Answer::by_number(number, place).0.and(Ok(factor))))
     }
 }
 
 impl From<Result<inventory::Band, refusals::Refusal>> for Reply {
     fn from(found: Result<inventory::Band, refusals::Refusal>) -> Reply {
-        let band = found.map(|band| Band {
-            low: band.low,
-            high: band.high,
+        let factor = found.map(|band| Factor {
+            band: Band {
+                low: band.low,
+                high: band.high,
+            },
+            place: 0,
         });
-        Reply(band.map_err(Refusal::from))
+        Reply(factor.map_err(Refusal::from))
     }
 }
 
@@ -52,7 +65,9 @@ fn of_band(band: Band, exact: Band) -> Verdict {
 impl Reply {
     pub fn verdict(self, expected: Reply) -> Verdict {
         match (self.0, expected.0) {
-            (Ok(band), Ok(exact)) => of_band(band, exact),
+            (Ok(factor), Ok(exact)) if factor.place == exact.place => {
+                of_band(factor.band, exact.band)
+            }
             (found, expected) => Verdict::from(found == expected),
         }
     }
@@ -60,7 +75,7 @@ impl Reply {
     // Words and the reply, its band in a unit
     pub fn print(self, rt: &impl Print, words: &str, unit: &str) -> io::Result<()> {
         match self.0 {
-            Ok(band) => print!(rt; "{words}{band}{unit}"),
+            Ok(factor) => print!(rt; "{words}{}{unit}", factor.band),
             Err(refusal) => print!(rt; "{words}{refusal}"),
         }
     }

@@ -31,11 +31,11 @@ impl Pass {
     }
 }
 
-// An opening, and a line where it is not right; ledgers are counted from 1.
+// An opening, and a line where it is not right, which has 0 in the place of the number of a call; ledgers are counted from 1.
 fn with_opening(rt: &impl Print, ledger: u64, opened: Opened) -> io::Result<Tally> {
     Tally::of(
         opened.is_right(),
-        || println!(rt; "ledger {ledger} opening is answered or left otherwise"),
+        || println!(rt; "ledger {ledger} opening 0 is answered or left otherwise"),
     )
 }
 

@@ -3,6 +3,7 @@ ghost use Rattle.std.specs.Prelude.{◌≤◌};
 
 use ledger::Call;
 use vectors::answer::Answer;
+use vectors::bytes::LONGEST;
 use vectors::items::{Item, Rest};
 use vectors::words::{OLD, WORDS};
 
@@ -24,7 +25,7 @@ pub struct Asked {
     count: Option<Count>,
 }
 
-// A sheet that is opened in so many words, the answer that is expected, and the calls on it
+// A sheet, as much of it as the longest has, that is opened in so many words, the answer that is expected, and the calls on it
 #[derive(Clone, Copy)]
 pub struct Opened<'a> {
     pub room: usize,
@@ -54,8 +55,8 @@ impl<'a> Item<'a> for Asked {
             vehicles: input.item()?,
         };
         Some(Asked {
-            call: call_of(kind, row, vehicles)?,
-            answer: (number.into(), place.into()).into(),
+            call: call_of(kind, row, vehicles),
+            answer: Answer::by_number(number.into(), place.into()),
             count: (at != 0).then_some(count),
         })
     }
@@ -65,21 +66,21 @@ impl<'a> Item<'a> for Opened<'a> {
     fn read(input: &mut Rest<'a>) -> Option<Opened<'a>> {
         let (bytes, calls): (u16, u16) = (input.item()?, input.item()?);
         let (room, number, place): (u16, u16, u16) = (input.item()?, input.item()?, input.item()?);
+        let sheet = input.part(bytes.into())?;
         Some(Opened {
             room: WORDS.min(room.into()),
-            answer: (number.into(), place.into()).into(),
-            sheet: input.part(bytes.into())?,
+            answer: Answer::by_number(number.into(), place.into()),
+            sheet: &sheet[..sheet.len().min(LONGEST)],
             calls: input.part(CALL * usize::from(calls))?,
         })
     }
 }
 
-// An arrival, 0, or a departure, 1. No `TryFrom`, since the type is not of this crate
-fn call_of(kind: u8, row: u64, vehicles: u64) -> Option<Call> {
+// An arrival, 0, or else a departure
+fn call_of(kind: u8, row: u64, vehicles: u64) -> Call {
     match kind {
-        0 => Some(Call::Arrival(row, vehicles)),
-        1 => Some(Call::Departure(row, vehicles)),
-        _ => None,
+        0 => Call::Arrival(row, vehicles),
+        _ => Call::Departure(row, vehicles),
     }
 }
 

@@ -11,15 +11,20 @@ use evaporation::map::{evp_add_cells, evp_cells_of_row};
 use map_shares::{Mileages, Span, Speeds, Words};
 use std::io;
 use vectors::band::Band;
-use vectors::input::{print_count, with_bytes};
+use vectors::input::{print_count, print_no_count, with_bytes};
 use vectors::items::{Item, Rest, tally_of};
 use vectors::tally::Tally;
 
-// The bytes of a row and of a sum. The input has how many rows and how many sums there are, then the rows, then the sums. Every number but these
-// two has eight bytes.
+// The bytes of a row. The input has how many rows and how many sums there are, then the rows, then the sums. Every number but these two has eight
+// bytes.
 const ROW: usize = 184;
 
-const SUM: usize = 88;
+// How many rows and how many sums there are
+#[derive(Clone, Copy)]
+struct Counts {
+    rows: u64,
+    sums: u64,
+}
 
 // A cell with its doubles as patterns. Kinds and numbers stand here, and in the answers below, as C gets them, since its calls are tried.
 #[derive(Clone, Copy, Debug, PartialEq, Eq)]
@@ -137,6 +142,16 @@ fn span_of(band: Band) -> Span {
     }
 }
 
+impl<'a> Item<'a> for Counts {
+    fn read(input: &mut Rest<'a>) -> Option<Counts> {
+        let (rows, sums): (u32, u32) = (input.item()?, input.item()?);
+        Some(Counts {
+            rows: rows.into(),
+            sums: sums.into(),
+        })
+    }
+}
+
 impl<'a> Item<'a> for Cell {
     fn read(input: &mut Rest<'a>) -> Option<Cell> {
         Some(Cell {
@@ -208,22 +223,16 @@ impl<'a> Item<'a> for Sum {
     }
 }
 
-// An answer, and a line where it is another than the one expected; rows and sums are counted from 1, as tools/vectors/cells.py lists them.
-// Not `compare` of vectors, which prints both answers: this prints the number alone.
-fn with_answer<A: Copy + PartialEq>(
+// A line for an answer that is another than the one expected; rows and sums are counted from 1, as tools/vectors/cells.py lists them.
+// Not `compare` of vectors, which prints both answers: this prints their numbers alone.
+fn print_other(
     rt: &impl Print,
     what: &str,
     position: u64,
-    number: u64,
-    expected: A,
-    found: A,
-) -> io::Result<Tally> {
-    Tally::of(
-        found == expected,
-        || println!(rt;
-            "{what} {position}: expected number {number}, found another or other cells"
-        ),
-    )
+    expected: u64,
+    found: u64,
+) -> io::Result<()> {
+    println!(rt; "{what} {position}: expected number {expected}, found {found}, or other cells")
 }
 
 // The rows of one number
@@ -233,7 +242,10 @@ fn tally_rows(rt: &impl Print, rows: &[u8], number: u64) -> io::Result<Tally> {
             return Ok(Tally::default());
         }
         let found = RowAnswer::from(evp_cells_of_row(row.words, row.travel));
-        with_answer(rt, "row", position, number, row.expected, found)
+        Tally::of(
+            found == row.expected,
+            || print_other(rt, "row", position, number, found.number),
+        )
     })
 }
 
@@ -244,69 +256,54 @@ fn tally_sums(rt: &impl Print, sums: &[u8], number: u64) -> io::Result<Tally> {
             return Ok(Tally::default());
         }
         let found = SumAnswer::from(evp_add_cells(sum.first.into(), sum.second.into()));
-        with_answer(rt, "sum", position, number, sum.expected, found)
+        Tally::of(
+            found == sum.expected,
+            || print_other(rt, "sum", position, number, found.number),
+        )
     })
 }
 
-// A line for each number, of the rows or the sums with it; how many these are
-fn report_numbers<F: Fn(u64) -> io::Result<Tally>>(
-    rt: &impl Print,
-    numbers: &[(&str, u64)],
-    tally_with: F,
-) -> io::Result<u64>
-    requires { F.IsAlwaysCallable tally_with }
-{
+// A line for each tally, behind its words; how many rows or sums they count
+fn print_tallies(rt: &impl Print, tallies: &[(&str, Tally)]) -> io::Result<u64> {
     let mut all = Tally::default();
-    for (words, number) in numbers {
-        let tally = tally_with(*number)?;
+    for (words, tally) in tallies {
         println!(rt; "{words} {}", tally.counts("agree"))?;
-        all = all + tally;
+        all = all + *tally;
     }
     Ok(all.tried)
 }
 
+// All rows are tried before the first line of a tally.
 fn report_rows(rt: &impl Print, rows: &[u8]) -> io::Result<u64> {
-    let numbers = [
-        ("rows with cells", 0),
-        ("rows refused 27:", 27),
-        ("rows refused 28:", 28),
+    let tallies = [
+        ("rows with cells", tally_rows(rt, rows, 0)?),
+        ("rows refused 27:", tally_rows(rt, rows, 27)?),
+        ("rows refused 28:", tally_rows(rt, rows, 28)?),
     ];
-    report_numbers(rt, &numbers, |number| tally_rows(rt, rows, number))
+    print_tallies(rt, &tallies)
 }
 
+// The same of the sums
 fn report_sums(rt: &impl Print, sums: &[u8]) -> io::Result<u64> {
-    let numbers = [("sums with a cell", 0), ("sums refused 27:", 27)];
-    report_numbers(rt, &numbers, |number| tally_sums(rt, sums, number))
+    let tallies = [
+        ("sums with a cell", tally_sums(rt, sums, 0)?),
+        ("sums refused 27:", tally_sums(rt, sums, 27)?),
+    ];
+    print_tallies(rt, &tallies)
 }
 
-// The counts of rows and sums, the rows and the sums, where the input is of the length that it says
-fn parts_of(input: &[u8]) -> Option<(&[u8], &[u8])> {
-    let mut rest = Rest::of(input);
-    let rows: u32 = rest.item()?;
-    let sums: u32 = rest.item()?;
-    Some((
-        rest.vectors(rows.into(), ROW)?,
-        rest.last(sums.into(), SUM)?,
-    ))
-}
-
-// A row or a sum whose number is none of these is missing from the tallies.
+// No row is tried where the end of the input cuts one. A sum that is cut, and a row or a sum whose number is none of these, is missing from the
+// tallies; the counts that the input gives show it.
 fn report(rt: &impl Print, input: &[u8]) -> io::Result<()> {
-    let Some((rows, sums)) = parts_of(input) else {
-        return println!(rt; "the input is not of the length that it says");
+    let mut rest = Rest::of(input);
+    let Some(Counts { rows, sums }) = rest.item() else {
+        return print_no_count(rt);
     };
-    print_count(
-        rt,
-        report_rows(rt, rows)?,
-        (rows.len() / ROW) as u64,
-        " rows",
-    )?;
-    print_count(
-        rt,
-        report_sums(rt, sums)?,
-        (sums.len() / SUM) as u64,
-        " sums",
-    )
+    let Some(vectors) = rest.vectors(rows, ROW) else {
+        return print_count(rt, 0, rows, " rows");
+    };
+    print_count(rt, report_rows(rt, vectors)?, rows, " rows")?;
+    print_count(rt, report_sums(rt, rest.left())?, sums, " sums")
 }
 
 fn main(rt: HostRuntime) -> io::Result<()> {

@@ -26,12 +26,12 @@ struct Mark {
     off: u64,
 }
 
-// A figure, the band, and the mark that is expected
+// A figure, the band, and the mark that is expected; `None` where its verdict is above the last
 #[derive(Clone, Copy)]
 struct Vector {
     filed: Filed,
     band: Band,
-    expected: Mark,
+    expected: Option<Mark>,
 }
 
 // A number of the input that stands for no verdict
@@ -84,24 +84,14 @@ impl From<Verdict> for Mark {
     }
 }
 
-// No `TryFrom`, since neither type is of this crate; that of the crate boundary reads what C hands in.
-fn unit_of(unit: u64) -> Option<Unit> {
+// The vectors have no units above the tonne. No `From`, since neither type is of this crate; what C hands in is read by the `TryFrom` of the crate
+// boundary.
+fn unit_of(unit: u64) -> Unit {
     match unit {
-        0 => Some(Unit::Milligram),
-        1 => Some(Unit::Gram),
-        2 => Some(Unit::Kilogram),
-        3 => Some(Unit::Tonne),
-        _ => None,
-    }
-}
-
-impl<'a> Item<'a> for Mark {
-    fn read(input: &mut Rest<'a>) -> Option<Mark> {
-        let verdict: u64 = input.item()?;
-        Some(Mark {
-            kind: Kind::try_from(verdict).ok()?,
-            off: input.item()?,
-        })
+        0 => Unit::Milligram,
+        1 => Unit::Gram,
+        2 => Unit::Kilogram,
+        _ => Unit::Tonne,
     }
 }
 
@@ -111,40 +101,44 @@ impl<'a> Item<'a> for Vector {
         let filed = Filed {
             digits: input.item()?,
             places: input.item()?,
-            unit: unit_of(input.item()?)?,
+            unit: unit_of(input.item()?),
         };
         let band = Band {
             low: input.item()?,
             high: input.item()?,
         };
+        let (verdict, off): (u64, u64) = (input.item()?, input.item()?);
+        let kind = Kind::try_from(verdict).ok();
         Some(Vector {
             filed,
             band,
-            expected: input.item()?,
+            expected: kind.map(|kind| Mark { kind, off }),
         })
     }
 }
 
 // A figure, and a line where its mark is another than the one expected; figures are counted from 1, as
 // tools/vectors/marks.py lists them.
-fn with_figure(rt: &impl Print, position: u64, vector: Vector) -> io::Result<Tally> {
+fn with_figure(
+    rt: &impl Print,
+    position: u64,
+    vector: Vector,
+    expected: Mark,
+) -> io::Result<Tally> {
     let found = Mark::from(mark(vector.filed, vector.band));
-    compare(rt, "figure", position, vector.expected, found)
+    compare(rt, "figure", position, expected, found)
 }
 
 // The figures of one verdict
 fn tally_kind(rt: &impl Print, vectors: &[u8], kind: Kind) -> io::Result<Tally> {
-    tally_of(vectors, |position, vector: Vector| {
-        if vector.expected.kind == kind {
-            with_figure(rt, position, vector)
-        } else {
-            Ok(Tally::default())
-        }
+    tally_of(vectors, |position, vector: Vector| match vector.expected {
+        Some(expected) if expected.kind == kind => with_figure(rt, position, vector, expected),
+        _ => Ok(Tally::default()),
     })
 }
 
-// A line for each verdict, and one for all of them; how many figures they count. A figure that is cut off, or whose unit or verdict is none of
-// these, ends the tally; the count that the input gives shows it.
+// A line for each verdict, and one for all of them; how many figures they count. A figure that is cut off, or whose verdict is above the last, is
+// missing from the tallies; the count that the input gives shows it.
 fn report(rt: &impl Print, vectors: &[u8]) -> io::Result<u64> {
     let kinds = [
         Kind::Agrees,

@@ -42,7 +42,7 @@ struct Head {
     ghost fits: { room ≤ 25344 },
 }
 
-// A pair of sheets, and the pooled sheet that is expected
+// A pair of sheets, and the pooled sheet that is expected, as much of it as the buffer has room for
 #[derive(Clone, Copy)]
 struct Pair<'a> {
     head: Head,
@@ -57,7 +57,7 @@ impl<'a> Item<'a> for Head {
         let number: u16 = input.item()?;
         let place: u16 = input.item()?;
         let sheet: u16 = input.item()?;
-        let answer = Answer::from((number.into(), place.into()));
+        let answer = Answer::by_number(number.into(), place.into());
         let expected = answer.0.map_err(|refusal| Refused {
             sheet: sheet.into(),
             refusal,
@@ -74,11 +74,14 @@ impl<'a> Item<'a> for Pair<'a> {
         let first: u16 = input.item()?;
         let second: u16 = input.item()?;
         let pooled: u16 = input.item()?;
+        let head = input.item()?;
+        let (first, second) = (input.part(first.into())?, input.part(second.into())?);
+        let pooled = input.part(pooled.into())?;
         Some(Pair {
-            head: input.item()?,
-            first: input.part(first.into())?,
-            second: input.part(second.into())?,
-            pooled: input.part(pooled.into())?,
+            head,
+            first,
+            second,
+            pooled: &pooled[..pooled.len().min(ROOM)],
         })
     }
 }

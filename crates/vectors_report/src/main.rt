@@ -54,7 +54,7 @@ impl<'a> Item<'a> for Head {
         let place: u16 = input.item()?;
         Some(Head {
             room: WORDS.min(room.into()),
-            expected: (number.into(), place.into()).into(),
+            expected: Answer::by_number(number.into(), place.into()),
         })
     }
 }
@@ -72,12 +72,13 @@ impl<'a> Item<'a> for Vector<'a> {
 }
 
 impl Rows {
-    // Whether a row of a sheet is among them
+    // Whether a row of a sheet is among them, which none beyond as many as a sheet can have is
     fn have(self, sheet: &[u8], row: usize) -> bool {
-        match self {
+        let among = match self {
             Rows::All => true,
             Rows::Driven => has_mileage(sheet, row),
-        }
+        };
+        among & (row < ROWS)
     }
 }
 
@@ -103,7 +104,7 @@ fn with_bands(
         Tally::of(
             verdict_of(band, mass),
             || println!(rt;
-                "sheet {sheet} row {position} {kind:?}: expected {} mg, found {band} mg",
+                "sheet {sheet} row {position} {kind}: expected {} mg, found {band} mg",
                 mass.exact
             ),
         )
@@ -145,7 +146,8 @@ fn tally_pass(rt: &impl Print, vectors: &[u8], pass: Pass) -> io::Result<Tally> 
     })
 }
 
-// The line of one mass, of all rows and of those with a mileage
+// The line of one mass, of all rows and of those with a mileage. Each part is printed when its rows are tried, so that the lines of bands of driven
+// rows that are not right stand within it.
 fn print_bands(
     rt: &impl Print,
     vectors: &[u8],
@@ -154,18 +156,20 @@ fn print_bands(
     unit: &str,
 ) -> io::Result<()> {
     let all = tally_pass(rt, vectors, Pass::Bands(kind, Rows::All))?;
-    let driven = tally_pass(rt, vectors, Pass::Bands(kind, Rows::Driven))?;
     print!(rt; "{name} bands {all} widest {} ng a {unit}", all.widest)?;
+    let driven = tally_pass(rt, vectors, Pass::Bands(kind, Rows::Driven))?;
     println!(rt; ", with a mileage {driven} widest {} ng", driven.widest)
 }
 
-// A line for each pass, and how many sheets the last two looked at
+// A line for each pass, and how many sheets the last two looked at. The line of the sums ends after the pass of the refusals.
 fn print_passes(rt: &impl Print, vectors: &[u8]) -> io::Result<u64> {
     print_bands(rt, vectors, Kind::Diurnal, "diurnal", "vehicle and day")?;
     print_bands(rt, vectors, Kind::Soak, "soak", "trip")?;
     print_bands(rt, vectors, Kind::Running, "running", "trip")?;
-    let sums = tally_pass(rt, vectors, Pass::Sums)?.printed(rt, "sums of accepted sheets")?;
-    let refusals = tally_pass(rt, vectors, Pass::Refusals)?.printed(rt, "refused sheets")?;
+    let sums = tally_pass(rt, vectors, Pass::Sums)?;
+    print!(rt; "sums of accepted sheets {sums}")?;
+    let refusals = tally_pass(rt, vectors, Pass::Refusals)?;
+    println!(rt; "\nrefused sheets {refusals}")?;
     Ok((sums + refusals).tried)
 }
 

@@ -12,13 +12,13 @@ use vectors::input::hold;
 use vectors::items::{Item, Rest, tally_of};
 use vectors::tally::Tally;
 use vectors::words::{OLD, WORDS, kept};
-use vectors_shared_runs::{Asked, CALL, Reply, Run};
+use vectors_shared_runs::{Asked, CALL, Kept, Reply, Run};
 
 // How many replies can be kept
 const SLOTS: usize = 25;
 
-// A sheet and its owners; the answer that is expected when it is opened; the calls on it; and whether the replies are to be those of the ledger
-// before
+// A sheet, as far as there are bytes and as much as the longest has, and behind it its owners; the answer that is expected when it is opened; the
+// calls on it; and whether the replies are to be those of the ledger before
 #[derive(Clone, Copy)]
 struct Opened<'a> {
     sheet: &'a [u8],
@@ -32,7 +32,8 @@ impl<'a> Item<'a> for Opened<'a> {
     fn read(input: &mut Rest<'a>) -> Option<Opened<'a>> {
         let (both, calls, bytes): (u16, u16, u16) = (input.item()?, input.item()?, input.item()?);
         let (number, place, like): (u16, u16, u16) = (input.item()?, input.item()?, input.item()?);
-        let (sheet, owners) = input.part(both.into())?.split_at_checked(bytes.into())?;
+        let part = input.part(both.into())?;
+        let (sheet, owners) = part.split_at(part.len().min(LONGEST).min(bytes.into()));
         Some(Opened {
             sheet,
             owners,
@@ -65,28 +66,38 @@ impl Add for Tallies {
     }
 }
 
+// What there is of the ledgers before one: the replies kept of the last, and how many calls there were on all
+#[derive(Clone, Copy)]
+struct Before {
+    replies: [Kept; SLOTS],
+    calls: u64,
+}
+
 // A reply is kept in its slot where it is to be compared.
-fn keep(replies: &mut [Option<Reply>; 25], slot: Option<usize>, reply: Reply) {
+fn keep(replies: &mut [Kept; SLOTS], slot: Option<usize>, reply: Reply) {
     if let Some(kept) = slot.and_then(|slot| replies.get_mut(slot)) {
-        *kept = Some(reply);
+        *kept = reply.into();
     }
 }
 
-// The calls on a ledger, one after another, and a line for each that is not right; ledgers and the calls on each are counted from 1.
+// The calls on a ledger, one after another, and a line for each that is not right; calls are counted from 1 over all ledgers, so many of them
+// before this one.
 fn with_calls(
     rt: &impl Print,
-    ledger: u64,
+    before: u64,
     calls: &[u8],
     run: &mut Run,
-    replies: &mut [Option<Reply>; 25],
+    replies: &mut [Kept; SLOTS],
 ) -> io::Result<Tally> {
-    tally_of(calls, |call, asked: Asked| {
+    tally_of(calls, |position, asked: Asked| {
+        let call = before.wrapping_add(position);
         let reply = run.reply(asked);
         keep(replies, asked.slot, reply);
         Tally::of(
             run.is_right(reply, asked),
             || println!(rt;
-                "ledger {ledger} call {call} is answered {} or leaves something else",
+                "call {call} asked {} is answered {} or leaves something else",
+                asked.kind,
                 reply.answer.number()
             ),
         )
@@ -105,24 +116,26 @@ fn is_fresh(run: &Run) -> bool {
 // take
 fn with_run(
     rt: &impl Print,
-    ledger: u64,
     opened: Opened,
     run: &mut Run,
-    before: &mut [Option<Reply>; 25],
+    before: &mut Before,
 ) -> io::Result<Tallies> {
-    let mut replies = [None; SLOTS];
-    let calls = with_calls(rt, ledger, opened.calls, run, &mut replies)?;
-    let ends = if opened.answer.0.is_err() {
+    let mut replies = [Kept::default(); SLOTS];
+    let calls = with_calls(rt, before.calls, opened.calls, run, &mut replies)?;
+    let ends = if opened.answer.number() != 0 {
         kept(run.words)
     } else {
         is_fresh(run)
     };
     let pairs = if opened.like {
-        Tally::from(*before == replies)
+        Tally::from(before.replies == replies)
     } else {
         Tally::default()
     };
-    *before = replies;
+    *before = Before {
+        replies,
+        calls: before.calls.wrapping_add(calls.tried),
+    };
     Ok(Tallies {
         openings: Tally::default(),
         calls,
@@ -132,12 +145,7 @@ fn with_run(
 }
 
 // A ledger: its opening, and what follows on a copy of the sheet that the calls may change
-fn with_ledger(
-    rt: &impl Print,
-    ledger: u64,
-    opened: Opened,
-    before: &mut [Option<Reply>; 25],
-) -> io::Result<Tallies> {
+fn with_ledger(rt: &impl Print, opened: Opened, before: &mut Before) -> io::Result<Tallies> {
     let (mut sheet, mut words) = ([0; LONGEST], [OLD; WORDS]);
     let sheet = copied(&mut sheet, opened.sheet);
     let found = shared_ledger_calls::open(sheet, opened.owners, &mut words);
@@ -148,16 +156,19 @@ fn with_ledger(
         owners: opened.owners,
         words: &mut words,
     };
-    let mut tallies = with_run(rt, ledger, opened, &mut run, before)?;
+    let mut tallies = with_run(rt, opened, &mut run, before)?;
     tallies.openings = (answered & left).into();
     Ok(tallies)
 }
 
 // The lines of the tallies, and how many calls there are. A ledger that is cut off is missing; the count that the input gives shows it.
 fn report(rt: &impl Print, ledgers: &[u8]) -> io::Result<u64> {
-    let mut before = [None; SLOTS];
-    let tallies: Tallies = tally_of(ledgers, |ledger, opened: Opened| {
-        with_ledger(rt, ledger, opened, &mut before)
+    let mut before = Before {
+        replies: [Kept::default(); SLOTS],
+        calls: 0,
+    };
+    let tallies: Tallies = tally_of(ledgers, |_, opened: Opened| {
+        with_ledger(rt, opened, &mut before)
     })?;
     tallies.openings.printed(rt, "openings")?;
     tallies.calls.printed(rt, "calls")?;

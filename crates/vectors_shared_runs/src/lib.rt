@@ -20,11 +20,15 @@ enum Call {
     Totals,
 }
 
-// A call and who makes it; the answer that is expected; the count that a read returns, and from which word on its words are in the buffer;
-// and where the reply is kept to be compared, if it is
+// The kind of a read of the totals
+const TOTALS: u8 = 3;
+
+// A call with its kind, and who makes it; the answer that is expected; the count that a read returns, and from which word on its words are in the
+// buffer; and where the reply is kept to be compared, if it is
 #[derive(Clone, Copy)]
 pub struct Asked {
     who: Caller,
+    pub kind: u8,
     call: Call,
     answer: Answer,
     count: u64,
@@ -43,7 +47,8 @@ impl<'a> Item<'a> for Asked {
         let (at, slot): (u16, u16) = (input.item()?, input.item()?);
         Some(Asked {
             who: who.into(),
-            call: call_of(kind, row, vehicles)?,
+            kind,
+            call: call_of(kind, row, vehicles),
             answer: (number.into(), place.into()).into(),
             count: count.into(),
             at: at.into(),
@@ -52,13 +57,13 @@ impl<'a> Item<'a> for Asked {
     }
 }
 
-fn call_of(kind: u8, row: u64, vehicles: u64) -> Option<Call> {
+// A kind that there is not is a read of the totals too.
+fn call_of(kind: u8, row: u64, vehicles: u64) -> Call {
     match kind {
-        0 => Some(Call::Change(ledger::Call::Arrival(row, vehicles))),
-        1 => Some(Call::Change(ledger::Call::Departure(row, vehicles))),
-        2 => Some(Call::Row(row)),
-        3 => Some(Call::Totals),
-        _ => None,
+        0 => Call::Change(ledger::Call::Arrival(row, vehicles)),
+        1 => Call::Change(ledger::Call::Departure(row, vehicles)),
+        2 => Call::Row(row),
+        _ => Call::Totals,
     }
 }
 
@@ -70,12 +75,54 @@ enum Returned {
     Totals([u64; 26]),
 }
 
+impl Returned {
+    // What is returned as numbers, a row's count before its words, and zeros behind
+    fn numbers(self) -> [u64; 26] {
+        match self {
+            Returned::Nothing => [0; 26],
+            Returned::Row(count, words) => {
+                let mut numbers = [0; 26];
+                numbers[0] = count;
+                numbers[1..7].copy_from_slice(&words);
+                numbers
+            }
+            Returned::Totals(words) => words,
+        }
+    }
+}
+
 // What a call is answered and returns, and whether it is refused and has changed a byte or a word
 #[derive(Clone, Copy, Debug, PartialEq, Eq)]
 pub struct Reply {
     pub answer: Answer,
     returned: Returned,
     spoilt: bool,
+}
+
+// A reply as it is compared with that of another ledger: what it returns is numbers, so that a read of zeros is like a call that returns
+// nothing, and like no call
+#[derive(Clone, Copy, Debug, PartialEq, Eq)]
+pub struct Kept {
+    answer: Answer,
+    numbers: [u64; 26],
+    spoilt: bool,
+}
+
+impl From<Reply> for Kept {
+    fn from(reply: Reply) -> Kept {
+        Kept {
+            answer: reply.answer,
+            numbers: reply.returned.numbers(),
+            spoilt: reply.spoilt,
+        }
+    }
+}
+
+// Of no call
+impl Default for Kept {
+    fn default() -> Kept {
+        Reply::of(Ok(()), Returned::Nothing).into()
+    }
 }
 
 impl Reply {
@@ -176,12 +223,14 @@ impl Run<'_, '_, '_> {
             .is_some_and(|rest| rest.starts_with(words))
     }
 
-    // Whether a reply is the one that is expected: a read that is accepted returns the words of the buffer, and any other call nothing.
+    // Whether a reply is the one that is expected: a read that is accepted returns the words of the buffer, and any other call nothing. Nothing is
+    // also what a call of a kind that there is not is to return, so that the totals that it reads are to be zeros.
     pub fn is_right(&self, reply: Reply, asked: Asked) -> bool {
         let returned = match reply.returned {
             Returned::Nothing => true,
             Returned::Row(count, words) => (count == asked.count) & self.has(asked.at, &words),
-            Returned::Totals(words) => self.has(asked.at, &words),
+            Returned::Totals(words) if asked.kind == TOTALS => self.has(asked.at, &words),
+            Returned::Totals(words) => words == [0; 26],
         };
         (reply.answer == asked.answer) & !reply.spoilt & returned
     }

@@ -9,6 +9,9 @@ use vectors::tally::Tally;
 // The bytes of a vector: every number of the input has eight. The first says how many vectors there are.
 const VECTOR: usize = 240;
 
+// The most vectors in an input
+const MOST: u64 = 2000;
+
 // A total, and the 29 masses that it is to be split into
 #[derive(Clone, Copy)]
 struct Vector<'a> {
@@ -33,10 +36,13 @@ fn as_given(vector: Vector) -> bool {
         .all(|mass| masses.item() == Some(*mass))
 }
 
-// The vectors, where the input is of the length that it says
+// The vectors, where they are not too many and the input is of the length that it says
 fn vectors_of(input: &[u8]) -> Option<&[u8]> {
     let mut rest = Rest::of(input);
     let count = rest.item()?;
+    if MOST < count {
+        return None;
+    }
     rest.last(count, VECTOR)
 }
 

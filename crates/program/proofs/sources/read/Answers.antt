@@ -3,6 +3,7 @@ use Rattle.std.proofs.Common.{subst, sym, arith, rules}
 use Rattle.std.specs.Io.KnownBytes.{Consumes}
 use Rattle.std.proofs.KnownBytes.{Consumes-trans}
 use Rattle.program.specs.Reads.{taken}
+use Rattle.program.proofs.Taking.{unread_any}
 use Rattle.program.proofs.Fronts.{front_filled}
 use Rattle.program.proofs.sources.read.Goals as goal
 
@@ -17,3 +18,7 @@ loop-done-preserved g c = record {
 
 pub invariant_of-result : goal.invariant_of-result
 invariant_of-result g c = record { is_taken = taken _ _ }
+
+-- the read gave an error
+pub returns-in_err-n-clause-unread : goal.returns-in_err-n-clause-unread
+returns-in_err-n-clause-unread g c = unread_any _ _

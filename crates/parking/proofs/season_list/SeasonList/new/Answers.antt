@@ -35,7 +35,8 @@ loop-cell-preserved c =
     let p = c.place_of-place in
     let start = c.apart.ensures.0 ∙ ap apart m.ensures.0 in (
       counted_next l.invariant.0 c.loop-cell-test.true _ _ p.result _ p.ensures.below
-          (ap (λ (s : ℕ). record { start = s; rise = at c.args.rises.now l.cell }) start) c.if-rise-eq0.false p.ensures.at c.max-length.ensures,
+          (ap (λ (s : ℕ). record { start = s; rise = at c.args.rises.now l.cell }) start) c.if-rise-eq0.false c.if-count-eq0.false
+          p.ensures.at c.max-length.ensures,
       set-most l.last m.result p.result (rw l.invariant.2 m.ensures.1) l.invariant.1 (omega (arith, p.ensures.below)),
       length-set l.last m.result p.result ∙ l.invariant.2,
     )

@@ -14,8 +14,8 @@ returns-in-Car c =
           c.parking_through-parking.ensures;
       soak-is = raise-right rows.ready c.requires c.fitted-c.ensures 45 d.raise45-is false c.through_raises.ensures;
       hotsoak-is = raise-right rows.ready c.requires c.fitted-c.ensures 60 d.raise60-is false c.through_raises-in-Car.ensures;
-      trip-is = open-shut rows.at.season c.args.row.row _ c.args.row.row.canister c.requires.1 _;
-      hottrip-is = open-shut rows.at.season c.args.row.row _ c.args.row.row.canister c.requires.1 _;
+      trip-is = open-shut rows.at.now.season c.args.row.row _ c.args.row.row.canister c.requires.1 _;
+      hottrip-is = open-shut rows.at.now.season c.args.row.row _ c.args.row.row.canister c.requires.1 _;
     })
 
 pub returns-in-TwoWheeler : goal.returns-in-TwoWheeler

@@ -22,12 +22,12 @@ product c =
 -- the result is the gain
 same : (c : After-exponential-vapour)
     → (100 - c.args.row.fill) * c.args.row.tank *
-    c.exponential-vapour.result / 40000 ≡ gain c.args.self.now.at.season c.args.row
+    c.exponential-vapour.result / 40000 ≡ gain c.args.self.now.at.now.season c.args.row
 unfolding gain
 same c =
     let a = c.args in
     ap (λ (e : ℕ). (100 - a.row.fill) * a.row.tank * e / 40000)
-    (c.exponential-vapour.ensures.0 ∙ ap exponential {y = 205 * a.self.now.at.season.vp * 10 ^ 9 + 16 * 10 ^ 14} (omega arith))
+    (c.exponential-vapour.ensures.0 ∙ ap exponential {y = 205 * a.self.now.at.now.season.vp * 10 ^ 9 + 16 * 10 ^ 14} (omega arith))
 
 pub returns : goal.returns
 returns c =

@@ -10,10 +10,10 @@ factors-requires c =
     let rows = c.args.self in
     seven-fits rows.ready.day-ready.season-in c.requires.row_in _ rows.ready.means-are c.of-kind.ensures c.escapes-escapes.ensures
 
-made : (c : goal.After-factors) → c.factors.result ≡ seven_units c.args.self.at.season c.args.row.row c.args.self.grid.now.cells.counts
+made : (c : goal.After-factors) → c.factors.result ≡ seven_units c.args.self.at.now.season c.args.row.row c.args.self.grid.now.cells.counts
 made c =
     let rows = c.args.self in
-    c.factors.ensures ∙ seven-right rows.at.season c.args.row.row _ rows.ready.means-are c.of-kind.ensures c.escapes-escapes.ensures
+    c.factors.ensures ∙ seven-right rows.at.now.season c.args.row.row _ rows.ready.means-are c.of-kind.ensures c.escapes-escapes.ensures
 
 pub invariant_of-result : goal.invariant_of-result
 invariant_of-result c =
