@@ -45,8 +45,8 @@ impl Kind {
 }
 
 impl SeasonRows<'_> {
-    // The seven factors of a row. It takes the season by value, with the two arrays of its marks, as document 01 has it. Inlined, so that what no
-    // row reads of them is not copied for each.
+    // The seven factors of a row. It takes the season by value, with the two arrays of its marks, as document 01 has it. Inlined, so that a row
+    // copies these two arrays and no more.
     #[inline(always)]
     pub fn units(self, row: LoadedRow) -> Units
         requires { RowReady self.grid.now.cells.counts self.list.now self.at.now.season row.row }
