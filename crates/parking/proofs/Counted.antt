@@ -19,7 +19,7 @@ use Rattle.parking.proofs.Sums.{sum-within, sum-but-one, total-is}
 use Rattle.parking.proofs.Tally.{apart_of-below, blank}
 use Rattle.parking.specs.declared.season_list.Entry.{Entry}
 use Rattle.parking.specs.declared.season_list.Kind.{Kind}
-use Rattle.parking.specs.SeasonList.{by_cell, none, entry_at, part, IsPlace, Breathes, ListReady}
+use Rattle.parking.specs.SeasonList.{by_cell, none, entry_at, part, IsPlace, ListReady}
 
 -- a value that is 0 where there is no rise
 abbrev Flat : (ℕ → ℕ → ℕ) → Type 0
@@ -34,8 +34,6 @@ pub record Counted (cells rises : List ℕ) (n : ℕ) (entries : List Entry) (le
   -- behind the entries there are none
   pub behind : (k : ℕ) → len ≤ k → entry_at entries k ≡ none
   pub counts-most : sum (λ (k : ℕ). (entry_at entries k).count) len ≤ sum (at cells) n
-  -- and each of them counts something and rises
-  pub each : (k : ℕ) → k < len → Breathes (entry_at entries k)
   pub sums : (f : ℕ → ℕ → ℕ) → Flat f → sum (part f entries) len ≡ by_cell cells rises f n
 
 -- a list of zeros is below every bound
@@ -68,7 +66,6 @@ counted_none cells rises = record {
   rises-most = λ bound h k. rw (blank-entry 576 k) zero-le;
   behind = λ k h. blank-entry 576 k;
   counts-most = zero-le;
-  each = λ k h. (omega (arith, h), omega (arith, h));
   sums = λ f h. sum-none (λ (cell : ℕ). at cells cell * f (apart_of false cell) (at rises cell));
 }
 
@@ -89,7 +86,6 @@ module _ {cells rises : List ℕ} {n : ℕ} {entries : List Entry} {len : ℕ} (
     rises-most = c.rises-most;
     behind = c.behind;
     counts-most = omega (arith, c.counts-most, sum_more (at cells) n refl refl);
-    each = c.each;
     sums = λ f flat.
         let nothing : at cells n * f start rise ≡ 0
         = ⊎_elim (λ (e : rise ≡ 0). rw (e, flat start (apart_of-below false n)) (omega arith)) (λ (e : at cells n ≡ 0). rw e (omega arith)) h in
@@ -122,9 +118,8 @@ module _ {cells rises : List ℕ} {n : ℕ} {entries : List Entry} {len : ℕ} (
 
     -- where what stands there gives what the cell's start and rise would, the cell is counted
     counted_at : ((f : ℕ → ℕ → ℕ) → part f entries place ≡ (entry_at entries place).count * f start rise) → (len' : ℕ) → len ≤ len'
-        → len' ≤ n + 1 → place < len' → Grown len' → Breathes (with_cell place) → ((k : ℕ) → k < len' → (k ≡ place → ⊥) → k < len)
-        → Counted cells rises (n + 1) stored len'
-    counted_at alike len' more most inside grown breathes there = record {
+        → len' ≤ n + 1 → place < len' → Grown len' → Counted cells rises (n + 1) stored len'
+    counted_at alike len' more most inside grown = record {
       few = most;
       long = length-set entries place (with_cell place) ∙ c.long;
       starts-below = λ k. all_of (λ (e : Entry). e.kind.start ≤ 24) k (omega (arith, apart_of-below false n)) (c.starts-below k);
@@ -133,25 +128,17 @@ module _ {cells rises : List ℕ} {n : ℕ} {entries : List Entry} {len : ℕ} (
       counts-most =
           let counted = sum_more (at cells) n refl refl in
           omega (arith, grown (λ x. x.count) refl, c.counts-most, counted);
-      each = λ k h. elim (ℕ_discrete k place) [ yes e ↦ rw (e, here) breathes | no e ↦ rw (other k e) (c.each k (there k h e)) ];
       sums = λ f flat.
           let counted = sum_more (λ (cell : ℕ). at cells cell * f (apart_of false cell) (at rises cell)) n refl refl in
           let split = add-mul (entry_at entries place).count (at cells n) (f start rise) in
           omega (arith, grown (λ x. x.count * f x.kind.start x.kind.rise) (omega arith), split, alike f, c.sums f flat, counted);
     }
 
-  -- the entry with a cell that counts and rises
-  breathing : (place : ℕ) → (rise ≡ 0 → ⊥) → (at cells n ≡ 0 → ⊥) → Breathes (with_cell place)
-  breathing place some any = (
-    elim (dec_le 1 (at cells n)) [ yes h ↦ omega (arith, h) | no h ↦ absurd (any (omega (arith, h))) ],
-    elim (dec_le 1 rise) [ yes h ↦ omega (arith, h) | no h ↦ absurd (some (omega (arith, h))) ],
-  )
-
   -- at an entry of the cell's kind, or at a new one
   pub counted_next : (kind : Kind) (entry place after : ℕ) → place < 576 → kind ≡ record { start = start; rise = rise } → (rise ≡ 0 → ⊥)
-      → (at cells n ≡ 0 → ⊥) → IsPlace entries kind entry len place → after ≡ max len (place + 1)
+      → IsPlace entries kind entry len place → after ≡ max len (place + 1)
       → Counted cells rises (n + 1) (set entries place (record { kind = kind; count = (entry_at entries place).count + at cells n })) after
-  counted_next kind entry place after l is some any (inl (p, k)) e =
+  counted_next kind entry place after l is some (inl (p, k)) e =
       let same : (entry_at entries place).kind ≡ record { start = start; rise = rise } = ap (λ (x : ℕ). (entry_at entries x).kind) p ∙ k ∙ is in
       let inside : place < len = elim (dec_le len place) [
         | yes h ↦ absurd (some (sym (ap (λ (x : Kind). x.rise) same) ∙ ap (λ (x : Entry). x.kind.rise) (c.behind place h)))
@@ -161,9 +148,8 @@ module _ {cells rises : List ℕ} {n : ℕ} {entries : List Entry} {len : ℕ} (
       let grown : Grown place l len
       = (λ v z. sum-but-one (λ (k : ℕ). v (entry_at entries k)) (λ (k : ℕ). v (entry_at (stored place l) k)) place len inside
       (λ k q. ap v (other place l k q)) ∙ ap (λ (x : Entry). sum (λ (k : ℕ). v (entry_at entries k)) len + v x) (here place l)) in
-      rw (is, still) (counted_at place l (λ f. rw same refl) len (omega arith) (omega (arith, c.few)) inside grown
-      (breathing place some any) (λ k h _. h))
-  counted_next kind entry place after l is some any (inr (p, _)) e =
+      rw (is, still) (counted_at place l (λ f. rw same refl) len (omega arith) (omega (arith, c.few)) inside grown)
+  counted_next kind entry place after l is some (inr p) e =
       let free : (entry_at entries place).count ≡ 0 = ap (λ (x : Entry). x.count) (c.behind place (omega arith)) in
       let longer : after ≡ len + 1 = omega arith in
       let grown : Grown place l (len + 1)
@@ -171,8 +157,7 @@ module _ {cells rises : List ℕ} {n : ℕ} {entries : List Entry} {len : ℕ} (
       let before = sum-ext len (λ k q. ap v (other place l k (λ m. omega arith))) in
       let last = sum_more (λ (k : ℕ). v (entry_at (stored place l) k)) len refl refl in
       omega (arith, before, last, ap (λ (k : ℕ). v (entry_at (stored place l) k)) p, ap v (here place l), ap v (c.behind place (omega arith)), z)) in
-      rw (is, longer) (counted_at place l (λ f. rw free (omega arith)) (len + 1) (omega arith) (omega (arith, c.few)) (omega arith) grown
-      (breathing place some any) (λ k h q. elim (dec_le len k) [ yes m ↦ absurd (q (omega arith)) | no m ↦ omega arith ]))
+      rw (is, longer) (counted_at place l (λ f. rw free (omega arith)) (len + 1) (omega arith) (omega (arith, c.few)) (omega arith) grown)
 
 -- no more is counted at a place than in the cells
 pub counted-most : {cells rises : List ℕ} {n : ℕ} {entries : List Entry} {len : ℕ} → Counted cells rises n entries len
@@ -197,6 +182,5 @@ counted-all {cells} {rises} {n} {entries} {len} c e r =
         rises-most = λ k l. c.rises-most bound h k;
         counts-most = omega (arith, c.counts-most, all, r.total-most);
       };
-      each = c.each;
       sum_is = λ f z. c.sums f z ∙ ap (by_cell cells rises f) e;
     }

@@ -6,3 +6,5 @@ pub mod Passed
 pub mod Walked
 pub mod Carried
 pub mod Counted
+pub mod Listed
+pub mod Longer

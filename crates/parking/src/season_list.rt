@@ -1,7 +1,7 @@
 // The parkings that breathe, as a list made once a season: cells that start at one temperature and have one rise are one entry, and cells
 // without rise or with a count of 0 are none.
 ghost use Rattle.std.specs.Prelude.{◌<◌};
-ghost use Rattle.parking.specs.SeasonList.{IsPlace, ListReady};
+ghost use Rattle.parking.specs.SeasonList.{IsPlace, IsOnlyPlace, ListBreathes};
 
 use crate::cells::{Moment, mark_of};
 use crate::grid::Grid;
@@ -35,10 +35,12 @@ const NONE: Entry = Entry {
     count: 0,
 };
 
-// Where a cell of a kind is counted: at the entry that is looked at, if it is of that kind, or at a new one.
+// Where a cell of a kind is counted: at the entry that is looked at, if it is of that kind, or at a new one. The sums need a place of the kind
+// alone; that it is the only one says that cells of one kind share the entry that is looked at.
 fn place_of(entries: &[Entry; 576], kind: Kind, entry: usize, length: usize) -> usize
     requires { (entry < 576) × (length < 576) }
     ensures at { IsPlace entries.now kind entry length result }
+    ensures only { IsOnlyPlace entries.now kind entry length result }
     ensures below { result < 576 }
 {
     if entries[entry].kind == kind {
@@ -59,7 +61,7 @@ impl SeasonList {
     // Not inlined, so that its arrays take stack only while it runs.
     #[inline(never)]
     pub fn new(grid: &Grid, rises: &[u64; 576]) -> SeasonList
-        ensures { ListReady grid.now.cells.counts rises.now result }
+        ensures { ListBreathes grid.now.cells.counts rises.now result }
     {
         let mut entries = [NONE; 576];
         let mut last = [0usize; 48];

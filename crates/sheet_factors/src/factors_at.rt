@@ -1,6 +1,6 @@
 // The seven factors of a season and a row of an accepted sheet.
 ghost use Rattle.std.specs.Prelude.{◌≡◌, ◌<◌};
-ghost use Rattle.parking.specs.SeasonList.{ListReady};
+ghost use Rattle.parking.specs.SeasonList.{ListBreathes};
 ghost use Rattle.row_factors.specs.Seven.{seven_units};
 ghost use Rattle.sheet.specs.Bytes.{seasons_of, rows_of, cells_of, season_at, row_at};
 ghost use Rattle.sheet.specs.Range.{halves};
@@ -16,7 +16,7 @@ use row_factors::units::Units;
 
 // The list of a season's parkings, where a row with this canister is to read it. Without one nothing does, and none is made.
 fn list_for(grid: &Grid, rises: &[u64; 576], canister: Option<Canister>) -> SeasonList
-    ensures { 0 < halves canister → ListReady grid.now.cells.counts rises.now result }
+    ensures { 0 < halves canister → ListBreathes grid.now.cells.counts rises.now result }
 {
     match canister {
         None => SeasonList::EMPTY,

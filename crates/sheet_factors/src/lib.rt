@@ -4,3 +4,5 @@
 pub mod factors_at;
 pub mod grid_sheet;
 pub mod sheet_rows;
+#[cfg(test)]
+mod tests;

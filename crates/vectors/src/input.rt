@@ -3,11 +3,23 @@ use crate::items::item_at;
 use std::io;
 use std::io::Read;
 
-// The most bytes that are read of an input, which may be longer or have no end
+// The most bytes that the programs read of an input, which may be longer or have no end
 const MOST: u64 = 524288;
 
-// Hands on the bytes of standard input, as far as they are read.
+// Hands on the bytes of standard input, all of them.
 pub fn with_bytes<R: Input + Alloc, F: FnOnce(&[u8]) -> io::Result<()>>(
+    rt: &R,
+    hold: F,
+) -> io::Result<()>
+    requires { F.IsAlwaysCallable hold }
+{
+    let mut bytes = Vec::new(rt.alloc());
+    rt.reader().read_to_end(&mut bytes)?;
+    hold(&bytes)
+}
+
+// The same, as far as the programs read them.
+pub fn with_first_bytes<R: Input + Alloc, F: FnOnce(&[u8]) -> io::Result<()>>(
     rt: &R,
     hold: F,
 ) -> io::Result<()>
@@ -46,7 +58,7 @@ fn hold_counted<R: Print, F: FnOnce(&[u8]) -> io::Result<u64>>(
     print_count(rt, tried(vectors)?, u32::from_le_bytes(*count).into(), what)
 }
 
-// The same of standard input
+// The same of standard input, all of it
 pub fn hold<R: Input + Print + Alloc, F: FnOnce(&[u8]) -> io::Result<u64>>(
     rt: &R,
     what: &str,
@@ -55,6 +67,17 @@ pub fn hold<R: Input + Print + Alloc, F: FnOnce(&[u8]) -> io::Result<u64>>(
     requires { F.IsAlwaysCallable tried }
 {
     with_bytes(rt, |input| hold_counted(rt, input, what, tried))
+}
+
+// The same, as far as the programs read it
+pub fn hold_first<R: Input + Print + Alloc, F: FnOnce(&[u8]) -> io::Result<u64>>(
+    rt: &R,
+    what: &str,
+    tried: F,
+) -> io::Result<()>
+    requires { F.IsAlwaysCallable tried }
+{
+    with_first_bytes(rt, |input| hold_counted(rt, input, what, tried))
 }
 
 // Where the seasons of a sheet of version 3 or 4 start, the bytes of a season and of a row, and where a row has its mileage

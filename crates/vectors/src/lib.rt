@@ -10,4 +10,6 @@ pub mod input;
 pub mod items;
 pub mod mass;
 pub mod tally;
+#[cfg(test)]
+mod tests;
 pub mod words;

@@ -8,7 +8,7 @@ ghost use Rattle.bounds.specs.Power.{power_error};
 
 use bounds::exp::ZERO;
 use std::io;
-use vectors::input::with_bytes;
+use vectors::input::with_first_bytes;
 use vectors::items::{Item, Rest, tally_of};
 use vectors::tally::{Tally, Verdict};
 
@@ -179,5 +179,5 @@ fn report(rt: &impl Print, input: &[u8]) -> io::Result<()> {
 }
 
 fn main(rt: HostRuntime) -> io::Result<()> {
-    with_bytes(&rt, |input| report(&rt, input))
+    with_first_bytes(&rt, |input| report(&rt, input))
 }

@@ -5,7 +5,7 @@
 
 use crate::reply::Reply;
 use std::{fmt, io};
-use vectors::input::{has_mileage, hold};
+use vectors::input::{has_mileage, hold_first};
 use vectors::items::{Item, Rest, tally_of};
 use vectors::tally::Tally;
 
@@ -181,5 +181,5 @@ fn print_all(rt: &impl Print, vectors: &[u8]) -> io::Result<u64> {
 }
 
 fn main(rt: HostRuntime) -> io::Result<()> {
-    hold(&rt, " calls", |vectors| print_all(&rt, vectors))
+    hold_first(&rt, " calls", |vectors| print_all(&rt, vectors))
 }

@@ -5,7 +5,7 @@
 use crate::runs::{Asked, Opened, Run};
 use std::io;
 use vectors::bytes::{LONGEST, copied};
-use vectors::input::hold;
+use vectors::input::hold_first;
 use vectors::items::tally_of;
 use vectors::tally::Tally;
 use vectors::words::{OLD, WORDS};
@@ -89,5 +89,5 @@ fn report(rt: &impl Print, ledgers: &[u8]) -> io::Result<u64> {
 }
 
 fn main(rt: HostRuntime) -> io::Result<()> {
-    hold(&rt, " calls", |ledgers| report(&rt, ledgers))
+    hold_first(&rt, " calls", |ledgers| report(&rt, ledgers))
 }

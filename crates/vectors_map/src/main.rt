@@ -11,7 +11,7 @@ use evaporation::map::{evp_add_cells, evp_cells_of_row};
 use map_shares::{Mileages, Span, Speeds, Words};
 use std::io;
 use vectors::band::Band;
-use vectors::input::{print_count, print_no_count, with_bytes};
+use vectors::input::{print_count, print_no_count, with_first_bytes};
 use vectors::items::{Item, Rest, tally_of};
 use vectors::tally::Tally;
 
@@ -307,5 +307,5 @@ fn report(rt: &impl Print, input: &[u8]) -> io::Result<()> {
 }
 
 fn main(rt: HostRuntime) -> io::Result<()> {
-    with_bytes(&rt, |input| report(&rt, input))
+    with_first_bytes(&rt, |input| report(&rt, input))
 }

@@ -4,7 +4,7 @@
 
 use marking::{Band, Filed, Unit, Verdict, mark};
 use std::{fmt, io};
-use vectors::input::hold;
+use vectors::input::hold_first;
 use vectors::items::{Item, Rest, tally_of};
 use vectors::tally::{Tally, compare};
 
@@ -159,5 +159,5 @@ fn report(rt: &impl Print, vectors: &[u8]) -> io::Result<u64> {
 }
 
 fn main(rt: HostRuntime) -> io::Result<()> {
-    hold(&rt, "", |vectors| report(&rt, vectors))
+    hold_first(&rt, "", |vectors| report(&rt, vectors))
 }

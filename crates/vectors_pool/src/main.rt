@@ -8,7 +8,7 @@ ghost use Rattle.std.specs.Prelude.{◌≤◌};
 use pooling::PoolRefusal;
 use std::io;
 use vectors::answer::{Answer, Refusal};
-use vectors::input::hold;
+use vectors::input::hold_first;
 use vectors::items::{Item, Rest, tally_of};
 use vectors::tally::Tally;
 
@@ -139,5 +139,5 @@ fn report(rt: &impl Print, pairs: &[u8]) -> io::Result<u64> {
 }
 
 fn main(rt: HostRuntime) -> io::Result<()> {
-    hold(&rt, " pairs", |pairs| report(&rt, pairs))
+    hold_first(&rt, " pairs", |pairs| report(&rt, pairs))
 }

@@ -7,7 +7,7 @@ ghost use Rattle.std.specs.Prelude.{◌≤◌};
 
 use std::io;
 use vectors::answer::Answer;
-use vectors::input::{has_mileage, hold};
+use vectors::input::{has_mileage, hold_first};
 use vectors::items::{Item, Rest, tally_of};
 use vectors::mass::{Kind, Row, band_of, verdict_of};
 use vectors::tally::Tally;
@@ -175,5 +175,5 @@ fn print_passes(rt: &impl Print, vectors: &[u8]) -> io::Result<u64> {
 
 // A sheet that is cut off is missing from the tallies; the count that the input gives shows it.
 fn main(rt: HostRuntime) -> io::Result<()> {
-    hold(&rt, " sheets", |vectors| print_passes(&rt, vectors))
+    hold_first(&rt, " sheets", |vectors| print_passes(&rt, vectors))
 }

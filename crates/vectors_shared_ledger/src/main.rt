@@ -8,7 +8,7 @@ use std::io;
 use std::ops::Add;
 use vectors::answer::Answer;
 use vectors::bytes::{LONGEST, copied};
-use vectors::input::hold;
+use vectors::input::hold_first;
 use vectors::items::{Item, Rest, tally_of};
 use vectors::tally::Tally;
 use vectors::words::{OLD, WORDS, kept};
@@ -178,5 +178,5 @@ fn report(rt: &impl Print, ledgers: &[u8]) -> io::Result<u64> {
 }
 
 fn main(rt: HostRuntime) -> io::Result<()> {
-    hold(&rt, " calls", |ledgers| report(&rt, ledgers))
+    hold_first(&rt, " calls", |ledgers| report(&rt, ledgers))
 }

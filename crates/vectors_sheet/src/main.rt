@@ -12,7 +12,7 @@ use explanation::explain;
 use std::ops::Add;
 use std::{fmt, io};
 use vectors::answer::Answer;
-use vectors::input::hold;
+use vectors::input::hold_first;
 use vectors::items::{Item, Rest, tally_of};
 use vectors::tally::{Tally, compare};
 
@@ -131,5 +131,5 @@ fn report(rt: &impl Print, vectors: &[u8]) -> io::Result<u64> {
 }
 
 fn main(rt: HostRuntime) -> io::Result<()> {
-    hold(&rt, "", |vectors| report(&rt, vectors))
+    hold_first(&rt, "", |vectors| report(&rt, vectors))
 }

@@ -57,5 +57,5 @@ fn report(rt: &impl Print, input: &[u8]) -> io::Result<()> {
 }
 
 fn main(rt: HostRuntime) -> io::Result<()> {
-    vectors::input::with_bytes(&rt, |input| report(&rt, input))
+    vectors::input::with_first_bytes(&rt, |input| report(&rt, input))
 }
