@@ -7,6 +7,8 @@ calculation, number and place. A report has a line for each row and the sums of 
 rows; the species are those of its last word.
 """
 
+import contextlib
+import signal
 import subprocess
 import tempfile
 import time
@@ -44,21 +46,35 @@ class Counts(NamedTuple):
     pairs: int
 
 
+@contextlib.contextmanager
+def without_sigpipe() -> Iterator[None]:
+    """SIGPIPE is ignored while a program is written to: one that has read all that it needs may have ended, and the
+    signal, by which a command ends whose own reader has gone (tools/command.py), would end this one without a word."""
+    before = signal.signal(signal.SIGPIPE, signal.SIG_IGN)
+    try:
+        yield
+    finally:
+        signal.signal(signal.SIGPIPE, before)
+
+
 def answered(program: Path, words: Sequence[str | Path] = (), data: bytes = b"") -> tuple[bytes, bytes, int]:
     """What a program writes to standard output and to standard error, and its exit status."""
-    run = subprocess.run([program, *words], input=data, capture_output=True, timeout=60)
+    with without_sigpipe():
+        run = subprocess.run([program, *words], input=data, capture_output=True, timeout=60)
     return run.stdout, run.stderr, run.returncode
 
 
 def in_pieces(program: Path, data: bytes) -> tuple[bytes, bytes, int]:
     """The same with the sheet on standard input in three pieces, and a pause after each."""
-    with subprocess.Popen([program], stdin=subprocess.PIPE, stdout=subprocess.PIPE, stderr=subprocess.PIPE) as run:
+    third = len(data) // 3
+    with without_sigpipe(), subprocess.Popen(
+            [program], stdin=subprocess.PIPE, stdout=subprocess.PIPE, stderr=subprocess.PIPE) as run:
         assert run.stdin is not None
-        third = len(data) // 3
-        for piece in (data[:third], data[third:2 * third], data[2 * third:]):
-            run.stdin.write(piece)
-            run.stdin.flush()
-            time.sleep(0.02)
+        with contextlib.suppress(BrokenPipeError):
+            for piece in (data[:third], data[third:2 * third], data[2 * third:]):
+                run.stdin.write(piece)
+                run.stdin.flush()
+                time.sleep(0.02)
         out, said = run.communicate(timeout=60)
     return out, said, run.returncode
 

@@ -20,7 +20,7 @@ import tempfile
 from collections.abc import Iterator, Sequence
 from pathlib import Path
 
-from tools.check.runs import ANSWERED, LINK, NEITHER, REFUSED
+from tools.check.runs import ANSWERED, LINK, NEITHER, REFUSED, answered
 from tools.command import SAMPLES, TOP
 from tools.reckoning import species
 
@@ -33,12 +33,12 @@ INDENT = "    "
 
 def printed(program: Path, data: bytes) -> bytes:
     """What a program prints for a sheet; it must say nothing else, and end with the status of that."""
-    run = subprocess.run([program], input=data, capture_output=True, timeout=60)
-    status = REFUSED if run.stdout.startswith(b"refused ") else ANSWERED
-    if run.returncode != status or run.stderr:
+    out, said, found = answered(program, data=data)
+    status = REFUSED if out.startswith(b"refused ") else ANSWERED
+    if found != status or said:
         raise ValueError("%s: status %d in place of %d (%s), %r on standard error" % (
-            program.name, run.returncode, status, LINK, run.stderr))
-    return run.stdout
+            program.name, found, status, LINK, said))
+    return out
 
 
 def named(program: Path, *words: str | Path) -> tuple[bytes, str, int]:

@@ -1,5 +1,8 @@
 """The runs of the programs: wrong programs, each a few lines of shell, are found."""
 
+import signal
+import subprocess
+import sys
 import tempfile
 import unittest
 from pathlib import Path
@@ -7,7 +10,7 @@ from unittest import mock
 
 from tools import reckoning
 from tools.check import runs
-from tools.command import SAMPLES
+from tools.command import SAMPLES, TOP
 from tools.reckoning import species
 from tools.tests.support import sample
 from tools.vectors import pools
@@ -112,6 +115,36 @@ class Programs(unittest.TestCase):
         self.assertEqual(len(list(runs.pair_faults([pair], self.folder))), 1)
         self.put("pool", runs.pair_answer(first, second)[0], usage.replace("exit 2", "exit") + 'cat "$0.text"')
         self.assertEqual(len(list(runs.pair_faults([pair], self.folder))), 5)
+
+
+# a command that runs a program which reads nothing, and writes to it more than a pipe holds
+CALLING = """\
+import argparse, sys
+from pathlib import Path
+from tools import command
+from tools.check import runs, samples
+parser = argparse.ArgumentParser()
+parser.set_defaults(run=lambda _: print(%s(Path("true"), data=bytes(10 ** 6))))
+sys.exit(command.run(parser, []))
+"""
+
+
+class Pipes(unittest.TestCase):
+    """A program that ends while it is written to has its answer, and the command goes on."""
+
+    def test_a_program_that_reads_nothing(self):
+        for name, text in (("runs.answered", "(b'', b'', 0)\n"), ("runs.in_pieces", "(b'', b'', 0)\n"),
+                           ("samples.printed", "b''\n")):
+            with self.subTest(function=name):
+                run = subprocess.run(
+                    [sys.executable, "-c", CALLING % name], cwd=TOP, capture_output=True, text=True, timeout=60)
+                self.assertEqual((run.stdout, run.stderr, run.returncode), (text, "", 0))
+
+    def test_a_command_ends_with_its_reader_all_the_same(self):
+        before = signal.signal(signal.SIGPIPE, signal.SIG_DFL)
+        self.addCleanup(signal.signal, signal.SIGPIPE, before)
+        runs.answered(Path("true"))
+        self.assertEqual(signal.getsignal(signal.SIGPIPE), signal.SIG_DFL)
 
 
 class Sheets(unittest.TestCase):
